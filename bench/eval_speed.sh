@@ -16,7 +16,7 @@ use method_eval::{Names, Ran, View, eval};
 use method_parse::{parse_block, parse_setup};
 use object_codec::put_obj;
 use page_format::Page;
-use paused_defs::{ClassMethods, SharedBlock, class_methods};
+use lang_small_steps::{ClassMethods, SharedBlock, class_methods};
 use paused_eval::{Copies, GrantedNames, Paused};
 use script_text::scan;
 use std::alloc::Global;

@@ -11,9 +11,9 @@ cat > "$work/crates/repo_speed/src/main.rt" <<'RT'
 #![tactic(auto)]
 
 use class_defs::{Roots, Schema, Setup};
-use commit_log::{Kind, Request};
+use log_entries::{Kind, Request};
 use disk_trait::{MemParts, Parts, TickClock};
-use message_outbox::Message;
+use session_outbox::Message;
 use repo_core::Repo;
 use std::alloc::Global;
 use std::env;

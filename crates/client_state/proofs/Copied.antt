@@ -1,8 +1,8 @@
 -- What a request writes, and whether the client has copies of it.
 use Rattle.client_cache.specs.Copies.{Contents, kept}
 use Rattle.client_state.specs.Writing.{HoldsWritten, is_held_or_created}
-use Rattle.commit_log.specs.declared.request.Request.{Request}
-use Rattle.local_history.specs.Requests.{has_created, has_written}
+use Rattle.log_entries.specs.declared.request.Request.{Request}
+use Rattle.spec_history.specs.Requests.{has_created, has_written}
 use Rattle.std.proofs.Common.{Bool, Equal, Greater, Less, List, Ordering, [], ap, cond, false, is_eq, refl, subst, sym, true, ◌∙◌, ◌∷◌, ◌≡◌}
 use Rattle.std.proofs.lemmas.Bool.{and_parts}
 use Rattle.std.proofs.lemmas.Cmp.{eq_by_cmp_equiv}

@@ -7,14 +7,14 @@ use Rattle.client_state.specs.declared.calls.Drew.{Drew}
 use Rattle.client_state.specs.declared.held.Held.{Held}
 use Rattle.client_state.specs.declared.link.Link.TheVariants.{Apart, Joined, Unsettled}
 use Rattle.client_state.specs.declared.link.Link.{Link}
-use Rattle.message_outbox.specs.declared.answers.Asked as answer
-use Rattle.message_outbox.specs.declared.answers.Asked.TheVariants as answers
-use Rattle.message_outbox.specs.declared.answers.At.{At}
-use Rattle.message_outbox.specs.declared.answers.Verdict.{Verdict}
+use Rattle.session_outbox.specs.declared.answers.Asked as answer
+use Rattle.session_outbox.specs.declared.answers.Asked.TheVariants as answers
+use Rattle.session_outbox.specs.declared.answers.At.{At}
+use Rattle.session_outbox.specs.declared.answers.Verdict.{Verdict}
 use Rattle.paused_eval.specs.Copies.{AreAmong}
-use Rattle.port.specs.Views.{View}
-use Rattle.port.specs.Works.{AskWork, ConnectWork, Does, FetchWork}
-use Rattle.refusal_reasons.specs.declared.reason.Reason.TheVariants as reasons
+use Rattle.client_port.specs.Views.{View}
+use Rattle.client_port.specs.Works.{AskWork, ConnectWork, Does, FetchWork}
+use Rattle.base_reasons.specs.declared.reason.Reason.TheVariants as reasons
 use Rattle.std.proofs.Common.{Bool, List, ap, cond, inl, inr, refl, subst, sym, true, ◌≡◌, ◌∙◌, ℕ}
 use Rattle.std.proofs.lemmas.Option.{same_Some}
 use Rattle.std.specs.Prelude.{Err, None, Ok, Option, Result, Some, nat_eq, slice_get, ◌&&◌, ◌⊎◌}
@@ -22,8 +22,8 @@ use Rattle.thor_value.specs.declared.memory.NoMemory.{NoMemory}
 use Rattle.thor_value.specs.declared.names.Oref.{Oref}
 use Rattle.thor_value.specs.declared.names.Ts.{Ts}
 use Rattle.thor_value.specs.declared.values.Obj.{Obj}
-use Rattle.validation_window.specs.declared.refusal.Refusal.TheVariants as refused
-use Rattle.validation_window.specs.declared.refusal.Refusal.{Refusal}
+use Rattle.repo_refusals.specs.declared.refusal.Refusal.TheVariants as refused
+use Rattle.repo_refusals.specs.declared.refusal.Refusal.{Refusal}
 
 -- ---- copies
 

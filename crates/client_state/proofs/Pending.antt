@@ -16,11 +16,11 @@ use Rattle.client_state.specs.declared.link.Waits.{Waits}
 use Rattle.client_state.specs.declared.phase.Phase.TheVariants as phase
 use Rattle.client_state.specs.declared.phase.Phase.{Phase}
 use Rattle.client_state.specs.declared.transaction.Sent.{Sent}
-use Rattle.message_outbox.specs.declared.answers.At.{At}
-use Rattle.message_outbox.specs.declared.message.Message.TheVariants.{Grant, Invalid, Page, Upgrade}
-use Rattle.message_outbox.specs.declared.message.Message.{Message}
+use Rattle.session_outbox.specs.declared.answers.At.{At}
+use Rattle.session_outbox.specs.declared.message.Message.TheVariants.{Grant, Invalid, Page, Upgrade}
+use Rattle.session_outbox.specs.declared.message.Message.{Message}
 use Rattle.paused_eval.specs.Copies.{AreAmong, last_of}
-use Rattle.port.specs.Views.{View}
+use Rattle.client_port.specs.Views.{View}
 use Rattle.std.proofs.Common.{Bool, List, ap, cond, false, inl, inr, nat_eq, refl, subst, sym, true, ◌≡◌, ◌≢◌, ◌∙◌, ℕ}
 use Rattle.std.proofs.lemmas.Bool.{cases_eq, eqb-false, eqb-true}
 use Rattle.std.proofs.lemmas.Option.{same_Some}

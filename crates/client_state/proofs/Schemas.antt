@@ -6,9 +6,9 @@ use Rattle.class_defs.specs.Epochs.{schema_at}
 use Rattle.class_defs.specs.declared.store.Schema.{Schema}
 use Rattle.class_defs.specs.declared.store.Schemas.{Schemas}
 use Rattle.class_defs.specs.declared.store.UpgradedSchema.{UpgradedSchema}
-use Rattle.paused_defs.specs.Methods.{AreMethodsOf, class_methods, methods_at}
-use Rattle.paused_defs.specs.Typed.{TypedMethod}
-use Rattle.paused_defs.specs.declared.methods.EpochMethods.{EpochMethods}
+use Rattle.lang_small_steps.specs.Methods.{AreMethodsOf, class_methods, methods_at}
+use Rattle.lang_small_steps.specs.Typed.{TypedMethod}
+use Rattle.lang_small_steps.specs.declared.methods.EpochMethods.{EpochMethods}
 
 same_methods : (a b : List (List TypedMethod)) → Some a ≡ Some b → a ≡ b
 same_methods a b is = cc

@@ -4,7 +4,7 @@ use Rattle.client_state.specs.Calling.{is_session_of}
 use Rattle.client_state.specs.Links.{session_at, session_in}
 use Rattle.client_state.specs.declared.link.Link.TheVariants.{Apart, Joined, Unsettled}
 use Rattle.client_state.specs.declared.link.Link.{Link}
-use Rattle.message_outbox.specs.declared.answers.At.{At}
+use Rattle.session_outbox.specs.declared.answers.At.{At}
 use Rattle.std.proofs.Common.{List, ap, false, nat_eq, refl, sym, ◌≡◌, ◌∙◌, ℕ}
 use Rattle.std.proofs.lemmas.Option.{same_Some}
 use Rattle.std.specs.Prelude.{IfSome, None, Option, Some, slice_get}

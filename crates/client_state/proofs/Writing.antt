@@ -15,7 +15,7 @@ use Rattle.client_state.specs.declared.phase.Phase.{Phase}
 use Rattle.client_state.specs.declared.requests.Sending.{Sending}
 use Rattle.client_state.specs.declared.transaction.Share.{Share}
 use Rattle.client_state.specs.declared.transaction.Transaction.{Transaction}
-use Rattle.item_progress.specs.declared.news.Learnt.{Learnt}
+use Rattle.client_items.specs.declared.news.Learnt.{Learnt}
 use Rattle.paused_eval.specs.Copies.{AreAmong, last_of}
 use Rattle.paused_eval.specs.Writing.{WrittenBy}
 use Rattle.std.proofs.Common.{Bool, List, [], ap, cond, false, inl, inr, nat_eq, refl, subst, suc, sym, true, zero, ℕ, ℤ, ◌∷◌, ◌≡◌, ◌∙◌}

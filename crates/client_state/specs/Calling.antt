@@ -7,17 +7,17 @@ use Rattle.client_state.specs.declared.calls.Drew.{Drew}
 use Rattle.client_state.specs.declared.link.Link.{Link}
 use Rattle.client_state.specs.declared.link.Link.TheVariants.{Joined}
 use Rattle.client_state.specs.declared.link.Waits.TheVariants.{Idle, Reply}
-use Rattle.message_outbox.specs.declared.answers.At.{At}
-use Rattle.message_outbox.specs.declared.answers.Welcome.{Welcome}
-use Rattle.port.specs.Views.{View}
-use Rattle.port.specs.Works.{ConnectWork, Does, DrawWork, FetchWork, GrantWork}
-use Rattle.refusal_reasons.specs.declared.reason.Reason.TheVariants as reasons
+use Rattle.session_outbox.specs.declared.answers.At.{At}
+use Rattle.session_outbox.specs.declared.answers.Welcome.{Welcome}
+use Rattle.client_port.specs.Views.{View}
+use Rattle.client_port.specs.Works.{ConnectWork, Does, DrawWork, FetchWork, GrantWork}
+use Rattle.base_reasons.specs.declared.reason.Reason.TheVariants as reasons
 use Rattle.std.specs.Prelude.{Bool, Err, IfOk, List, None, Ok, Option, Result, Some, cond, false, nat_eq, slice_get, true, ℕ, ◌&&◌, ◌≡◌, ◌≤◌}
 use Rattle.thor_value.specs.declared.names.Oref.{Oref}
 use Rattle.thor_value.specs.declared.names.Ts.{Ts}
 use Rattle.thor_value.specs.declared.memory.NoMemory.{NoMemory}
-use Rattle.validation_window.specs.declared.refusal.Refusal.TheVariants as refused
-use Rattle.validation_window.specs.declared.refusal.Refusal.{Refusal}
+use Rattle.repo_refusals.specs.declared.refusal.Refusal.TheVariants as refused
+use Rattle.repo_refusals.specs.declared.refusal.Refusal.{Refusal}
 
 -- ---- links and copies
 

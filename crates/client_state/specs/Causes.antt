@@ -2,8 +2,8 @@
 use Rattle.serial_model.specs.declared.outcomes.Cause.TheVariants as cause
 use Rattle.serial_model.specs.declared.outcomes.Cause.{Cause}
 use Rattle.std.specs.Prelude.{None, Option, Some, ℕ}
-use Rattle.validation_window.specs.declared.refusal.Refusal.TheVariants as refused
-use Rattle.validation_window.specs.declared.refusal.Refusal.{Refusal}
+use Rattle.repo_refusals.specs.declared.refusal.Refusal.TheVariants as refused
+use Rattle.repo_refusals.specs.declared.refusal.Refusal.{Refusal}
 
 -- The cause of a try that a repository refused: its reason, with the same names and places. A repository that stopped in
 -- the call, or whose disks are damaged, was down. Want of memory is no cause.

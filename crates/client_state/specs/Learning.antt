@@ -5,9 +5,9 @@ use Rattle.client_state.specs.declared.link.Link.{Link}
 use Rattle.client_state.specs.declared.link.Link.TheVariants.{Apart, Joined, Unsettled}
 use Rattle.client_state.specs.declared.link.Waits.TheVariants as waits
 use Rattle.std.specs.Prelude.{Bool, List, cond, false, max, nat_eq, ℕ, ◌≡◌, ◌≤◌}
-use Rattle.refusal_reasons.specs.declared.reason.Reason.TheVariants as reasons
-use Rattle.validation_window.specs.declared.refusal.Refusal.TheVariants as refused
-use Rattle.validation_window.specs.declared.refusal.Refusal.{Refusal}
+use Rattle.base_reasons.specs.declared.reason.Reason.TheVariants as reasons
+use Rattle.repo_refusals.specs.declared.refusal.Refusal.TheVariants as refused
+use Rattle.repo_refusals.specs.declared.refusal.Refusal.{Refusal}
 
 -- whether a link is a session of this number
 abbrev pub is_session : ℕ → Link → Bool

@@ -3,7 +3,7 @@ use Rattle.client_state.specs.declared.link.Link.{Link}
 use Rattle.client_state.specs.declared.link.Link.TheVariants.{Apart, Joined, Unsettled}
 use Rattle.client_state.specs.declared.link.Waits.{Waits}
 use Rattle.client_state.specs.declared.link.Waits.TheVariants.{Epoch, Idle, Past, Reply}
-use Rattle.message_outbox.specs.declared.answers.At.{At}
+use Rattle.session_outbox.specs.declared.answers.At.{At}
 use Rattle.std.specs.Prelude.{Bool, List, None, Option, Some, false, nat_le, nat_lt, slice_get, slice_set, true, ℕ, ◌<◌, ◌≡◌, ◌≤◌}
 
 -- how far the messages of a repository were taken; 0 without a session

@@ -5,13 +5,13 @@ use Rattle.client_state.specs.declared.held.Held.{Held}
 use Rattle.client_state.specs.declared.phase.Phase.TheVariants as phase
 use Rattle.client_state.specs.declared.phase.Phase.{Phase}
 use Rattle.client_state.specs.declared.requests.Sending.{Sending}
-use Rattle.message_outbox.specs.declared.answers.At.{At}
-use Rattle.port.specs.Views.{View}
+use Rattle.session_outbox.specs.declared.answers.At.{At}
+use Rattle.client_port.specs.Views.{View}
 use Rattle.std.specs.Prelude.{Bool, None, false, true, ℕ, ◌≡◌, ◌⊎◌}
 use Rattle.thor_value.specs.declared.names.Oref.{Oref}
 use Rattle.thor_value.specs.declared.names.Ts.{Ts}
-use Rattle.validation_window.specs.declared.refusal.Refusal.TheVariants as refused
-use Rattle.validation_window.specs.declared.refusal.Refusal.{Refusal}
+use Rattle.repo_refusals.specs.declared.refusal.Refusal.TheVariants as refused
+use Rattle.repo_refusals.specs.declared.refusal.Refusal.{Refusal}
 
 -- What of the try's transaction is undecided, as far as the client knows.
 pub data Pending : Type 0 where

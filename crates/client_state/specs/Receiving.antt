@@ -4,17 +4,17 @@ use Rattle.client_state.specs.Moving.{CopiesTaken, Loses, StopsWaiting}
 use Rattle.client_state.specs.Writing.{WritesNone, has_sent_to}
 use Rattle.client_state.specs.declared.held.Held.{Held}
 use Rattle.client_state.specs.declared.phase.Phase.{Phase}
-use Rattle.message_outbox.specs.declared.answers.At.{At}
-use Rattle.message_outbox.specs.declared.message.Message.TheVariants as messages
-use Rattle.message_outbox.specs.declared.message.Message.{Message}
+use Rattle.session_outbox.specs.declared.answers.At.{At}
+use Rattle.session_outbox.specs.declared.message.Message.TheVariants as messages
+use Rattle.session_outbox.specs.declared.message.Message.{Message}
 use Rattle.paused_eval.specs.Copies.{AreAmong}
-use Rattle.port.specs.Acting.{IsTaken, Refuses}
-use Rattle.port.specs.Views.{View}
-use Rattle.port.specs.Works.{Does, ReceiveWork}
-use Rattle.refusal_reasons.specs.declared.reason.Reason.TheVariants as reasons
+use Rattle.client_port.specs.Acting.{IsTaken, Refuses}
+use Rattle.client_port.specs.Views.{View}
+use Rattle.client_port.specs.Works.{Does, ReceiveWork}
+use Rattle.base_reasons.specs.declared.reason.Reason.TheVariants as reasons
 use Rattle.std.specs.Prelude.{Bool, None, Ok, Option, true, ℕ, ◌≡◌, ◌≢◌}
-use Rattle.validation_window.specs.declared.refusal.Refusal.TheVariants as refused
-use Rattle.validation_window.specs.declared.refusal.Refusal.{Refusal}
+use Rattle.repo_refusals.specs.declared.refusal.Refusal.TheVariants as refused
+use Rattle.repo_refusals.specs.declared.refusal.Refusal.{Refusal}
 
 -- the refusal tells of no session that is gone
 abbrev pub IsNotGone : Refusal → Type 0

@@ -4,19 +4,19 @@ use Rattle.client_state.specs.declared.calls.Came.TheVariants as came
 use Rattle.client_state.specs.declared.calls.Came.{Came}
 use Rattle.client_state.specs.declared.calls.Drew.TheVariants as drew
 use Rattle.client_state.specs.declared.calls.Drew.{Drew}
-use Rattle.item_progress.specs.Courses.{IsDownAt, is_committed}
-use Rattle.item_progress.specs.declared.news.Settled.{Settled}
-use Rattle.message_outbox.specs.declared.answers.Asked as answer
-use Rattle.message_outbox.specs.declared.answers.Asked.TheVariants as answers
-use Rattle.message_outbox.specs.declared.answers.Verdict.{Verdict}
-use Rattle.port.specs.Acting.{Refuses}
-use Rattle.port.specs.Views.{View}
-use Rattle.port.specs.Works.{AskWork, DecideWork, Does}
+use Rattle.client_items.specs.Courses.{IsDownAt, is_committed}
+use Rattle.client_items.specs.declared.news.Settled.{Settled}
+use Rattle.session_outbox.specs.declared.answers.Asked as answer
+use Rattle.session_outbox.specs.declared.answers.Asked.TheVariants as answers
+use Rattle.session_outbox.specs.declared.answers.Verdict.{Verdict}
+use Rattle.client_port.specs.Acting.{Refuses}
+use Rattle.client_port.specs.Views.{View}
+use Rattle.client_port.specs.Works.{AskWork, DecideWork, Does}
 use Rattle.serial_model.specs.declared.outcomes.Cause.{Cause}
 use Rattle.std.specs.Prelude.{Bool, IfOk, Ok, Option, Result, Some, true, ℕ, ◌≡◌}
 use Rattle.thor_value.specs.declared.memory.NoMemory.{NoMemory}
 use Rattle.thor_value.specs.declared.names.Ts.{Ts}
-use Rattle.validation_window.specs.declared.refusal.Refusal.{Refusal}
+use Rattle.repo_refusals.specs.declared.refusal.Refusal.{Refusal}
 
 -- a repository has refused the call for this
 pub record RefusedFor (old new : View) (cause : Cause) : Type 0 where

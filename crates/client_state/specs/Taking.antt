@@ -5,13 +5,13 @@ use Rattle.client_cache.specs.Placing.{IsObjectPage, IsPageOf}
 use Rattle.client_cache.specs.Copies.{Contents}
 use Rattle.client_state.specs.Links.{acknowledged, answered, at_repo}
 use Rattle.client_state.specs.declared.link.Link.{Link}
-use Rattle.message_outbox.specs.declared.message.Message.TheVariants.{Grant, Invalid, Page, Upgrade}
-use Rattle.message_outbox.specs.declared.message.Message.{Message}
+use Rattle.session_outbox.specs.declared.message.Message.TheVariants.{Grant, Invalid, Page, Upgrade}
+use Rattle.session_outbox.specs.declared.message.Message.{Message}
 use Rattle.std.specs.List.{list_any}
 use Rattle.std.specs.Prelude.{List, None, Option, Result, Err, Ok, Some, cond, min, ℕ, ◌+◌, ◌-◌, ◌^◌, ◌≡◌}
 use Rattle.thor_value.specs.declared.names.Oref.{Oref}
 use Rattle.thor_value.specs.declared.values.Obj.{Obj}
-use Rattle.validation_window.specs.declared.refusal.Refusal.{Refusal}
+use Rattle.repo_refusals.specs.declared.refusal.Refusal.{Refusal}
 
 -- the place behind the entry at a place
 abbrev pub behind : ℕ → ℕ

@@ -8,8 +8,8 @@ use Rattle.client_state.specs.declared.calls.Drew.{Drew}
 use Rattle.client_state.specs.declared.phase.Phase.TheVariants.{Asking, Beginning, Between, Drawn, Evaluated, Evaluating, Preparing, Transforming}
 use Rattle.client_state.specs.declared.phase.Phase.{Phase}
 use Rattle.client_state.specs.declared.transaction.Share.{Share}
-use Rattle.commit_log.specs.declared.request.Request.{Request}
-use Rattle.local_history.specs.Requests.{has_created, has_written}
+use Rattle.log_entries.specs.declared.request.Request.{Request}
+use Rattle.spec_history.specs.Requests.{has_created, has_written}
 use Rattle.paused_eval.specs.Copies.{last_of}
 use Rattle.std.specs.List.{list_any}
 use Rattle.std.specs.Prelude.{Bool, List, None, Option, Some, [], cond, false, is_some, nat_eq, slice_get, slice_set, true, ℕ, ◌++◌, ◌<◌, ◌∷◌, ◌≡◌, ◌||◌}

@@ -10,21 +10,21 @@ ghost use Rattle.client_state.specs.Showing.{CameIf, CameShown, DrewIf};
 ghost use Rattle.client_state.specs.Writing.{CameStays, DrewStays};
 ghost use Rattle.client_state.specs.declared.link.Link.TheVariants.{Joined};
 ghost use Rattle.client_state.specs.declared.link.Waits.TheVariants.{Idle};
-ghost use Rattle.message_outbox.specs.declared.answers.At.{At};
-ghost use Rattle.port.specs.Acting.{Refuses};
-ghost use Rattle.port.specs.Views.{View};
+ghost use Rattle.session_outbox.specs.declared.answers.At.{At};
+ghost use Rattle.client_port.specs.Acting.{Refuses};
+ghost use Rattle.client_port.specs.Views.{View};
 ghost use Rattle.std.specs.Prelude.{IfOk, IsTrue, OnErr, Some, not, slice_get, ◌≡◌};
 
 use crate::causes::cause_of;
 use crate::held::Held;
 use crate::link::{Link, Waits};
-use item_progress::{Learnt, Opened};
-use message_outbox::{At, Welcome};
-use port::Port;
-use refusal_reasons::Reason;
+use base_reasons::Reason;
+use client_items::{Learnt, Opened};
+use client_port::Port;
+use repo_refusals::Refusal;
 use serial_model::Cause;
+use session_outbox::{At, Welcome};
 use thor_value::{NoMemory, Ts};
-use validation_window::Refusal;
 
 /// What a call of a try has come to.
 #[derive(Drop)]

@@ -3,9 +3,9 @@
 ghost use Rattle.client_state.specs.Causes.{cause_behind};
 ghost use Rattle.std.specs.Prelude.{◌≡◌, None, OnErr, IfOk, Some};
 
+use repo_refusals::Refusal;
 use serial_model::Cause;
 use thor_value::NoMemory;
-use validation_window::Refusal;
 
 /// Why a try ends that a repository refused.
 pub fn cause_of(refusal: Refusal, repo: u8) -> Result<Cause, NoMemory>

@@ -3,7 +3,7 @@
 ghost use Rattle.client_state.specs.Owing.{calls_of, calls_of_all, count_of};
 ghost use Rattle.std.specs.Prelude.{IsTrue, MatchOption, None, OnOk, Some, [], length, not, ◌≡◌, ◌<◌, ◌≤◌, ◌+◌};
 
-use message_outbox::{At, Verdict};
+use session_outbox::{At, Verdict};
 use std::alloc::Global;
 use std::mem;
 use thor_value::{NoMemory, Repos, Sequence, Ts};

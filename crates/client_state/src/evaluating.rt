@@ -4,7 +4,7 @@ ghost use Rattle.client_state.specs.Learning.{KeepsBounds};
 ghost use Rattle.client_state.specs.Moving.{HoldsSame};
 ghost use Rattle.client_cache.specs.Copies.{changed};
 ghost use Rattle.client_state.specs.Writing.{WritesShares, shares_write};
-ghost use Rattle.paused_defs.specs.Methods.{class_methods};
+ghost use Rattle.lang_small_steps.specs.Methods.{class_methods};
 ghost use Rattle.paused_eval.specs.Copies.{last_of};
 ghost use Rattle.paused_eval.specs.Writing.{HasWritten, WrittenBy};
 ghost use Rattle.std.specs.Prelude.{IfOk, List, OnOk, ◌≡◌};
@@ -15,13 +15,13 @@ use crate::held::Held;
 use crate::transaction::Transaction;
 use crate::transform::Transform;
 use class_defs::Schema;
-use item_progress::Opened;
+use client_items::Opened;
+use lang_small_steps::{ClassMethods, SharedBlock};
+use lang_upgrade_eval::schema_at;
 use lazy_transform::{Wanted, wants};
 use method_eval::Ran;
-use paused_defs::{ClassMethods, SharedBlock};
 use paused_eval::Paused;
 use thor_value::{Answer, NoMemory, Oref, Orefs, Writes};
-use upgrade_eval::schema_at;
 
 /// The schema of an epoch, with its methods; the first one where the store has none for it.
 #[tactic(auto, using(crate::proofs::Schemas::are_its_methods))]

@@ -14,14 +14,14 @@ ghost use Rattle.client_cache.specs.Pages.{same_name};
 ghost use Rattle.paused_eval.specs.Copies.{AreAmong};
 ghost use Rattle.std.specs.Option.{option_map};
 ghost use Rattle.std.specs.Prelude.{false, ◌≡◌, ◌<◌, ◌≤◌, IfSome, IsTrue, None, OnOk, Some, cond, max, nat_eq, not, slice_get, ℕ};
-ghost use Rattle.message_outbox.specs.declared.answers.At.{At};
+ghost use Rattle.session_outbox.specs.declared.answers.At.{At};
 ghost use Rattle.thor_value.specs.declared.names.Oref.{Oref};
 
 use crate::link::{Link, Waits};
 use client_cache::Looked;
-use item_progress::Opened;
-use message_outbox::At;
+use client_items::Opened;
 use paused_eval::{Copies, GrantedNames};
+use session_outbox::At;
 use std::alloc::Global;
 use std::mem;
 use thor_value::{NoMemory, Obj, Oref, REPOSITORIES, Repos, SLOTS, Text, TryCopy, Ts};

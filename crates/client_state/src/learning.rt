@@ -6,8 +6,8 @@ ghost use Rattle.std.specs.Prelude.{◌≡◌};
 
 use crate::held::Held;
 use crate::link::Waits;
-use refusal_reasons::Reason;
-use validation_window::Refusal;
+use base_reasons::Reason;
+use repo_refusals::Refusal;
 
 impl Held {
     /// What a client learns for its sessions and its floor from the refusal of a request.

@@ -6,7 +6,7 @@ ghost use Rattle.client_state.specs.declared.link.Link.TheVariants.{Apart};
 ghost use Rattle.std.specs.Prelude.{None, ℕ, ◌≡◌};
 
 use crate::transaction::Sent;
-use message_outbox::At;
+use session_outbox::At;
 use std::mem;
 use thor_value::Ts;
 

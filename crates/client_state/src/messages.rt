@@ -5,15 +5,15 @@ ghost use Rattle.client_state.specs.Learning.{KeepsBounds};
 ghost use Rattle.client_state.specs.Links.{at_repo};
 ghost use Rattle.client_state.specs.Taking.{Without, WrittenWithout, behind, links_behind, took};
 ghost use Rattle.client_state.specs.Writing.{WritesStay};
-ghost use Rattle.port.specs.Works.{Does, ReceiveWork};
+ghost use Rattle.client_port.specs.Works.{Does, ReceiveWork};
 ghost use Rattle.std.specs.Prelude.{true, ◌≡◌};
 
 use crate::held::Held;
 use crate::link::Link;
-use message_outbox::{At, Message};
-use port::Port;
+use client_port::Port;
+use repo_refusals::Refusal;
+use session_outbox::{At, Message};
 use thor_value::Orefs;
-use validation_window::Refusal;
 
 /// The place behind the entry at a place.
 fn behind(place: u64) -> u64

@@ -12,8 +12,8 @@ use crate::duties::Abort;
 use crate::link::Link;
 use crate::transaction::{Sent, Transaction};
 use crate::transform::{Becomes, Stage, Transform};
-use message_outbox::At;
 use paused_eval::Paused;
+use session_outbox::At;
 use thor_value::{NoMemory, Oref, Orefs, Repos, Ts};
 
 /// How far the try of the present item has come.

@@ -4,15 +4,15 @@ ghost use Rattle.client_state.specs.Calling.{upto_in};
 ghost use Rattle.client_state.specs.Sending.{IsOfSession, IsOfShare, SendsFirst, upto_behind};
 ghost use Rattle.client_cache.specs.Copies.{Contents};
 ghost use Rattle.client_state.specs.Writing.{HoldsWritten, WritesShares, WritesThere, is_held_or_created};
-ghost use Rattle.local_history.specs.Requests.{has_created};
+ghost use Rattle.spec_history.specs.Requests.{has_created};
 ghost use Rattle.std.specs.List.{list_all};
 ghost use Rattle.std.specs.Prelude.{IfOk, IfSome, IsTrue, [], slice_get, ◌∷◌, ◌↔◌, ◌≡◌};
 
 use crate::held::Held;
 use crate::transaction::{Share, Transaction};
 use crate::transform::{Becomes, transform_request};
-use commit_log::Request;
-use message_outbox::At;
+use log_entries::Request;
+use session_outbox::At;
 use thor_value::{NoMemory, Obj, Oref, TryCopy, Ts, Who};
 
 /// What a participant is sent.

@@ -10,8 +10,8 @@ ghost use Rattle.thor_value.specs.Names.{oref_cmp};
 ghost use Rattle.thor_value.specs.declared.names.Oref.{Oref};
 
 use crate::link::Link;
-use item_progress::Meaning;
-use message_outbox::At;
+use client_items::Meaning;
+use session_outbox::At;
 use thor_value::{Answer, NoMemory, Obj, Oref, OrefMap, Orefs, Repos, Sequence, Text, Ts, Writes};
 
 /// What one participant is sent of a transaction.

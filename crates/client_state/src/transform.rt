@@ -3,10 +3,10 @@
 ghost use Rattle.std.specs.Prelude.{IfOk, [], ◌∷◌, ◌≡◌};
 
 use class_defs::Schemas;
-use commit_log::{Kind, Request};
 use lazy_transform::bring;
-use message_outbox::At;
+use log_entries::{Kind, Request};
 use method_eval::{Names, View};
+use session_outbox::At;
 use std::alloc::Global;
 use std::mem;
 use thor_value::{Answer, NoMemory, Obj, Oref, OrefMap, Orefs, Sequence, TryCopy, Ts, Who};

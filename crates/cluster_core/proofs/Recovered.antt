@@ -1,10 +1,10 @@
 -- The log of a repository that was recovered says what is in memory.
 use Rattle.disk_trait.specs.Disks.{Disks}
-use Rattle.held_state.specs.Said.{said}
-use Rattle.log_bytes.specs.declared.state.State.{State}
+use Rattle.repo_state.specs.Said.{said}
+use Rattle.log_codec.specs.declared.state.State.{State}
 use Rattle.recovery.specs.declared.recovered.Recovered.{Recovered}
-use Rattle.repository_reading.specs.Recovered.{IsRecovered}
-use Rattle.state_log.specs.Holds.{Holds}
+use Rattle.repo_opening.specs.Recovered.{IsRecovered}
+use Rattle.commit_log.specs.Holds.{Holds}
 use Rattle.std.proofs.Common.{subst}
 
 pub recovered_says : (disks : Disks) (r : Recovered) → IsRecovered disks r → Holds disks r.log (said r.state)

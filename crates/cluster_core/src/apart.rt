@@ -12,9 +12,9 @@ use disk_trait::Parts;
 use front_end::{FrontEnd, Opened};
 use mob_flusher::Flushed;
 use repo_core::Repo;
+use repo_refusals::Refusal;
 use std::alloc::Global;
 use thor_value::NoMemory;
-use validation_window::Refusal;
 
 impl<P: Parts> Cluster<P> {
     /// Takes out the repositories, in their order, and the clients 1, 2, ..

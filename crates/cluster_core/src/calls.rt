@@ -2,11 +2,11 @@
 //! repository asks of a request is tested before the call.
 
 use crate::seat::Seat;
-use commit_log::Request;
 use disk_trait::Parts;
-use message_outbox::{Asked, At, Message, Verdict, Welcome};
+use log_entries::Request;
+use repo_refusals::Refusal;
+use session_outbox::{Asked, At, Message, Verdict, Welcome};
 use thor_value::Ts;
-use validation_window::Refusal;
 
 impl<P: Parts> Seat<P> {
     /// Begins a session of the client.

@@ -5,9 +5,9 @@ ghost use Rattle.std.specs.Prelude.{vec_capacity, vec_len, ◌≡◌, ◌≤◌}
 use crate::seat::{Seat, give_back};
 use disk_trait::Parts;
 use front_end::{FrontEnd, Opened};
-use repository_reading::Unopened;
+use repo_opening::Unopened;
 use std::alloc::Global;
-use store_reading::ClusterFault;
+use store_opening::ClusterFault;
 
 /// Repositories and their clients, which take turns.
 #[derive(Drop)]

@@ -8,9 +8,9 @@ use crate::lent::Turn;
 use crate::seat::Seat;
 use crate::settling::{least, settle};
 use disk_trait::Parts;
+use repo_refusals::Refusal;
 use schedule::{Event, EventKind};
 use thor_value::NoMemory;
-use validation_window::Refusal;
 
 /// A refusal of an event is no concern of the schedule, but for want of memory.
 pub(crate) fn unless_memory<T: Drop>(answer: Result<T, Refusal>) -> Result<(), NoMemory> {

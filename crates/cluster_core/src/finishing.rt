@@ -8,11 +8,11 @@ use crate::history::history_of;
 use crate::seat::Seat;
 use disk_trait::Parts;
 use front_end::FrontEnd;
-use history_check::Lines;
 use repo_core::{Entries, Marks, Trace, Traces};
 use serial_model::Ends;
 use std::alloc::Global;
 use thor_value::{NoMemory, both};
+use top_history_check::Lines;
 
 /// What a run was.
 #[derive(Drop)]

@@ -1,12 +1,12 @@
 //! The serial history of a run, from the traces of its repositories.
 
-use commit_log::{Entry, Kind, Request};
-use history_check::{Line, Lines};
+use log_entries::{Entry, Kind, Request};
 use repo_core::Trace;
-use repository_reading::number_at;
+use repo_opening::number_at;
 use std::alloc::Global;
 use std::collections::BTreeMap;
 use thor_value::{NoMemory, TryCopy, Ts, both};
+use top_history_check::{Line, Lines};
 
 /// The committed items of a run, transforms aside, by rising timestamp.
 ///

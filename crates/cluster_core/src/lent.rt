@@ -7,14 +7,14 @@ ghost use Rattle.std.specs.Prelude.{vec_len, ◌≡◌, ◌<◌, ℕ, Ok};
 
 use crate::lent_calls;
 use crate::seat::Seat;
-use commit_log::Request;
+use client_port::Port;
 use disk_trait::Parts;
 use front_end::{FrontEnd, Opened, Step};
-use message_outbox::{Asked, At, Message, Verdict, Welcome};
-use port::Port;
+use log_entries::Request;
+use repo_refusals::Refusal;
+use session_outbox::{Asked, At, Message, Verdict, Welcome};
 use std::marker::{Brand, Model, PhantomData};
 use thor_value::{NoMemory, Ts};
-use validation_window::Refusal;
 
 /// A number of repositories, which no code holds.
 pub(crate) trait Count {
@@ -44,7 +44,7 @@ impl<P: Parts, N: Count> Model for Repos<P, N> {
 }
 
 impl<P: Parts, N: Count> Port for Repos<P, N> {
-    ghost use Rattle.port.specs.Views.{nothing_shown};
+    ghost use Rattle.client_port.specs.Views.{nothing_shown};
     ghost use Rattle.std.specs.Prelude.{false};
 
     // It shows nothing yet.

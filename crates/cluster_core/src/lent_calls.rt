@@ -1,11 +1,11 @@
 //! The calls of clients on the repositories of a store. One that isn't there is taken as one that is down.
 
 use crate::seat::Seat;
-use commit_log::Request;
 use disk_trait::Parts;
-use message_outbox::{Asked, At, Message, Verdict, Welcome};
+use log_entries::Request;
+use repo_refusals::Refusal;
+use session_outbox::{Asked, At, Message, Verdict, Welcome};
 use thor_value::Ts;
-use validation_window::Refusal;
 
 /// Begins a session of the client at a repository.
 pub(crate) fn connect<P: Parts>(

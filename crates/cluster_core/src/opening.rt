@@ -2,7 +2,7 @@
 
 ghost use Rattle.cluster_core.specs.Counts.{parts_of, schemas_of};
 ghost use Rattle.std.specs.Prelude.{IfErr, IfOk, vec_capacity, vec_len, ◌≡◌, ◌≤◌};
-ghost use Rattle.store_reading.specs.Counts.{parts_in};
+ghost use Rattle.store_opening.specs.Counts.{parts_in};
 
 use crate::cluster::Cluster;
 use crate::plan::{Plan, Start};
@@ -12,9 +12,9 @@ use class_defs::{Schemas, Setup};
 use disk_trait::Parts;
 use front_end::{FrontEnd, Items, Opened};
 use repo_core::Repo;
-use repository_reading::{Unopened, number_at};
+use repo_opening::{Unopened, number_at};
 use std::alloc::Global;
-use store_reading::{Closed, ClusterFault, Found};
+use store_opening::{Closed, ClusterFault, Found};
 use thor_value::{NoMemory, both};
 
 impl<P: Parts> Cluster<P> {

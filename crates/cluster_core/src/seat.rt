@@ -4,8 +4,8 @@ ghost use Rattle.std.specs.Prelude.{vec_capacity, vec_len, ◌≡◌, ◌≤◌}
 
 use disk_trait::Parts;
 use repo_core::{OpenCause, OpenFault, Repo};
-use repository_reading::Unopened;
-use store_reading::Closed;
+use repo_opening::Unopened;
+use store_opening::Closed;
 
 /// What stands at a repository's place, while a store is opened and while it is open.
 #[derive(Drop)]

@@ -3,10 +3,10 @@
 use crate::lent_calls;
 use crate::seat::Seat;
 use disk_trait::Parts;
-use message_outbox::Asked;
-use repository_reading::{Unopened, number_at};
+use repo_opening::{Unopened, number_at};
+use repo_refusals::Refusal;
+use session_outbox::Asked;
 use thor_value::Ts;
-use validation_window::Refusal;
 
 /// Settles every prepared transaction of every repository, rising, by its coordinator.
 pub(crate) fn settle_all<P: Parts>(seats: &mut [Seat<P>]) -> Result<(), Unopened> {

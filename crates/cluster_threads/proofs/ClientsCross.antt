@@ -4,7 +4,7 @@ use Rattle.std.proofs.Crossing.{crosses}
 use Rattle.thor_value.proofs.names.Oref.TheSendSync as oref
 use Rattle.thor_value.proofs.names.Ts.TheSendSync as ts
 use Rattle.thor_value.proofs.sequence.Sequence.TheSendSync as sequence
-use Rattle.message_outbox.proofs.answers.At.TheSendSync as at
+use Rattle.session_outbox.proofs.answers.At.TheSendSync as at
 use Rattle.serial_model.proofs.outcomes.Ended.TheSendSync as ended
 use Rattle.serial_model.specs.contracts.entries.What as What
 use Rattle.client_state.proofs.duties.Duties.TheSendSync as duties
@@ -15,8 +15,8 @@ use Rattle.client_state.proofs.transform.Transform.TheSendSync as transform
 use Rattle.client_state.specs.contracts.held.Held as Held
 use Rattle.client_state.specs.contracts.phase.Phase as Phase
 use Rattle.front_end.specs.contracts.front_end.FrontEnd as FrontEnd
-use Rattle.item_progress.specs.contracts.opened.Opened as Opened
-use Rattle.item_progress.specs.contracts.progress.Progress as Progress
+use Rattle.client_items.specs.contracts.opened.Opened as Opened
+use Rattle.client_items.specs.contracts.progress.Progress as Progress
 use Rattle.paused_eval.proofs.copies.Copies.TheSendSync as copies
 use Rattle.paused_eval.proofs.granted_names.GrantedNames.TheSendSync as granted_names
 use Rattle.cluster_threads.proofs.RunsCross.{epoch_methods_sync, paused_send, shared_block_send}

@@ -1,10 +1,10 @@
 //! What a client does in its thread.
 
 use crate::locked_port::LockedPort;
+use client_port::Port;
 use disk_trait::Parts;
 use front_end::{FrontEnd, Opened, Step};
 use outside::Gate;
-use port::Port;
 use std::sync::Wait;
 use thor_value::NoMemory;
 

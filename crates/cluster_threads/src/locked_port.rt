@@ -2,17 +2,17 @@
 
 use crate::locks::Locks;
 use crate::prompts::Prompt;
+use client_port::Port;
 use cluster_core::Seat;
-use commit_log::Request;
 use crossbeam_channel::Sender;
 use disk_trait::Parts;
-use message_outbox::{Asked, At, Message, Verdict, Welcome};
+use log_entries::Request;
 use outside::Gate;
-use port::Port;
+use repo_refusals::Refusal;
+use session_outbox::{Asked, At, Message, Verdict, Welcome};
 use std::sync::{MutexGuard, Wait};
 use std::thread;
 use thor_value::Ts;
-use validation_window::Refusal;
 
 /// The repositories behind their locks, as one client calls them. Each call is one event of one repository. The
 /// gate is passed before a call and behind it, with no lock held.
@@ -64,7 +64,7 @@ impl<'a, R: Wait, P: Parts, G: Gate> LockedPort<'a, R, P, G> {
 }
 
 impl<'a, R: Wait, P: Parts, G: Gate> Port for LockedPort<'a, R, P, G> {
-    ghost use Rattle.port.specs.Views.{nothing_shown};
+    ghost use Rattle.client_port.specs.Views.{nothing_shown};
     ghost use Rattle.std.specs.Prelude.{false};
 
     // It shows nothing yet.

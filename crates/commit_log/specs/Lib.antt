@@ -1,1 +1,5 @@
-pub mod RequestForm
+pub mod Examples
+pub mod Holds
+pub mod Opening
+pub mod Recovered
+pub mod Values

@@ -1,9 +1,17 @@
-//! What a repository writes into its log: the requests of transactions, and the entries of its
-//! history.
+//! A repository's log with the state for which it stands.
 #![tactic(auto)]
 
-mod entry;
-mod request;
+mod examples;
+mod fault;
+mod finding;
+mod laws;
+mod open_log;
 
-pub use entry::Entry;
-pub use request::{Kind, Request};
+pub use examples::{commits_are_buffered, prepared_transactions_are_decided, upgrades_are_fences};
+pub use fault::FindFault;
+pub use finding::open_logs;
+pub use laws::{
+    damaged_logs_stand_for_nothing, entries_say_their_writes, installs_say_the_same, logs_grow,
+    values_are_last_writes,
+};
+pub use open_log::CommitLog;

@@ -3,19 +3,19 @@ use Rattle.client_cache.specs.Copies.{Contents}
 use Rattle.client_state.specs.Calling.{Connects, Draws, Fetches, Grants}
 use Rattle.client_state.specs.declared.calls.Drew.{Drew}
 use Rattle.client_state.specs.declared.link.Link.{Link}
-use Rattle.commit_log.specs.declared.request.Request.{Request}
-use Rattle.port.specs.Acting.{ActsIf, Asked, Committed, Connected, Decided, Drew as drew, Fetched, Finished, Forgot, Granted, Prepared, Received, Rests}
-use Rattle.message_outbox.specs.declared.answers.Asked as answer
-use Rattle.message_outbox.specs.declared.answers.At.{At}
-use Rattle.message_outbox.specs.declared.answers.Verdict.{Verdict}
-use Rattle.message_outbox.specs.declared.message.Message.{Message}
-use Rattle.port.specs.Views.{View}
-use Rattle.port.specs.Works.{AskWork, CommitWork, DecideWork, Does, FinishWork, ForgetWork, PrepareWork, ReceiveWork}
+use Rattle.log_entries.specs.declared.request.Request.{Request}
+use Rattle.client_port.specs.Acting.{ActsIf, Asked, Committed, Connected, Decided, Drew as drew, Fetched, Finished, Forgot, Granted, Prepared, Received, Rests}
+use Rattle.session_outbox.specs.declared.answers.Asked as answer
+use Rattle.session_outbox.specs.declared.answers.At.{At}
+use Rattle.session_outbox.specs.declared.answers.Verdict.{Verdict}
+use Rattle.session_outbox.specs.declared.message.Message.{Message}
+use Rattle.client_port.specs.Views.{View}
+use Rattle.client_port.specs.Works.{AskWork, CommitWork, DecideWork, Does, FinishWork, ForgetWork, PrepareWork, ReceiveWork}
 use Rattle.std.proofs.Common.{List, true, ℕ, ◌≡◌}
 use Rattle.std.specs.Prelude.{Bool, Option, Result}
 use Rattle.thor_value.specs.declared.memory.NoMemory.{NoMemory}
 use Rattle.thor_value.specs.declared.names.Ts.{Ts}
-use Rattle.validation_window.specs.declared.refusal.Refusal.{Refusal}
+use Rattle.repo_refusals.specs.declared.refusal.Refusal.{Refusal}
 
 module _ (shows : Bool) (old new : View) where
   pub by_none : new ≡ old → ActsIf shows old new

@@ -11,18 +11,18 @@ use Rattle.client_state.specs.declared.link.Link.{Link}
 use Rattle.front_end.specs.Rules.{MayFollow}
 use Rattle.front_end.specs.declared.client.Client.{Client}
 use Rattle.front_end.specs.declared.rule.Counted.{Counted}
-use Rattle.message_outbox.specs.declared.answers.Asked as answer
-use Rattle.message_outbox.specs.declared.answers.Asked.TheVariants as answers
-use Rattle.message_outbox.specs.declared.answers.At.{At}
-use Rattle.message_outbox.specs.declared.answers.Verdict.{Verdict}
+use Rattle.session_outbox.specs.declared.answers.Asked as answer
+use Rattle.session_outbox.specs.declared.answers.Asked.TheVariants as answers
+use Rattle.session_outbox.specs.declared.answers.At.{At}
+use Rattle.session_outbox.specs.declared.answers.Verdict.{Verdict}
 use Rattle.paused_eval.specs.declared.copies.Copies.{Copies}
-use Rattle.port.specs.Views.{View}
-use Rattle.port.specs.Works.{AskWork, DecideWork, Does, FinishWork, ForgetWork}
+use Rattle.client_port.specs.Views.{View}
+use Rattle.client_port.specs.Works.{AskWork, DecideWork, Does, FinishWork, ForgetWork}
 use Rattle.std.proofs.Common.{Bool, List, ap, false, inl, inr, refl, subst, sym, true, ℕ, ◌≡◌}
 use Rattle.std.specs.Prelude.{Err, Ok, OnOk, Option, Result}
 use Rattle.thor_value.specs.declared.memory.NoMemory.{NoMemory}
 use Rattle.thor_value.specs.declared.names.Ts.{Ts}
-use Rattle.validation_window.specs.declared.refusal.Refusal.{Refusal}
+use Rattle.repo_refusals.specs.declared.refusal.Refusal.{Refusal}
 
 pub on_any : {X : Type 0} (result : Result X NoMemory) (P : Type 0) → P → OnOk result P
 on_any (Ok x) P h = h

@@ -2,8 +2,8 @@
 use Rattle.front_end.specs.Moving.{Keeps, left_of, standing_of, uncounted}
 use Rattle.front_end.specs.declared.client.Client.{Client}
 use Rattle.front_end.specs.declared.front_end.FrontEnd.{FrontEnd}
-use Rattle.item_progress.proofs.Falling.{both_fall, nothing_rises, stands_still, uncounted_falls}
-use Rattle.item_progress.specs.Falling.{Falls, Left, NeverRises, left_by}
+use Rattle.client_items.proofs.Falling.{both_fall, nothing_rises, stands_still, uncounted_falls}
+use Rattle.client_items.specs.Falling.{Falls, Left, NeverRises, left_by}
 use Rattle.std.proofs.Common.{ap, inl, inr, subst, sym, ◌<◌, ◌≡◌, ◌∙◌, ℕ}
 use Rattle.std.proofs.Math.Nat.{le_of_eq}
 use Rattle.std.specs.Prelude.{◌≤◌}

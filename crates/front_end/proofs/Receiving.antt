@@ -14,23 +14,23 @@ use Rattle.client_state.specs.declared.link.Link.{Link}
 use Rattle.client_state.specs.declared.link.Waits.TheVariants.{Idle}
 use Rattle.client_state.specs.declared.phase.Phase.{Phase}
 use Rattle.front_end.specs.declared.client.Client.{Client}
-use Rattle.message_outbox.specs.declared.answers.At.{At}
-use Rattle.message_outbox.specs.declared.message.Message.TheVariants.{Grant}
-use Rattle.message_outbox.specs.declared.message.Message.{Message}
+use Rattle.session_outbox.specs.declared.answers.At.{At}
+use Rattle.session_outbox.specs.declared.message.Message.TheVariants.{Grant}
+use Rattle.session_outbox.specs.declared.message.Message.{Message}
 use Rattle.page_format.specs.Pages as page
 use Rattle.paused_eval.specs.Copies.{AreAmong}
-use Rattle.port.specs.Acting.{RefusesReceive, Takes}
-use Rattle.port.specs.Views.{Calm, Came, Halted, MayCome, Unsettled, View}
-use Rattle.port.specs.Works.{Answered, Does, IsOutage, ReceiveWork}
-use Rattle.refusal_reasons.specs.declared.reason.Reason.TheVariants as reasons
-use Rattle.refusal_reasons.specs.declared.reason.Reason.{Reason}
+use Rattle.client_port.specs.Acting.{RefusesReceive, Takes}
+use Rattle.client_port.specs.Views.{Calm, Came, Halted, MayCome, Unsettled, View}
+use Rattle.client_port.specs.Works.{Answered, Does, IsOutage, ReceiveWork}
+use Rattle.base_reasons.specs.declared.reason.Reason.TheVariants as reasons
+use Rattle.base_reasons.specs.declared.reason.Reason.{Reason}
 use Rattle.std.proofs.Common.{Bool, List, ap, inl, inr, refl, subst, sym, true, ◌≡◌, ◌∙◌, ℕ}
 use Rattle.std.specs.Option.{option_map}
 use Rattle.std.specs.Prelude.{Err, None, Ok, OnOk, Option, Result, Some, slice_get}
 use Rattle.thor_value.specs.FiniteMap.{empty}
 use Rattle.thor_value.specs.declared.values.Obj.{Obj}
-use Rattle.validation_window.specs.declared.refusal.Refusal.TheVariants as refused
-use Rattle.validation_window.specs.declared.refusal.Refusal.{Refusal}
+use Rattle.repo_refusals.specs.declared.refusal.Refusal.TheVariants as refused
+use Rattle.repo_refusals.specs.declared.refusal.Refusal.{Refusal}
 
 -- what holds of every result
 pub whenever : {T E P : Type 0} (r : Result T E) → P → OnOk r P

@@ -14,20 +14,20 @@ use Rattle.client_state.specs.Writing.{HoldsWritten, WritesThere}
 use Rattle.client_state.specs.declared.held.Held.{Held}
 use Rattle.client_state.specs.declared.link.Link.{Link}
 use Rattle.client_state.specs.declared.requests.Sending.{Sending}
-use Rattle.commit_log.specs.declared.request.Request.{Request}
-use Rattle.message_outbox.specs.declared.answers.At.{At}
-use Rattle.message_outbox.specs.declared.answers.Verdict.{Verdict}
+use Rattle.log_entries.specs.declared.request.Request.{Request}
+use Rattle.session_outbox.specs.declared.answers.At.{At}
+use Rattle.session_outbox.specs.declared.answers.Verdict.{Verdict}
 use Rattle.paused_eval.specs.Copies.{AreAmong}
-use Rattle.port.specs.Views.{View}
-use Rattle.port.specs.Works.{CommitWork, DecideWork, Does, PrepareWork}
+use Rattle.client_port.specs.Views.{View}
+use Rattle.client_port.specs.Works.{CommitWork, DecideWork, Does, PrepareWork}
 use Rattle.std.proofs.Common.{Bool, List, [], ap, cond, inl, inr, refl, subst, sym, true, ◌∷◌, ◌≡◌, ◌∙◌, ℕ}
 use Rattle.std.specs.Prelude.{Err, None, Ok, OnOk, Result, Some, slice_get, ◌⊎◌}
 use Rattle.thor_value.specs.declared.memory.NoMemory.{NoMemory}
 use Rattle.thor_value.specs.declared.names.Oref.{Oref}
 use Rattle.thor_value.specs.declared.names.Ts.{Ts}
 use Rattle.thor_value.specs.declared.values.Obj.{Obj}
-use Rattle.validation_window.specs.declared.refusal.Refusal.TheVariants as refused
-use Rattle.validation_window.specs.declared.refusal.Refusal.{Refusal}
+use Rattle.repo_refusals.specs.declared.refusal.Refusal.TheVariants as refused
+use Rattle.repo_refusals.specs.declared.refusal.Refusal.{Refusal}
 
 module _ (shows : Bool) (old new : View) (before after : Held) (a z : Pending) where
   module _ (s : Sending) (of : IsOfSession before.links.items s) where

@@ -6,20 +6,20 @@ use Rattle.client_state.specs.Taking.{BringsPage}
 use Rattle.front_end.specs.Moving.{course_of}
 use Rattle.front_end.specs.Showing.{ByAbort, ByPage, CauseShown, EndsSo, GoesShown, ItemsShown, LacksSlot, NewsShown, OutcomeShown, RefusedSo, SettlesSo, Stays, UsedUp}
 use Rattle.front_end.specs.declared.front_end.FrontEnd.{FrontEnd}
-use Rattle.item_progress.specs.Courses.{Course, IsDownAt, IsLateOutcome, is_committed}
-use Rattle.item_progress.specs.Ending.{GoesBy}
-use Rattle.item_progress.specs.Falling.{most_calls}
-use Rattle.item_progress.specs.declared.news.News.TheVariants as news
-use Rattle.item_progress.specs.declared.news.News.{News}
-use Rattle.item_progress.specs.declared.news.Settled.{Settled}
-use Rattle.message_outbox.specs.declared.answers.Asked as answer
-use Rattle.message_outbox.specs.declared.answers.Asked.TheVariants as answers
-use Rattle.message_outbox.specs.declared.answers.Verdict.{Verdict}
-use Rattle.message_outbox.specs.declared.message.Message.TheVariants.{Page}
-use Rattle.message_outbox.specs.declared.message.Message.{Message}
-use Rattle.port.specs.Acting.{ByAnswer, ByDecision, IsDecided, IsTaken, Takes}
-use Rattle.port.specs.Views.{Calm, Came, Halted, MayCome, Unsettled, View}
-use Rattle.port.specs.Works.{Answered, AskWork, Does, ReceiveWork}
+use Rattle.client_items.specs.Courses.{Course, IsDownAt, IsLateOutcome, is_committed}
+use Rattle.client_items.specs.Ending.{GoesBy}
+use Rattle.client_items.specs.Falling.{most_calls}
+use Rattle.client_items.specs.declared.news.News.TheVariants as news
+use Rattle.client_items.specs.declared.news.News.{News}
+use Rattle.client_items.specs.declared.news.Settled.{Settled}
+use Rattle.session_outbox.specs.declared.answers.Asked as answer
+use Rattle.session_outbox.specs.declared.answers.Asked.TheVariants as answers
+use Rattle.session_outbox.specs.declared.answers.Verdict.{Verdict}
+use Rattle.session_outbox.specs.declared.message.Message.TheVariants.{Page}
+use Rattle.session_outbox.specs.declared.message.Message.{Message}
+use Rattle.client_port.specs.Acting.{ByAnswer, ByDecision, IsDecided, IsTaken, Takes}
+use Rattle.client_port.specs.Views.{Calm, Came, Halted, MayCome, Unsettled, View}
+use Rattle.client_port.specs.Works.{Answered, AskWork, Does, ReceiveWork}
 use Rattle.serial_model.specs.declared.outcomes.Cause.TheVariants as cause
 use Rattle.serial_model.specs.declared.outcomes.Cause.{Cause}
 use Rattle.serial_model.specs.declared.outcomes.ItemOutcome.TheVariants.{Done, Faulted, Refused, Unknown, Upgraded}

@@ -2,12 +2,12 @@
 use Rattle.client_state.specs.Moving.{Aborted, Asked, AskedInVain, AskedOwn, CommitRefused, Committed, Connected, DecideRefused, Decided, Drawn, EndsSo, Fetched, Finished, Forgot, Granted, Learns, Loses, Moves, PrepareRefused, Prepared, ReceiveRefused, ReceiveStopped, Received, ReceivedNone, Rested, SendsNothing, Settled, StopsWaiting, Takes, Transformed, Unsent}
 use Rattle.client_state.specs.Pending.{MovesSo, Pending, PendsSo, RefusesToDecide, SendsPending}
 use Rattle.client_state.specs.declared.held.Held.{Held}
-use Rattle.message_outbox.specs.declared.answers.At.{At}
-use Rattle.message_outbox.specs.declared.message.Message.{Message}
-use Rattle.port.specs.Views.{View}
+use Rattle.session_outbox.specs.declared.answers.At.{At}
+use Rattle.session_outbox.specs.declared.message.Message.{Message}
+use Rattle.client_port.specs.Views.{View}
 use Rattle.std.proofs.Common.{Bool, false, true, ℕ}
 use Rattle.thor_value.specs.declared.names.Ts.{Ts}
-use Rattle.validation_window.specs.declared.refusal.Refusal.{Refusal}
+use Rattle.repo_refusals.specs.declared.refusal.Refusal.{Refusal}
 
 module _ (old new : View) (a b after : Held) where
   unsent : SendsNothing old new (record a { names = b.names }) after → SendsNothing old new a after

@@ -7,7 +7,7 @@ use Rattle.client_state.specs.declared.phase.Phase.TheVariants.{Asking, Beginnin
 use Rattle.front_end.specs.Moving.{as_number, bound_of, left_of, steps_left, tries_of, uncounted}
 use Rattle.front_end.specs.declared.client.Client.{Client}
 use Rattle.front_end.specs.declared.front_end.FrontEnd.{FrontEnd}
-use Rattle.item_progress.specs.Falling.{Falls, Left, most_calls}
+use Rattle.client_items.specs.Falling.{Falls, Left, most_calls}
 use Rattle.std.proofs.Common.{arith, inl, inr, refl, subst, sym, ℕ, ◌*◌, ◌+◌, ◌<◌, ◌≡◌}
 use Rattle.std.specs.Prelude.{None, Option, Some, ◌≤◌}
 

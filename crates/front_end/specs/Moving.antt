@@ -7,8 +7,8 @@ use Rattle.client_state.specs.declared.link.Link.TheVariants.{Apart, Unsettled}
 use Rattle.client_state.specs.declared.transaction.Sent.{Sent}
 use Rattle.front_end.specs.declared.client.Client.{Client}
 use Rattle.front_end.specs.declared.front_end.FrontEnd.{FrontEnd}
-use Rattle.item_progress.specs.Courses.{Course}
-use Rattle.item_progress.specs.Falling.{Falls, IsLeft, Left, Standing, left_by, most_calls}
+use Rattle.client_items.specs.Courses.{Course}
+use Rattle.client_items.specs.Falling.{Falls, IsLeft, Left, Standing, left_by, most_calls}
 use Rattle.std.specs.Prelude.{None, Some, length, slice_get, ℕ, ◌*◌, ◌+◌, ◌<◌, ◌^◌, ◌≡◌, ◌⊎◌}
 
 -- how many calls a client may still make that aren't counted, where an item has so many tries

@@ -3,16 +3,16 @@ use Rattle.client_cache.specs.Placing.{IsPageOf}
 use Rattle.client_state.specs.Showing.{IsLearnt, IsToldBy, RefusedFor}
 use Rattle.front_end.specs.Moving.{course_of}
 use Rattle.front_end.specs.declared.front_end.FrontEnd.{FrontEnd}
-use Rattle.item_progress.specs.Courses.{Course}
-use Rattle.item_progress.specs.Ending.{EndsAs, IsRefused, SettlesAs}
-use Rattle.item_progress.specs.Falling.{most_calls}
-use Rattle.item_progress.specs.declared.news.News.TheVariants as news
-use Rattle.item_progress.specs.declared.news.News.{News}
-use Rattle.item_progress.specs.declared.news.Settled.{Settled}
-use Rattle.message_outbox.specs.declared.message.Message.TheVariants.{Invalid, Page, Upgrade}
-use Rattle.port.specs.Acting.{IsDecided, IsTaken}
-use Rattle.port.specs.Views.{View}
-use Rattle.refusal_reasons.specs.declared.reason.Reason.TheVariants as reasons
+use Rattle.client_items.specs.Courses.{Course}
+use Rattle.client_items.specs.Ending.{EndsAs, IsRefused, SettlesAs}
+use Rattle.client_items.specs.Falling.{most_calls}
+use Rattle.client_items.specs.declared.news.News.TheVariants as news
+use Rattle.client_items.specs.declared.news.News.{News}
+use Rattle.client_items.specs.declared.news.Settled.{Settled}
+use Rattle.session_outbox.specs.declared.message.Message.TheVariants.{Invalid, Page, Upgrade}
+use Rattle.client_port.specs.Acting.{IsDecided, IsTaken}
+use Rattle.client_port.specs.Views.{View}
+use Rattle.base_reasons.specs.declared.reason.Reason.TheVariants as reasons
 use Rattle.serial_model.specs.declared.outcomes.Cause.TheVariants as cause
 use Rattle.serial_model.specs.declared.outcomes.Cause.{Cause}
 use Rattle.serial_model.specs.declared.outcomes.ItemOutcome.TheVariants.{Done, Faulted, Refused, Unknown, Upgraded}

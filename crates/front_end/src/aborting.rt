@@ -6,15 +6,15 @@ ghost use Rattle.front_end.specs.Writing.{ClientWrites};
 ghost use Rattle.client_state.specs.Learning.{Rises};
 ghost use Rattle.client_state.specs.Moving.{Loses};
 ghost use Rattle.client_state.specs.Owing.{count_of};
-ghost use Rattle.port.specs.Acting.{ActsIf};
+ghost use Rattle.client_port.specs.Acting.{ActsIf};
 ghost use Rattle.front_end.specs.Moving.{uncounted};
 ghost use Rattle.std.specs.Prelude.{OnOk, ℕ, ◌+◌, ◌≡◌, ◌≤◌};
 
 use crate::client::Client;
+use client_port::Port;
 use client_state::Abort;
-use port::Port;
+use repo_refusals::Refusal;
 use thor_value::NoMemory;
-use validation_window::Refusal;
 
 impl Client {
     /// Has the coordinator abort. Where it answers, the participants are to be told; where it refuses,

@@ -9,19 +9,19 @@ ghost use Rattle.client_state.specs.Owing.{asking_in, calls_in, count_of};
 ghost use Rattle.client_state.specs.declared.phase.Phase.TheVariants as phase;
 ghost use Rattle.client_state.specs.Showing.{IsToldBy};
 ghost use Rattle.front_end.specs.Showing.{NewsShown, ShownIf};
-ghost use Rattle.port.specs.Acting.{ActsIf};
-ghost use Rattle.port.specs.Views.{View};
+ghost use Rattle.client_port.specs.Acting.{ActsIf};
+ghost use Rattle.client_port.specs.Views.{View};
 ghost use Rattle.front_end.specs.Moving.{uncounted};
 ghost use Rattle.std.specs.Prelude.{IfOk, IsSome, OnOk, ℕ, ◌+◌, ◌<◌, ◌≡◌, ◌≤◌, None};
 
 use crate::client::Client;
+use client_items::{News, Opened, Task};
+use client_port::Port;
 use client_state::{Link, Phase, Sent};
-use item_progress::{News, Opened, Task};
-use message_outbox::{Asked, Verdict};
-use port::Port;
+use repo_refusals::Refusal;
 use serial_model::{Cause, ItemOutcome};
+use session_outbox::{Asked, Verdict};
 use thor_value::{NoMemory, Repos};
-use validation_window::Refusal;
 
 impl Client {
     /// Asks the coordinator for the verdict.

@@ -5,14 +5,14 @@ ghost use Rattle.front_end.specs.Writing.{ClientWrites};
 ghost use Rattle.client_state.specs.Learning.{Rises};
 ghost use Rattle.client_state.specs.Moving.{InSession};
 ghost use Rattle.front_end.specs.Showing.{ShownIf};
-ghost use Rattle.port.specs.Acting.{ActsIf};
+ghost use Rattle.client_port.specs.Acting.{ActsIf};
 ghost use Rattle.std.specs.Prelude.{OnOk};
 
 use crate::client::Client;
+use client_items::{News, Opened};
+use client_port::Port;
 use client_state::Waits;
-use item_progress::{News, Opened};
-use message_outbox::At;
-use port::Port;
+use session_outbox::At;
 use thor_value::NoMemory;
 
 impl Client {

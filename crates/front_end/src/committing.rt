@@ -9,17 +9,17 @@ ghost use Rattle.client_state.specs.Links.{NoneAwaits};
 ghost use Rattle.client_state.specs.Moving.{InSession, Loses, SendsNothingIf};
 ghost use Rattle.client_state.specs.Sending.{IsOfSession};
 ghost use Rattle.front_end.specs.Showing.{ShownIf};
-ghost use Rattle.port.specs.Acting.{ActsIf};
-ghost use Rattle.item_progress.specs.declared.news.News.TheVariants as news;
+ghost use Rattle.client_port.specs.Acting.{ActsIf};
+ghost use Rattle.client_items.specs.declared.news.News.TheVariants as news;
 ghost use Rattle.std.specs.Prelude.{IfOk, OnOk, ℕ, ◌≡◌, None, [], IsTrue, slice_get, true};
 
 use crate::client::Client;
+use client_items::{News, Opened};
+use client_port::Port;
 use client_state::{Drew, Phase, Sending, Sent, Transaction};
-use item_progress::{News, Opened};
-use message_outbox::At;
-use port::Port;
+use repo_refusals::Refusal;
+use session_outbox::At;
 use thor_value::{NoMemory, Repos, Sequence, Ts, Who};
-use validation_window::Refusal;
 
 impl Client {
     /// Draws the transaction, or begins a session that it lacks at a participant.

@@ -9,15 +9,15 @@ ghost use Rattle.client_state.specs.Links.{NoneAwaits};
 ghost use Rattle.client_state.specs.Moving.{SendsNothingIf};
 ghost use Rattle.front_end.specs.Showing.{ShownIf};
 ghost use Rattle.client_state.specs.Showing.{CameIf};
-ghost use Rattle.port.specs.Acting.{ActsIf};
+ghost use Rattle.client_port.specs.Acting.{ActsIf};
 ghost use Rattle.std.specs.Prelude.{OnOk, None, ◌≡◌};
 
 use crate::client::Client;
+use client_items::{News, Opened};
+use client_port::Port;
 use client_state::{Came, Phase};
-use item_progress::{News, Opened};
 use method_eval::Ran;
 use paused_eval::Paused;
-use port::Port;
 use serial_model::Cause;
 use thor_value::{NoMemory, Oref, Orefs};
 

@@ -4,11 +4,11 @@ ghost use Rattle.front_end.specs.Writing.{ClientWrites, ClientWrites-prop};
 
 use crate::client::Client;
 use crate::rule::{Counted, Rule};
+use client_items::{Attempts, Items, News, Opened, Progress};
+use client_port::Port;
 use client_state::Held;
-use item_progress::{Attempts, Items, News, Opened, Progress};
-use message_outbox::At;
-use port::Port;
 use serial_model::{Cause, Ended, Ends};
+use session_outbox::At;
 use std::alloc::Global;
 use thor_value::{NoMemory, REPOSITORIES};
 
@@ -54,10 +54,10 @@ impl FrontEnd {
     ghost use Rattle.front_end.specs.Rules.{MayFollow};
     ghost use Rattle.front_end.specs.Showing.{GoesShown, ItemsShown};
     ghost use Rattle.front_end.specs.declared.front_end.Step.TheVariants as step;
-    ghost use Rattle.item_progress.specs.Courses.{Goes, IsInOrder};
-    ghost use Rattle.item_progress.specs.Ending.{EndsBy, GoesBy, ends_try};
-    ghost use Rattle.item_progress.specs.Falling.{CountsDown, Falls, IsLeft, NeverRises, most_calls};
-    ghost use Rattle.port.specs.Acting.{ActsIf};
+    ghost use Rattle.client_items.specs.Courses.{Goes, IsInOrder};
+    ghost use Rattle.client_items.specs.Ending.{EndsBy, GoesBy, ends_try};
+    ghost use Rattle.client_items.specs.Falling.{CountsDown, Falls, IsLeft, NeverRises, most_calls};
+    ghost use Rattle.client_port.specs.Acting.{ActsIf};
     ghost use Rattle.std.specs.Prelude.{◌≡◌, ◌<◌, ◌^◌, [], IfOk, IsSome, IsTrue, OnOk, length, not, Ok, true, ℕ, ◌≤◌};
 
     /// A client with this number and these items. Each item has so many tries, and between tries the
@@ -150,7 +150,7 @@ impl FrontEnd {
     }
 
     /// Follows a rule whose calls are counted.
-    #[tactic(auto, using(item_progress::proofs::Falling::then_never_rises))]
+    #[tactic(auto, using(client_items::proofs::Falling::then_never_rises))]
     fn follow_counted<Q: Port>(
         &mut self,
         port: &mut Q,
@@ -172,7 +172,7 @@ impl FrontEnd {
     }
 
     /// Counts a call, where one may still be made.
-    #[tactic(auto, using(item_progress::proofs::Falling::calls_fall))]
+    #[tactic(auto, using(client_items::proofs::Falling::calls_fall))]
     fn count_call(&mut self) -> bool
         ensures each { tries_of self.new ≡ tries_of self.old }
         ensures counted { IsTrue result → CountsDown (standing_of self.old) (standing_of self.new) }
@@ -206,7 +206,7 @@ impl FrontEnd {
     }
 
     /// Asks for the verdict on the client's own transaction.
-    #[tactic(auto, using(item_progress::proofs::Falling::uncounted_falls))]
+    #[tactic(auto, using(client_items::proofs::Falling::uncounted_falls))]
     fn ask<Q: Port>(&mut self, port: &mut Q, opened: &Opened) -> Result<(), NoMemory>
         ensures goes { Goes (course_of self.old) (course_of self.new) }
         ensures each { tries_of self.new ≡ tries_of self.old }
@@ -279,7 +279,7 @@ impl FrontEnd {
     }
 
     /// Takes one message of a session.
-    #[tactic(auto, using(item_progress::proofs::Falling::nothing_rises))]
+    #[tactic(auto, using(client_items::proofs::Falling::nothing_rises))]
     fn receive<Q: Port>(&mut self, port: &mut Q, opened: &Opened, at: At) -> Result<(), NoMemory>
         ensures goes { Goes (course_of self.old) (course_of self.new) }
         ensures keeps { OnOk result (Keeps (left_of self.old) (left_of self.new)) }
@@ -305,7 +305,7 @@ impl FrontEnd {
     }
 
     /// Asks once for the Unknown item that a repository coordinates.
-    #[tactic(auto, using(item_progress::proofs::Falling::nothing_rises))]
+    #[tactic(auto, using(client_items::proofs::Falling::nothing_rises))]
     fn ask_last<Q: Port>(&mut self, port: &mut Q, opened: &Opened, repo: u8) -> Result<(), NoMemory>
         ensures goes { Goes (course_of self.old) (course_of self.new) }
         ensures keeps { OnOk result (Keeps (left_of self.old) (left_of self.new)) }

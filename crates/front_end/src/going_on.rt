@@ -7,13 +7,13 @@ ghost use Rattle.client_state.specs.Learning.{Rises};
 ghost use Rattle.client_state.specs.Links.{NoneAwaits};
 ghost use Rattle.client_state.specs.Moving.{SendsNothingIf};
 ghost use Rattle.front_end.specs.Showing.{ShownIf};
-ghost use Rattle.port.specs.Acting.{ActsIf};
+ghost use Rattle.client_port.specs.Acting.{ActsIf};
 ghost use Rattle.std.specs.Prelude.{OnOk, None, ◌≡◌};
 
 use crate::client::Client;
+use client_items::{Asked, News, Opened, Task};
+use client_port::Port;
 use client_state::{Phase, Transaction};
-use item_progress::{Asked, News, Opened, Task};
-use port::Port;
 use thor_value::NoMemory;
 use upgrade_defs::print_upgrade;
 

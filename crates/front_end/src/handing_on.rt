@@ -5,16 +5,16 @@ ghost use Rattle.front_end.specs.Writing.{ClientWrites};
 ghost use Rattle.client_state.specs.Learning.{Rises};
 ghost use Rattle.client_state.specs.Owing.{calls_of, count_of};
 ghost use Rattle.client_state.specs.declared.held.Held.{Held};
-ghost use Rattle.port.specs.Acting.{ActsIf};
+ghost use Rattle.client_port.specs.Acting.{ActsIf};
 ghost use Rattle.front_end.specs.Moving.{uncounted};
 ghost use Rattle.std.specs.Prelude.{MatchOption, OnOk, [], length, ℕ, ◌+◌, ◌<◌, ◌≡◌};
 
 use crate::client::Client;
+use client_port::Port;
 use client_state::Duty;
-use message_outbox::Verdict;
-use port::Port;
+use repo_refusals::Refusal;
+use session_outbox::Verdict;
 use thor_value::{NoMemory, Repos, Ts};
-use validation_window::Refusal;
 
 impl Client {
     /// Hands on the oldest verdict to its next participant, or has the coordinator forget.

@@ -5,16 +5,16 @@ ghost use Rattle.front_end.specs.Writing.{ClientWrites};
 ghost use Rattle.client_state.specs.Learning.{Rises};
 ghost use Rattle.client_state.specs.declared.held.Held.{Held};
 ghost use Rattle.front_end.specs.Showing.{ShownIf};
-ghost use Rattle.port.specs.Acting.{ActsIf};
+ghost use Rattle.client_port.specs.Acting.{ActsIf};
 ghost use Rattle.std.specs.Prelude.{OnOk};
 
 use crate::client::Client;
+use client_items::{Learnt, News, Opened};
+use client_port::Port;
 use client_state::Helping;
-use item_progress::{Learnt, News, Opened};
-use message_outbox::{Asked, Verdict};
-use port::Port;
+use repo_refusals::Refusal;
+use session_outbox::{Asked, Verdict};
 use thor_value::{NoMemory, Ts};
-use validation_window::Refusal;
 
 impl Client {
     /// Asks about the transaction, or hands its verdict to the repository that refused.

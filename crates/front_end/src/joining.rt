@@ -7,14 +7,14 @@ ghost use Rattle.client_state.specs.Links.{session_in};
 ghost use Rattle.client_state.specs.Moving.{SendsNothingIf};
 ghost use Rattle.front_end.specs.Showing.{ShownIf};
 ghost use Rattle.client_state.specs.Showing.{CameIf};
-ghost use Rattle.port.specs.Acting.{ActsIf};
+ghost use Rattle.client_port.specs.Acting.{ActsIf};
 ghost use Rattle.std.specs.Prelude.{None, OnOk, slice_get, ◌≡◌};
 
 use crate::client::Client;
+use client_items::{News, Opened};
+use client_port::Port;
 use client_state::{Came, cause_of};
-use item_progress::{News, Opened};
-use message_outbox::Asked;
-use port::Port;
+use session_outbox::Asked;
 use thor_value::{NoMemory, Ts};
 
 impl Client {

@@ -19,5 +19,5 @@ mod rule;
 mod transforming;
 mod tries;
 
+pub use client_items::{Items, Opened};
 pub use front_end::{FrontEnd, Step};
-pub use item_progress::{Items, Opened};

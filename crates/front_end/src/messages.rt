@@ -10,23 +10,23 @@ ghost use Rattle.client_state.specs.Taking.{Without};
 ghost use Rattle.client_state.specs.Writing.{WritesNone, has_sent_to};
 ghost use Rattle.paused_eval.specs.Copies.{AreAmong};
 ghost use Rattle.front_end.specs.Showing.{NewsShown, ShownIf, SomeShownIf};
-ghost use Rattle.port.specs.Acting.{ActsIf, IsTaken, Refuses};
-ghost use Rattle.port.specs.Views.{View};
+ghost use Rattle.client_port.specs.Acting.{ActsIf, IsTaken, Refuses};
+ghost use Rattle.client_port.specs.Views.{View};
 ghost use Rattle.front_end.specs.Moving.{uncounted};
-ghost use Rattle.message_outbox.specs.declared.message.Message.TheVariants as message;
-ghost use Rattle.item_progress.specs.declared.news.News.TheVariants as news;
+ghost use Rattle.session_outbox.specs.declared.message.Message.TheVariants as message;
+ghost use Rattle.client_items.specs.declared.news.News.TheVariants as news;
 ghost use Rattle.std.specs.Prelude.{IfOk, IsTrue, List, None, OnOk, not, true, ℕ, ◌≡◌, ◌≤◌};
 
 use crate::client::Client;
+use base_reasons::Reason;
+use client_items::{News, Opened};
+use client_port::Port;
 use client_state::cause_of;
-use item_progress::{News, Opened};
-use message_outbox::{At, Message};
 use page_format::Page;
-use port::Port;
-use refusal_reasons::Reason;
+use repo_refusals::Refusal;
 use serial_model::Cause;
+use session_outbox::{At, Message};
 use thor_value::{NoMemory, Oref, Orefs, Text};
-use validation_window::Refusal;
 
 /// Whether an object lies on a page.
 fn is_on(oref: Oref, repo: u8, page: u32) -> bool

@@ -5,18 +5,18 @@ ghost use Rattle.client_state.specs.Moving.{HoldsLess, KeepsTry, MaySettle, Send
 ghost use Rattle.client_state.specs.declared.held.Held.{Held};
 ghost use Rattle.front_end.specs.Moving.{TakesUnsettled};
 ghost use Rattle.front_end.specs.Showing.{NewsShown, ShownIf};
-ghost use Rattle.port.specs.Acting.{ActsIf, IsDecided};
-ghost use Rattle.port.specs.Views.{View};
-ghost use Rattle.item_progress.specs.Courses.{IsDownAt, is_committed};
+ghost use Rattle.client_port.specs.Acting.{ActsIf, IsDecided};
+ghost use Rattle.client_port.specs.Views.{View};
+ghost use Rattle.client_items.specs.Courses.{IsDownAt, is_committed};
 ghost use Rattle.std.specs.Prelude.{◌≡◌, IfOk, IfSome, None, OnOk, true, ℕ};
 
 use crate::client::Client;
+use client_items::{Learnt, Meaning, News, Opened, Settled};
+use client_port::Port;
 use client_state::{Link, Sent};
-use item_progress::{Learnt, Meaning, News, Opened, Settled};
-use message_outbox::{Asked, Verdict};
-use port::Port;
+use repo_refusals::Refusal;
+use session_outbox::{Asked, Verdict};
 use thor_value::{NoMemory, Ts};
-use validation_window::Refusal;
 
 impl Client {
     /// The present item has committed: what its try has changed is kept.

@@ -5,16 +5,16 @@ ghost use Rattle.front_end.specs.Writing.{ClientWrites};
 ghost use Rattle.client_state.specs.Learning.{Rises};
 ghost use Rattle.client_state.specs.Links.{NoneAwaits};
 ghost use Rattle.front_end.specs.Showing.{ShownIf};
-ghost use Rattle.port.specs.Acting.{ActsIf};
+ghost use Rattle.client_port.specs.Acting.{ActsIf};
 ghost use Rattle.client_state.specs.Owing.{asking_in};
 ghost use Rattle.front_end.specs.Rules.{Follows, MayFollow, NothingHoldsBack, asks, goes_on, hands_on};
 ghost use Rattle.std.specs.Prelude.{IsSome, OnOk, length, max, true, ◌<◌, ◌≡◌};
 
 use crate::client::Client;
+use client_items::{News, Opened, Task};
+use client_port::Port;
 use client_state::{Helping, Phase};
-use item_progress::{News, Opened, Task};
-use message_outbox::At;
-use port::Port;
+use session_outbox::At;
 use thor_value::NoMemory;
 
 /// The rule that a step follows. They are tried in this order: the first three counted ones, the two that aren't

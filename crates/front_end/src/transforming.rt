@@ -10,20 +10,20 @@ ghost use Rattle.client_state.specs.Links.{NoneAwaits, session_in};
 ghost use Rattle.client_state.specs.Moving.{InSession, KeepsMade, Learns, SendsNothingIf};
 ghost use Rattle.client_state.specs.Sending.{IsOfSession};
 ghost use Rattle.front_end.specs.Showing.{NewsShown, ShownIf};
-ghost use Rattle.port.specs.Acting.{ActsIf, Refuses};
-ghost use Rattle.port.specs.Views.{View};
+ghost use Rattle.client_port.specs.Acting.{ActsIf, Refuses};
+ghost use Rattle.client_port.specs.Views.{View};
 ghost use Rattle.std.specs.Prelude.{IfOk, OnOk, Some, [], slice_get, ℕ, ◌∷◌, ◌≡◌, None};
 
 use crate::client::Client;
+use client_items::{News, Opened};
+use client_port::Port;
 use client_state::{Becomes, Drew, Phase, Transform};
-use commit_log::Request;
-use item_progress::{News, Opened};
 use lazy_transform::Wanted;
-use message_outbox::At;
+use log_entries::Request;
 use paused_eval::Paused;
-use port::Port;
+use repo_refusals::Refusal;
+use session_outbox::At;
 use thor_value::{NoMemory, Obj, Oref, Orefs, Ts};
-use validation_window::Refusal;
 
 impl Client {
     /// A transform begins. What the try has changed is given up, since its evaluation begins anew behind.

@@ -10,20 +10,20 @@ ghost use Rattle.client_state.specs.Showing.{CameShown, IsLearnt};
 ghost use Rattle.client_state.specs.declared.phase.Phase.TheVariants as phase;
 ghost use Rattle.front_end.specs.Moving.{uncounted};
 ghost use Rattle.front_end.specs.Showing.{NewsShown};
-ghost use Rattle.item_progress.specs.declared.news.News.TheVariants as news;
-ghost use Rattle.port.specs.Acting.{Refuses};
-ghost use Rattle.port.specs.Views.{View};
+ghost use Rattle.client_items.specs.declared.news.News.TheVariants as news;
+ghost use Rattle.client_port.specs.Acting.{Refuses};
+ghost use Rattle.client_port.specs.Views.{View};
 ghost use Rattle.std.specs.Prelude.{IfOk, None, OnOk, ℕ, ◌≡◌, ◌≤◌};
 ghost use Rattle.thor_value.specs.declared.names.Oref.{Oref};
 
 use crate::client::Client;
+use base_reasons::Reason;
+use client_items::{Learnt, News};
 use client_state::{Came, Helping, Phase, cause_of};
-use item_progress::{Learnt, News};
-use refusal_reasons::Reason;
+use repo_refusals::Refusal;
 use serial_model::Cause;
 use std::mem;
 use thor_value::NoMemory;
-use validation_window::Refusal;
 
 /// The transaction that stood against a request and is to be asked about, if there is one.
 fn helping_behind(refusal: Refusal, refuser: u8) -> Option<Helping> {

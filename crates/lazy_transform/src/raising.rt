@@ -10,8 +10,8 @@ ghost use Rattle.lazy_transform.specs.Walked.{Covers, Gathers, all_read, as_of, 
 use crate::past::Past;
 use crate::paths::paths_of_fields;
 use class_defs::{ClassUpgrade, Classes, Name, Names, Object, PlainObjects};
+use lang_upgrade_eval::{classes_at, field_behind, next_of, object_behind, transformed};
 use thor_value::{NoMemory, Obj, Oref, Orefs, TryCopy, Value};
-use upgrade_eval::{classes_at, field_behind, next_of, object_behind, transformed};
 
 /// The value of a stored object in an epoch, over the objects at hand. The names of all objects that are read for it
 /// are put behind those that were looked at before.

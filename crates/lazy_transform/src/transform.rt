@@ -85,7 +85,7 @@ pub fn wants(
 ///
 /// Where `wants` answers `All` and a stored map of that epoch has the same objects at these names, this is the object that
 /// is written where the map's object is brought up, and what the map stands for is as it was (`transforms_are_unseen` of
-/// `lazy_laws`). On any other objects it returns as well: what isn't at hand counts as null on a path, and a value of a
+/// `law_lazy_upgrade`). On any other objects it returns as well: what isn't at hand counts as null on a path, and a value of a
 /// wrong kind as the one with which its field begins.
 pub fn bring(
     alloc: Global,

@@ -3,9 +3,9 @@ use Rattle.std.proofs.Common.{◌≡◌, ℕ, List, ◌∷◌, refl}
 use Rattle.class_defs.specs.Steps.{World}
 use Rattle.class_defs.specs.declared.statements.Stmt.{Stmt}
 use Rattle.class_defs.specs.declared.statements.Stmt.TheOpen.{Stmt-F}
-use Rattle.paused_defs.specs.Resume.{begin, next}
-use Rattle.paused_defs.specs.declared.frames.Doing.TheVariants as doing
-use Rattle.paused_defs.specs.declared.frames.Frame.{Frame}
+use Rattle.lang_small_steps.specs.Resume.{begin, next}
+use Rattle.lang_small_steps.specs.declared.frames.Doing.TheVariants as doing
+use Rattle.lang_small_steps.specs.declared.frames.Frame.{Frame}
 use Rattle.paused_eval.specs.Begins.{first_part, waiting_frame}
 
 pub begins_by : (w : World) (n : ℕ) (o : Stmt-F Stmt) (fs : List Frame) → begin w n o fs ≡ next (doing.Evaluate n (first_part o)) (waiting_frame w.schema.classes n o ∷ fs)

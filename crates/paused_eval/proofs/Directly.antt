@@ -37,17 +37,17 @@ use Rattle.method_eval.specs.Does.{Does}
 use Rattle.method_eval.specs.declared.halt.Halt.{Halt}
 use Rattle.method_eval.specs.declared.halt.Halt.TheVariants as halt
 use Rattle.method_eval.specs.declared.halt.Halt.TheVariants.{Stopped}
-use Rattle.paused_defs.proofs.Falling.{falls_by}
-use Rattle.paused_defs.proofs.MoreNames.{IsNoCreation}
-use Rattle.paused_defs.proofs.Reaching as reaching
-use Rattle.paused_defs.specs.Due.{IsOpen, due}
-use Rattle.paused_defs.specs.Reaches.{over, whole}
-use Rattle.paused_defs.specs.Resume as small
-use Rattle.paused_defs.specs.Resume.{Left, begin, give, inside, move, open_block, open_body, start}
-use Rattle.paused_defs.specs.declared.frames.Doing.{Doing}
-use Rattle.paused_defs.specs.declared.frames.Doing.TheVariants as doing
-use Rattle.paused_defs.specs.declared.frames.Frame.{Frame}
-use Rattle.paused_defs.specs.declared.frames.Frame.TheVariants as frame
+use Rattle.lang_small_steps.proofs.Falling.{falls_by}
+use Rattle.lang_small_steps.proofs.MoreNames.{IsNoCreation}
+use Rattle.lang_small_steps.proofs.Reaching as reaching
+use Rattle.lang_small_steps.specs.Due.{IsOpen, due}
+use Rattle.lang_small_steps.specs.Reaches.{over, whole}
+use Rattle.lang_small_steps.specs.Resume as small
+use Rattle.lang_small_steps.specs.Resume.{Left, begin, give, inside, move, open_block, open_body, start}
+use Rattle.lang_small_steps.specs.declared.frames.Doing.{Doing}
+use Rattle.lang_small_steps.specs.declared.frames.Doing.TheVariants as doing
+use Rattle.lang_small_steps.specs.declared.frames.Frame.{Frame}
+use Rattle.lang_small_steps.specs.declared.frames.Frame.TheVariants as frame
 use Rattle.paused_eval.proofs.Beginning.{begins_by}
 use Rattle.paused_eval.proofs.Hands.{same_hands}
 use Rattle.paused_eval.proofs.Standing.{named, named_is, stops}

@@ -30,7 +30,7 @@ use Rattle.client_cache.specs.Slots.{kept_in, seen_in}
 use Rattle.client_cache.specs.Slots as slots
 use Rattle.client_cache.specs.declared.page_copies.Slot.{Slot}
 use Rattle.method_eval.specs.Viewed.{current}
-use Rattle.paused_defs.specs.Reaches.{over}
+use Rattle.lang_small_steps.specs.Reaches.{over}
 use Rattle.paused_eval.proofs.Names.{any_kept, any_put, none_rise, rise_kept, rise_put}
 use Rattle.paused_eval.specs.Copies.{AreAmong, Keeps, Tied, at_hand, entries, entry, seen_now, state, unless_due, written_in}
 use Rattle.class_defs.specs.declared.machine.Machine.{Machine}

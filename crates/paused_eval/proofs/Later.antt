@@ -10,10 +10,10 @@ use Rattle.class_defs.specs.declared.store.Schema.{Schema}
 use Rattle.client_cache.specs.Copies.{Contents}
 use Rattle.method_eval.specs.Names.{Names, free, grant, orefs, waiting}
 use Rattle.method_eval.specs.declared.held.Held.{Held}
-use Rattle.paused_defs.proofs.Reaching as reaching
-use Rattle.paused_defs.specs.Due.{due}
-use Rattle.paused_defs.specs.Reaches.{Agree, granted, whole}
-use Rattle.paused_defs.specs.Resume.{Left}
+use Rattle.lang_small_steps.proofs.Reaching as reaching
+use Rattle.lang_small_steps.specs.Due.{due}
+use Rattle.lang_small_steps.specs.Reaches.{Agree, granted, whole}
+use Rattle.lang_small_steps.specs.Resume.{Left}
 use Rattle.std.specs.Prelude.{None}
 use Rattle.paused_eval.specs.Copies.{state_with}
 use Rattle.paused_eval.specs.Standing.{Stands, newly_granted}

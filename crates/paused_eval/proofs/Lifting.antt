@@ -13,14 +13,14 @@ use Rattle.class_defs.specs.declared.limits.TheConstants.{STEP_LIMIT}
 use Rattle.class_defs.specs.Objects.{scope_at, named_value, field_value}
 use Rattle.class_defs.specs.Statements.{holds}
 use Rattle.class_defs.specs.Steps.{World, Action, after, ◌>>=◌, ◌>>◌, step}
-use Rattle.paused_defs.specs.Resume.{Left, given, taken, give, start, begin, open_block, open_body, ready, collect, go_on, turned, pop, move}
+use Rattle.lang_small_steps.specs.Resume.{Left, given, taken, give, start, begin, open_block, open_body, ready, collect, go_on, turned, pop, move}
 use Rattle.class_defs.specs.declared.classes.Method.{Method}
 use Rattle.class_defs.specs.declared.expressions.Expr.{Expr}
 use Rattle.class_defs.specs.declared.expressions.Expr.TheOpen.{Expr-F}
-use Rattle.paused_defs.specs.declared.frames.Doing.{Doing}
-use Rattle.paused_defs.specs.declared.frames.Doing.TheVariants as doing
-use Rattle.paused_defs.specs.declared.frames.Frame.{Frame}
-use Rattle.paused_defs.specs.declared.frames.Frame.TheVariants as frame
+use Rattle.lang_small_steps.specs.declared.frames.Doing.{Doing}
+use Rattle.lang_small_steps.specs.declared.frames.Doing.TheVariants as doing
+use Rattle.lang_small_steps.specs.declared.frames.Frame.{Frame}
+use Rattle.lang_small_steps.specs.declared.frames.Frame.TheVariants as frame
 use Rattle.class_defs.specs.declared.machine.Flow.{Flow}
 use Rattle.class_defs.specs.declared.machine.Flow.TheVariants.{Next, Returned}
 use Rattle.class_defs.specs.declared.machine.Machine.{Machine}

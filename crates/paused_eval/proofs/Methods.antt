@@ -6,8 +6,8 @@ use Rattle.std.specs.Str.{bytes_eq}
 use Rattle.class_defs.specs.Types.{method_of}
 use Rattle.class_defs.specs.declared.classes.Class.{Class}
 use Rattle.class_defs.specs.declared.classes.Method.{Method}
-use Rattle.paused_defs.specs.Methods.{class_methods}
-use Rattle.paused_defs.specs.Typed.{IsTyped, TypedMethod, typed}
+use Rattle.lang_small_steps.specs.Methods.{class_methods}
+use Rattle.lang_small_steps.specs.Typed.{IsTyped, TypedMethod, typed}
 
 -- the first method with this name of the class with this number
 abbrev named : List (List TypedMethod) → ℕ → List ℕ → Option TypedMethod

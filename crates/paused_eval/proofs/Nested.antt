@@ -6,9 +6,9 @@ use Rattle.class_defs.specs.declared.expressions.Expr.{Expr, out-Expr}
 use Rattle.class_defs.specs.declared.machine.Machine.{Machine}
 use Rattle.class_defs.specs.declared.machine.Stop.TheVariants.{Fault}
 use Rattle.class_defs.specs.declared.statements.Stmt.{Stmt, out-Stmt}
-use Rattle.paused_defs.specs.Resume.{move, start, begin}
-use Rattle.paused_defs.specs.declared.frames.Doing.TheVariants as doing
-use Rattle.paused_defs.specs.declared.frames.Frame.{Frame}
+use Rattle.lang_small_steps.specs.Resume.{move, start, begin}
+use Rattle.lang_small_steps.specs.declared.frames.Doing.TheVariants as doing
+use Rattle.lang_small_steps.specs.declared.frames.Frame.{Frame}
 
 pub evaluate-none : (w : World) (n : ℕ) (e : Expr) (fs : List Frame) (m : Machine) → n ≡ 0 → move w (doing.Evaluate n e) fs m ≡ (Err (Fault Steps), m)
 evaluate-none w n e fs m h = ap (λ k. move w (doing.Evaluate k e) fs m) h

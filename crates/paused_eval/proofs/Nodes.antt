@@ -16,15 +16,15 @@ use Rattle.class_defs.specs.declared.statements.Stmt.TheVariants as y
 use Rattle.class_defs.specs.declared.statements.Stmt.TheViews.{out-roll-Stmt}
 use Rattle.class_defs.specs.declared.types.ExprType.{ExprType}
 use Rattle.class_defs.specs.declared.types.ExprType.TheVariants as type
-use Rattle.paused_defs.specs.Plain.{expr_step, name, plain, plain_stmt, stmt_step}
-use Rattle.paused_defs.specs.declared.nodes.ExprNode.{ExprNode}
-use Rattle.paused_defs.specs.declared.nodes.ExprNode.TheFolds.{fold-roll-ExprNode}
-use Rattle.paused_defs.specs.declared.nodes.ExprNode.TheOpen.{ExprNode-F}
-use Rattle.paused_defs.specs.declared.nodes.ExprNode.TheVariants as e
-use Rattle.paused_defs.specs.declared.nodes.StmtNode.{StmtNode}
-use Rattle.paused_defs.specs.declared.nodes.StmtNode.TheFolds.{fold-roll-StmtNode}
-use Rattle.paused_defs.specs.declared.nodes.StmtNode.TheOpen.{StmtNode-F}
-use Rattle.paused_defs.specs.declared.nodes.StmtNode.TheVariants as s
+use Rattle.lang_small_steps.specs.Plain.{expr_step, name, plain, plain_stmt, stmt_step}
+use Rattle.lang_small_steps.specs.declared.nodes.ExprNode.{ExprNode}
+use Rattle.lang_small_steps.specs.declared.nodes.ExprNode.TheFolds.{fold-roll-ExprNode}
+use Rattle.lang_small_steps.specs.declared.nodes.ExprNode.TheOpen.{ExprNode-F}
+use Rattle.lang_small_steps.specs.declared.nodes.ExprNode.TheVariants as e
+use Rattle.lang_small_steps.specs.declared.nodes.StmtNode.{StmtNode}
+use Rattle.lang_small_steps.specs.declared.nodes.StmtNode.TheFolds.{fold-roll-StmtNode}
+use Rattle.lang_small_steps.specs.declared.nodes.StmtNode.TheOpen.{StmtNode-F}
+use Rattle.lang_small_steps.specs.declared.nodes.StmtNode.TheVariants as s
 
 pub plain_int : (v : ℤ) (l : ℕ) → plain (e.Int v l) ≡ x.Int v l
 plain_int v l = ap plain (sym (e.rolls-Int v l)) ∙ fold-roll-ExprNode Expr expr_step (ExprNode-F.Int v l)

@@ -14,15 +14,15 @@ use Rattle.class_defs.specs.declared.store.Object.{Object}
 use Rattle.class_defs.specs.declared.store.Schema.{Schema}
 use Rattle.method_eval.specs.declared.halt.Halt.{Halt}
 use Rattle.method_eval.specs.declared.halt.Halt.TheVariants.{Stopped, NoMemory}
-use Rattle.paused_defs.proofs.Falling.{falls_by}
-use Rattle.paused_defs.proofs.MoreNames.{IsNoCreation, both, move_adds}
-use Rattle.paused_defs.proofs.Reaching as reaching
-use Rattle.paused_defs.specs.Due.{IsOpen, due}
-use Rattle.paused_defs.specs.Reaches.{over, whole}
-use Rattle.paused_defs.specs.Resume.{Left, move, rest_of}
-use Rattle.paused_defs.specs.declared.frames.Doing.{Doing}
-use Rattle.paused_defs.specs.declared.frames.Doing.TheVariants as doing
-use Rattle.paused_defs.specs.declared.frames.Frame.{Frame}
+use Rattle.lang_small_steps.proofs.Falling.{falls_by}
+use Rattle.lang_small_steps.proofs.MoreNames.{IsNoCreation, both, move_adds}
+use Rattle.lang_small_steps.proofs.Reaching as reaching
+use Rattle.lang_small_steps.specs.Due.{IsOpen, due}
+use Rattle.lang_small_steps.specs.Reaches.{over, whole}
+use Rattle.lang_small_steps.specs.Resume.{Left, move, rest_of}
+use Rattle.lang_small_steps.specs.declared.frames.Doing.{Doing}
+use Rattle.lang_small_steps.specs.declared.frames.Doing.TheVariants as doing
+use Rattle.lang_small_steps.specs.declared.frames.Frame.{Frame}
 use Rattle.paused_eval.specs.Does.{Moves}
 use Rattle.paused_eval.specs.Standing.{AtStop, CameTo, IsFault, Runs, Stands, Stays, Steps, Went, answer_of, is_done, moved_to, outcome_of}
 use Rattle.paused_eval.specs.Copies.{at_hand, entries, state_with, written_in}

@@ -15,10 +15,10 @@ use Rattle.class_defs.specs.declared.statements.Stmt.TheOpen.{Stmt-F}
 use Rattle.class_defs.specs.declared.store.Schema.{Schema}
 use Rattle.class_defs.specs.declared.types.ExprType.{ExprType}
 use Rattle.client_cache.specs.Copies.{Contents}
-use Rattle.paused_defs.specs.Plain.{plain}
-use Rattle.paused_defs.specs.declared.frames.Frame.{Frame}
-use Rattle.paused_defs.specs.declared.frames.Frame.TheVariants as frame
-use Rattle.paused_defs.specs.declared.nodes.ExprNode.{ExprNode}
+use Rattle.lang_small_steps.specs.Plain.{plain}
+use Rattle.lang_small_steps.specs.declared.frames.Frame.{Frame}
+use Rattle.lang_small_steps.specs.declared.frames.Frame.TheVariants as frame
+use Rattle.lang_small_steps.specs.declared.nodes.ExprNode.{ExprNode}
 use Rattle.paused_eval.proofs.Directly.{body, left_waiting, next_turn, same_world, test_left}
 use Rattle.paused_eval.specs.Begins.{first_part, waiting_frame}
 use Rattle.paused_eval.specs.Copies.{Keeps, state}

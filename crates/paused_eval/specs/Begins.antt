@@ -5,8 +5,8 @@ use Rattle.class_defs.specs.declared.classes.Class.{Class}
 use Rattle.class_defs.specs.declared.expressions.Expr.{Expr}
 use Rattle.class_defs.specs.declared.statements.Stmt.{Stmt}
 use Rattle.class_defs.specs.declared.statements.Stmt.TheOpen.{Stmt-F}
-use Rattle.paused_defs.specs.declared.frames.Frame.{Frame}
-use Rattle.paused_defs.specs.declared.frames.Frame.TheVariants as frame
+use Rattle.lang_small_steps.specs.declared.frames.Frame.{Frame}
+use Rattle.lang_small_steps.specs.declared.frames.Frame.TheVariants as frame
 
 abbrev pub first_part : Stmt-F Stmt → Expr
 first_part (Stmt-F.Var t name line e) = e

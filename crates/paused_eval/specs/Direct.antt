@@ -31,12 +31,12 @@ use Rattle.client_cache.specs.Copies.{Contents}
 use Rattle.method_eval.specs.declared.halt.Halt.{Halt}
 use Rattle.method_eval.specs.declared.halt.Halt.TheVariants as halt
 use Rattle.method_eval.specs.declared.halt.Halt.TheVariants.{Stopped}
-use Rattle.paused_defs.specs.Reaches.{over}
-use Rattle.paused_defs.specs.Resume.{ended, inside, negated, outside, print, shorten}
-use Rattle.paused_defs.specs.declared.frames.Doing.{Doing}
-use Rattle.paused_defs.specs.declared.frames.Doing.TheVariants as doing
-use Rattle.paused_defs.specs.declared.frames.Frame.{Frame}
-use Rattle.paused_defs.specs.declared.frames.Frame.TheVariants as frame
+use Rattle.lang_small_steps.specs.Reaches.{over}
+use Rattle.lang_small_steps.specs.Resume.{ended, inside, negated, outside, print, shorten}
+use Rattle.lang_small_steps.specs.declared.frames.Doing.{Doing}
+use Rattle.lang_small_steps.specs.declared.frames.Doing.TheVariants as doing
+use Rattle.lang_small_steps.specs.declared.frames.Frame.{Frame}
+use Rattle.lang_small_steps.specs.declared.frames.Frame.TheVariants as frame
 use Rattle.paused_eval.specs.Begins.{first_part, waiting_frame}
 use Rattle.paused_eval.specs.Copies.{at_hand}
 use Rattle.paused_eval.specs.declared.unwound.Unwound.{Unwound}

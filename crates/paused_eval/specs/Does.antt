@@ -15,10 +15,10 @@ use Rattle.class_defs.specs.declared.statements.Stmt.{Stmt}
 use Rattle.class_defs.specs.declared.store.Object.{Object}
 use Rattle.method_eval.specs.declared.halt.Halt.{Halt}
 use Rattle.method_eval.specs.declared.halt.Halt.TheVariants.{Stopped, NoMemory}
-use Rattle.paused_defs.specs.Resume.{Left, give, open_block}
-use Rattle.paused_defs.specs.declared.frames.Doing.{Doing}
-use Rattle.paused_defs.specs.declared.frames.Frame.{Frame}
-use Rattle.paused_defs.specs.declared.frames.Frame.TheVariants as frame
+use Rattle.lang_small_steps.specs.Resume.{Left, give, open_block}
+use Rattle.lang_small_steps.specs.declared.frames.Doing.{Doing}
+use Rattle.lang_small_steps.specs.declared.frames.Frame.{Frame}
+use Rattle.lang_small_steps.specs.declared.frames.Frame.TheVariants as frame
 
 -- the state with these objects written
 abbrev pub lifted : Map oref_cmp Object → Machine → Machine

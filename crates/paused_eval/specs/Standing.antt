@@ -17,12 +17,12 @@ use Rattle.method_eval.specs.declared.halt.Halt.{Halt}
 use Rattle.method_eval.specs.declared.halt.Halt.TheVariants.{Stopped, NoMemory}
 use Rattle.method_eval.specs.declared.view.Ran.{Ran}
 use Rattle.method_eval.specs.declared.view.Ran.TheVariants.{Done, Need, NeedName}
-use Rattle.paused_defs.specs.Due.{due}
-use Rattle.paused_defs.specs.Reaches.{Reaches, over, whole}
-use Rattle.paused_defs.specs.Resume.{Left}
-use Rattle.paused_defs.specs.declared.frames.Doing.{Doing}
-use Rattle.paused_defs.specs.declared.frames.Doing.TheVariants as doing
-use Rattle.paused_defs.specs.declared.frames.Frame.{Frame}
+use Rattle.lang_small_steps.specs.Due.{due}
+use Rattle.lang_small_steps.specs.Reaches.{Reaches, over, whole}
+use Rattle.lang_small_steps.specs.Resume.{Left}
+use Rattle.lang_small_steps.specs.declared.frames.Doing.{Doing}
+use Rattle.lang_small_steps.specs.declared.frames.Doing.TheVariants as doing
+use Rattle.lang_small_steps.specs.declared.frames.Frame.{Frame}
 use Rattle.paused_eval.specs.declared.came.Came.{Came}
 use Rattle.paused_eval.specs.declared.came.Came.TheVariants as came
 use Rattle.paused_eval.specs.declared.came.Came.TheVariants.{Ended, Faulted}

@@ -3,7 +3,7 @@
 ghost use Rattle.std.specs.Prelude.{◌≡◌, ◌++◌, ℕ, List, OnOk};
 ghost use Rattle.class_defs.specs.declared.statements.Stmt.{Stmt};
 ghost use Rattle.method_eval.specs.Names.{Names};
-ghost use Rattle.paused_defs.specs.Methods.{class_methods};
+ghost use Rattle.lang_small_steps.specs.Methods.{class_methods};
 ghost use Rattle.paused_eval.specs.Copies.{Keeps, Tied, at_hand, whole_state};
 ghost use Rattle.paused_eval.specs.Counted.{surplus};
 ghost use Rattle.paused_eval.specs.Direct as spec;
@@ -18,8 +18,8 @@ use crate::direct_statements::execute;
 use crate::unwound::{Frames, Unwound};
 use class_defs::{Flow, Machine, Stop};
 use client_cache::Cache;
+use lang_small_steps::{Doing, Frame, Stack};
 use method_eval::{Halt, Program};
-use paused_defs::{Doing, Frame, Stack};
 use std::sync::ledger::Ledger;
 use thor_value::{NoMemory, Value};
 

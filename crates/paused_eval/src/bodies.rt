@@ -1,11 +1,11 @@
 ghost use Rattle.std.specs.Prelude.{◌≡◌, option_map, IfSome};
 ghost use Rattle.std.specs.Option.{option_copied};
 ghost use Rattle.class_defs.specs.Types.{method_of};
-ghost use Rattle.paused_defs.specs.Methods.{class_methods};
-ghost use Rattle.paused_defs.specs.Typed.{IsTyped};
+ghost use Rattle.lang_small_steps.specs.Methods.{class_methods};
+ghost use Rattle.lang_small_steps.specs.Typed.{IsTyped};
 
+use lang_small_steps::{ClassMethods, SharedMethod, shared_method};
 use method_eval::Program;
-use paused_defs::{ClassMethods, SharedMethod, shared_method};
 use std::sync::ledger::Ledger;
 use thor_value::StepCount;
 

@@ -4,11 +4,11 @@
 ghost use Rattle.std.specs.Prelude.{◌≡◌, ◌<◌, map, None, IfOk};
 ghost use Rattle.class_defs.specs.Types.{method_of};
 ghost use Rattle.class_defs.specs.declared.expressions.Expr.{out-Expr};
-ghost use Rattle.paused_defs.specs.Methods.{class_methods};
-ghost use Rattle.paused_defs.specs.Plain.{plain};
-ghost use Rattle.paused_defs.specs.Reaches.{over};
-ghost use Rattle.paused_defs.specs.Resume as small;
-ghost use Rattle.paused_defs.specs.Typed.{IsTyped};
+ghost use Rattle.lang_small_steps.specs.Methods.{class_methods};
+ghost use Rattle.lang_small_steps.specs.Plain.{plain};
+ghost use Rattle.lang_small_steps.specs.Reaches.{over};
+ghost use Rattle.lang_small_steps.specs.Resume as small;
+ghost use Rattle.lang_small_steps.specs.Typed.{IsTyped};
 ghost use Rattle.paused_eval.specs.Copies.{Keeps, Tied, state};
 ghost use Rattle.paused_eval.specs.Counted.{surplus};
 ghost use Rattle.paused_eval.specs.Direct as spec;
@@ -29,8 +29,8 @@ use class_defs::{
     DEPTH_LIMIT, ExprType, Machine, Operator, Receiver, STEP_LIMIT, combined, number,
 };
 use client_cache::Cache;
+use lang_small_steps::{ExprNode, ExprNodes, Shared, SharedExprs, SharedMethod};
 use method_eval::{Program, named_value, owners_at};
-use paused_defs::{ExprNode, ExprNodes, Shared, SharedExprs, SharedMethod};
 use std::mem;
 use std::sync::ledger::Ledger;
 use thor_value::{Fault, NoMemory, Oref, Text, Value, Values};

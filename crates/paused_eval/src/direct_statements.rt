@@ -2,9 +2,9 @@
 
 ghost use Rattle.std.specs.Prelude.{◌≡◌, map};
 ghost use Rattle.class_defs.specs.declared.statements.Stmt.{out-Stmt};
-ghost use Rattle.paused_defs.specs.Methods.{class_methods};
-ghost use Rattle.paused_defs.specs.Plain.{plain, plain_stmt};
-ghost use Rattle.paused_defs.specs.declared.frames.Frame.TheVariants as frame;
+ghost use Rattle.lang_small_steps.specs.Methods.{class_methods};
+ghost use Rattle.lang_small_steps.specs.Plain.{plain, plain_stmt};
+ghost use Rattle.lang_small_steps.specs.declared.frames.Frame.TheVariants as frame;
 ghost use Rattle.paused_eval.specs.Copies.{Keeps, Tied, state};
 ghost use Rattle.paused_eval.specs.Counted.{surplus};
 ghost use Rattle.paused_eval.specs.Direct as spec;
@@ -21,8 +21,8 @@ use crate::waiting::{
 };
 use class_defs::{Flow, Machine, STEP_LIMIT, number};
 use client_cache::Cache;
+use lang_small_steps::{ExprNode, Shared, SharedBlock, StmtNode, StmtNodes};
 use method_eval::{Program, assign_local, declare, holds, type_named};
-use paused_defs::{ExprNode, Shared, SharedBlock, StmtNode, StmtNodes};
 use std::sync::ledger::Ledger;
 use thor_value::{NoMemory, Value};
 

@@ -9,8 +9,8 @@ ghost use Rattle.class_defs.specs.declared.store.Object.{Object};
 ghost use Rattle.class_defs.specs.declared.store.Schema.{Schema};
 ghost use Rattle.client_cache.specs.Copies.{Contents};
 ghost use Rattle.method_eval.specs.Names.{Names, grant};
-ghost use Rattle.paused_defs.specs.Reaches.{Agree};
-ghost use Rattle.paused_defs.specs.Resume.{Left};
+ghost use Rattle.lang_small_steps.specs.Reaches.{Agree};
+ghost use Rattle.lang_small_steps.specs.Resume.{Left};
 ghost use Rattle.paused_eval.specs.Copies.{state_with};
 ghost use Rattle.paused_eval.specs.Standing.{Stands, newly_granted};
 

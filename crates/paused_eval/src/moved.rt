@@ -1,4 +1,4 @@
-use paused_defs::Doing;
+use lang_small_steps::Doing;
 use thor_value::{Oref, Orefs};
 
 /// What a small step came to.

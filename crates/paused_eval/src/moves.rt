@@ -6,20 +6,20 @@ ghost use Rattle.class_defs.specs.declared.expressions.Expr.{out-Expr};
 ghost use Rattle.class_defs.specs.declared.statements.Stmt.{out-Stmt};
 ghost use Rattle.class_defs.specs.declared.machine.Machine.{Machine};
 ghost use Rattle.class_defs.specs.declared.store.Object.{Object};
-ghost use Rattle.paused_defs.specs.Plain.{plain, plain_stmt};
-ghost use Rattle.paused_defs.specs.Reaches.{over};
-ghost use Rattle.paused_defs.specs.Resume as spec;
-ghost use Rattle.paused_defs.specs.Resume.{ended, given};
-ghost use Rattle.paused_defs.specs.declared.frames.Frame.{Frame};
+ghost use Rattle.lang_small_steps.specs.Plain.{plain, plain_stmt};
+ghost use Rattle.lang_small_steps.specs.Reaches.{over};
+ghost use Rattle.lang_small_steps.specs.Resume as spec;
+ghost use Rattle.lang_small_steps.specs.Resume.{ended, given};
+ghost use Rattle.lang_small_steps.specs.declared.frames.Frame.{Frame};
 ghost use Rattle.paused_eval.specs.Begins.{first_part, waiting_frame};
 ghost use Rattle.paused_eval.specs.Counted.{surplus};
 ghost use Rattle.paused_eval.specs.Does.{Holds, Moves, Stepped, tested};
 
 use class_defs::{ExprType, Flow, Machine, STEP_LIMIT, beginning};
-use method_eval::{Halt, Program, fault, holds, type_named};
-use paused_defs::{
+use lang_small_steps::{
     Doing, ExprNode, Frame, Shared, SharedBlock, SharedExpr, SharedExprs, Stack, StmtNode,
 };
+use method_eval::{Halt, Program, fault, holds, type_named};
 use std::sync::ledger::Ledger;
 use thor_value::{Fault, NoMemory, StepCount, Text, Value, Values};
 

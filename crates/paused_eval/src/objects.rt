@@ -7,7 +7,7 @@ ghost use Rattle.class_defs.specs.Stored.{bare};
 ghost use Rattle.class_defs.specs.Types.{fields_of, typed};
 ghost use Rattle.client_cache.specs.Copies.{seen as seen_in};
 ghost use Rattle.method_eval.specs.Does.{Does};
-ghost use Rattle.paused_defs.specs.Reaches.{over};
+ghost use Rattle.lang_small_steps.specs.Reaches.{over};
 ghost use Rattle.paused_eval.specs.Copies.{Keeps, Tied, at_hand, seen_now, state, whole_state, written_in};
 ghost use Rattle.paused_eval.specs.Does.{AtNeed, Holds};
 ghost use Rattle.paused_eval.specs.FromPages.{FromPages};

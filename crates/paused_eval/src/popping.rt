@@ -2,9 +2,9 @@ ghost use Rattle.std.specs.Prelude.{◌≡◌, true, false, Option, None, IfOk};
 ghost use Rattle.std.specs.Option.{option_copied};
 ghost use Rattle.thor_value.specs.declared.names.Oref.{Oref};
 ghost use Rattle.class_defs.specs.declared.store.Object.{Object};
-ghost use Rattle.paused_defs.specs.Reaches.{over};
-ghost use Rattle.paused_defs.specs.Resume as spec;
-ghost use Rattle.paused_defs.specs.Resume.{taken};
+ghost use Rattle.lang_small_steps.specs.Reaches.{over};
+ghost use Rattle.lang_small_steps.specs.Resume as spec;
+ghost use Rattle.lang_small_steps.specs.Resume.{taken};
 ghost use Rattle.paused_eval.specs.Counted.{surplus};
 ghost use Rattle.paused_eval.specs.Does.{Holds, Moves, field_assigned, in_block, in_statement};
 
@@ -12,8 +12,8 @@ use crate::moves::{
     collect, ended, evaluate_for, give, given, go_on, open_block, pass, tested, turned,
 };
 use class_defs::{Flow, Locals, Machine, Receiver, combined, number};
+use lang_small_steps::{Doing, Frame, Shared, Stack};
 use method_eval::{Halt, Program, assign_local, declare, holds};
-use paused_defs::{Doing, Frame, Shared, Stack};
 use std::sync::ledger::Ledger;
 use thor_value::{NoMemory, StepCount, Text, Value, Values};
 

@@ -2,7 +2,7 @@ ghost use Rattle.std.specs.Prelude.{◌≡◌, List, IfOk, OnOk};
 ghost use Rattle.thor_value.specs.FiniteMap.{empty};
 ghost use Rattle.thor_value.specs.declared.names.Oref.{Oref};
 ghost use Rattle.class_defs.specs.declared.statements.Stmt.{Stmt};
-ghost use Rattle.paused_defs.specs.Methods.{class_methods};
+ghost use Rattle.lang_small_steps.specs.Methods.{class_methods};
 ghost use Rattle.paused_eval.specs.Copies.{Keeps, Tied, at_hand, state_with, whole_state};
 ghost use Rattle.paused_eval.specs.Counted.{surplus};
 ghost use Rattle.paused_eval.specs.FromPages.{FromPages};
@@ -15,8 +15,8 @@ use crate::moved::Moved;
 use crate::small::small;
 use class_defs::{Flow, Machine, Stop};
 use client_cache::Cache;
+use lang_small_steps::{Doing, Frame, Stack};
 use method_eval::{Halt, Names, Program};
-use paused_defs::{Doing, Frame, Stack};
 use std::sync::ledger::Ledger;
 use thor_value::{Fault, NoMemory};
 

@@ -5,17 +5,17 @@ ghost use Rattle.class_defs.specs.Steps as steps;
 ghost use Rattle.class_defs.specs.Steps.{step};
 ghost use Rattle.class_defs.specs.declared.expressions.Expr.{out-Expr};
 ghost use Rattle.class_defs.specs.declared.store.Object.{Object};
-ghost use Rattle.paused_defs.specs.Plain.{plain};
-ghost use Rattle.paused_defs.specs.Reaches.{over};
-ghost use Rattle.paused_defs.specs.Resume as spec;
+ghost use Rattle.lang_small_steps.specs.Plain.{plain};
+ghost use Rattle.lang_small_steps.specs.Reaches.{over};
+ghost use Rattle.lang_small_steps.specs.Resume as spec;
 ghost use Rattle.paused_eval.specs.Counted.{surplus};
 ghost use Rattle.paused_eval.specs.Does.{Holds, Moves, field_read};
 
 use crate::moves::{give, go_into, go_into_for, take_step};
 use crate::types::type_of;
 use class_defs::{At, ExprType, Machine, Operator};
+use lang_small_steps::{Doing, ExprNode, ExprNodes, Frame, Shared, SharedExpr, SharedExprs, Stack};
 use method_eval::{Halt, Program, named_value};
-use paused_defs::{Doing, ExprNode, ExprNodes, Frame, Shared, SharedExpr, SharedExprs, Stack};
 use std::sync::ledger::Ledger;
 use thor_value::{NoMemory, StepCount, Text, Value};
 

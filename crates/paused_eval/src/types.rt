@@ -1,11 +1,11 @@
 ghost use Rattle.std.specs.Prelude.{◌≡◌};
 ghost use Rattle.class_defs.specs.Objects.{scope_at};
 ghost use Rattle.class_defs.specs.Types.{class_named, class_or_untold, type_of};
-ghost use Rattle.paused_defs.specs.Plain.{plain};
+ghost use Rattle.lang_small_steps.specs.Plain.{plain};
 
 use class_defs::{ExprType, Machine};
+use lang_small_steps::ExprNode;
 use method_eval::{Program, field_type, name_type, result_type};
-use paused_defs::ExprNode;
 use thor_value::Text;
 
 /// The type of the objects of a class with this name.

@@ -1,6 +1,6 @@
 ghost use Rattle.std.specs.Prelude.{◌≡◌};
 
-use paused_defs::{Doing, Frame};
+use lang_small_steps::{Doing, Frame};
 use thor_value::{Boxed, Fault, NoMemory, Sequence};
 
 /// Frames, the innermost first.

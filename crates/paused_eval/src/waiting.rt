@@ -3,18 +3,18 @@
 
 ghost use Rattle.std.specs.Prelude.{◌≡◌, [], ◌∷◌, map, Err, IfOk};
 ghost use Rattle.class_defs.specs.declared.statements.Stmt.{out-Stmt};
-ghost use Rattle.paused_defs.specs.Plain.{plain, plain_stmt};
+ghost use Rattle.lang_small_steps.specs.Plain.{plain, plain_stmt};
 ghost use Rattle.paused_eval.specs.Begins.{waiting_frame};
 ghost use Rattle.paused_eval.specs.Direct.{IsLeft, IsLater, LaterBehind, Waits};
 
 use crate::moves::waiting_frame;
 use crate::unwound::{Frames, Unwound};
 use class_defs::{At, ExprType, Flow, Locals, Operator, Receiver, Stop};
-use method_eval::{Halt, Program};
-use paused_defs::{
+use lang_small_steps::{
     Doing, ExprNode, ExprNodes, Frame, Shared, SharedBlock, SharedExpr, SharedExprs, SharedStmt,
     StmtNode, StmtNodes,
 };
+use method_eval::{Halt, Program};
 use std::alloc::Global;
 use thor_value::{Boxed, Fault, NoMemory, Oref, Text, Value, Values};
 

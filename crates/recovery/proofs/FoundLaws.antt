@@ -2,9 +2,9 @@
 use Rattle.std.proofs.Common.{◌≡◌, [], List, None, Ok, Err, Option, Result, Some, ap, false, inr, refl, subst, sym, IfOk, IfSome, ℕ, ◌∙◌}
 use Rattle.std.specs.Option.{IsSome, option_and_then, option_map, option_map_or}
 use Rattle.disk_trait.specs.Disks.{Disks}
-use Rattle.held_state.specs.Keeps.{IsUnread, Keeps}
-use Rattle.held_state.specs.Said.{said}
-use Rattle.log_bytes.specs.declared.state.State.{State}
+use Rattle.repo_state.specs.Keeps.{IsUnread, Keeps}
+use Rattle.repo_state.specs.Said.{said}
+use Rattle.log_codec.specs.declared.state.State.{State}
 use Rattle.log_frame.specs.Log.{Opened, Place, Stands}
 use Rattle.page_format.specs.Pages.{Contents}
 use Rattle.page_store.specs.Sides.{ReachesSides}
@@ -14,9 +14,9 @@ use Rattle.recovery.specs.Found.{IsRecovered}
 use Rattle.recovery.specs.Reopening.{reopens, reopens_in}
 use Rattle.recovery.specs.declared.fault.RecoverFault.{RecoverFault}
 use Rattle.recovery.specs.declared.recovered.Recovered.{Recovered}
-use Rattle.state_log.specs.Holds.{Holds}
-use Rattle.state_log.specs.Opening.{Found, log_of}
-use Rattle.state_log.specs.Recovered.{log_in, stands, state_in}
+use Rattle.commit_log.specs.Holds.{Holds}
+use Rattle.commit_log.specs.Opening.{Found, log_of}
+use Rattle.commit_log.specs.Recovered.{log_in, stands, state_in}
 
 pub if_ok : {T E : Type 0} (A B : T → Type 0) (r : Result T E) → ((x : T) → A x → B x) → IfOk r A → IfOk r B
 if_ok A B (Ok x) f p = f x p

@@ -4,16 +4,16 @@ use Rattle.std.proofs.lemmas.Bool.Decides.{nat_tests}
 use Rattle.std.specs.List.{fold}
 use Rattle.std.specs.Option.{IfSome, IsSome, option_and_then}
 use Rattle.std.specs.Prelude.{IsTrue, slice_get, take}
-use Rattle.log_bytes.specs.Checkpoint.{state_format}
-use Rattle.log_bytes.specs.Format.{value_of}
-use Rattle.log_bytes.specs.Grammar.{body_format}
-use Rattle.log_bytes.specs.declared.body.Body.TheVariants.{Entry as AnEntry}
-use Rattle.log_bytes.specs.declared.body.Body.{Body}
-use Rattle.log_bytes.specs.declared.state.State.{State}
+use Rattle.log_codec.specs.Checkpoint.{state_format}
+use Rattle.log_codec.specs.Format.{value_of}
+use Rattle.log_codec.specs.Grammar.{body_format}
+use Rattle.log_codec.specs.declared.body.Body.TheVariants.{Entry as AnEntry}
+use Rattle.log_codec.specs.declared.body.Body.{Body}
+use Rattle.log_codec.specs.declared.state.State.{State}
 use Rattle.log_frame.specs.Log.{Opened}
-use Rattle.held_state.specs.Said.{said}
-use Rattle.state_log.specs.Opening.{Found, log_of}
-use Rattle.state_log.specs.Recovered.{after, behind, can_follow, is_whole, next, replayed, sequence_end, stands, state_in, whole}
+use Rattle.repo_state.specs.Said.{said}
+use Rattle.commit_log.specs.Opening.{Found, log_of}
+use Rattle.commit_log.specs.Recovered.{after, behind, can_follow, is_whole, next, replayed, sequence_end, stands, state_in, whole}
 use Rattle.recovery.proofs.Replayed.{replayed_is}
 use Rattle.recovery.specs.Damage.{CantHold, CantPut, Fault, IsBroken, IsNoBody, IsUnheld, NoBody, NoCheckpoint, NoSequence, put_on}
 

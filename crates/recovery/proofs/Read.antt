@@ -5,11 +5,11 @@ use Rattle.std.proofs.lemmas.List.Sums.{sum_by_push}
 use Rattle.std.proofs.lemmas.Option.{slice_get-get_or}
 use Rattle.std.specs.List.{AllByRecursion}
 use Rattle.std.specs.Prelude.{sum_by}
-use Rattle.log_bytes.specs.Checkpoint.{StateFits, state_format}
-use Rattle.log_bytes.specs.Format.{IsSpelled, value_of}
-use Rattle.log_bytes.specs.Grammar.{BodyFits, body_format}
-use Rattle.log_bytes.specs.declared.body.Body.{Body}
-use Rattle.log_bytes.specs.declared.state.State.{State}
+use Rattle.log_codec.specs.Checkpoint.{StateFits, state_format}
+use Rattle.log_codec.specs.Format.{IsSpelled, value_of}
+use Rattle.log_codec.specs.Grammar.{BodyFits, body_format}
+use Rattle.log_codec.specs.declared.body.Body.{Body}
+use Rattle.log_codec.specs.declared.state.State.{State}
 use Rattle.recovery.specs.Damage.{IsNoBody, gate_behind, told_place}
 
 pub state_that_is_spelled : (bytes : List ℕ) (s : State) → IsSpelled state_format bytes s → StateFits s

@@ -4,19 +4,19 @@ use Rattle.std.proofs.lemmas.Map.Made.{is_some-lookup}
 use Rattle.std.specs.BTreeMap.{is_at}
 use Rattle.std.specs.List.{fold, list_any}
 use Rattle.std.specs.Option.{is_some, option_and_then}
-use Rattle.held_state.specs.Keeps.{Keeps}
-use Rattle.held_state.specs.Said.{said}
-use Rattle.held_state.specs.declared.held.Held.{Held}
-use Rattle.log_bytes.specs.Checkpoint.{state_format}
-use Rattle.log_bytes.specs.Format.{value_of}
-use Rattle.log_bytes.specs.Grammar.{body_format}
-use Rattle.log_bytes.specs.declared.body.Body.{Body}
-use Rattle.log_bytes.specs.declared.state.State.{State}
+use Rattle.repo_state.specs.Keeps.{Keeps}
+use Rattle.repo_state.specs.Said.{said}
+use Rattle.repo_state.specs.declared.held.Held.{Held}
+use Rattle.log_codec.specs.Checkpoint.{state_format}
+use Rattle.log_codec.specs.Format.{value_of}
+use Rattle.log_codec.specs.Grammar.{body_format}
+use Rattle.log_codec.specs.declared.body.Body.{Body}
+use Rattle.log_codec.specs.declared.state.State.{State}
 use Rattle.log_frame.specs.Log.{Opened}
 use Rattle.recovery.proofs.Read.{map_push, taken_next}
 use Rattle.recovery.specs.Damage.{put_on}
 use Rattle.recovery.specs.Reopening.{prepares_kept, prepares_kept_behind, put_read, reopened, reopens_in}
-use Rattle.state_log.specs.Recovered.{whole}
+use Rattle.commit_log.specs.Recovered.{whole}
 use Rattle.thor_value.specs.FiniteMap.{get}
 use Rattle.thor_value.specs.Names.{same_ts, ts_cmp}
 use Rattle.thor_value.specs.declared.names.Ts.{Ts}

@@ -5,17 +5,17 @@ use Rattle.std.proofs.lemmas.List.Sums.{fold_push}
 use Rattle.std.specs.List.{fold}
 use Rattle.std.specs.Option.{option_and_then}
 use Rattle.std.specs.Prelude.{IsTrue}
-use Rattle.held_state.proofs.Unfit.{spelled_whole}
-use Rattle.held_state.specs.Keeps.{Keeps}
-use Rattle.held_state.specs.Said.{said}
-use Rattle.held_state.specs.declared.held.Held.{Held}
-use Rattle.log_bytes.specs.Checkpoint.{state_format}
-use Rattle.log_bytes.specs.Format.{value_of}
-use Rattle.log_bytes.specs.Grammar.{body_format}
-use Rattle.log_bytes.specs.declared.body.Body.{Body}
-use Rattle.log_bytes.specs.declared.state.State.{State}
+use Rattle.repo_state.proofs.Unfit.{spelled_whole}
+use Rattle.repo_state.specs.Keeps.{Keeps}
+use Rattle.repo_state.specs.Said.{said}
+use Rattle.repo_state.specs.declared.held.Held.{Held}
+use Rattle.log_codec.specs.Checkpoint.{state_format}
+use Rattle.log_codec.specs.Format.{value_of}
+use Rattle.log_codec.specs.Grammar.{body_format}
+use Rattle.log_codec.specs.declared.body.Body.{Body}
+use Rattle.log_codec.specs.declared.state.State.{State}
 use Rattle.log_frame.specs.Log.{Opened}
-use Rattle.state_log.specs.Recovered.{after, behind, can_follow, next, replayed, state_in, whole}
+use Rattle.commit_log.specs.Recovered.{after, behind, can_follow, next, replayed, state_in, whole}
 use Rattle.recovery.specs.Damage.{put_on}
 use Rattle.recovery.proofs.Read.{taken_next}
 

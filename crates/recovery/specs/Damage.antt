@@ -3,21 +3,21 @@
 use Rattle.std.specs.List.{fold}
 use Rattle.std.specs.Option.{IfSome, option_and_then}
 use Rattle.std.specs.Prelude.{IsTrue, List, None, Option, Some, false, length, map, min, slice_get, sum_by, take, ℕ, ◌+◌, ◌-◌, ◌<◌, ◌^◌, ◌≡◌, ◌≤◌, ◌⊎◌}
-use Rattle.commit_log.specs.declared.entry.Entry.{Entry}
-use Rattle.held_state.specs.Entering.{can_enter}
-use Rattle.held_state.specs.Keeps.{Keeps}
-use Rattle.held_state.specs.Said.{said}
-use Rattle.held_state.specs.Unfit.{IsUnfit}
-use Rattle.held_state.specs.declared.held.Held.{Held}
-use Rattle.log_bytes.specs.Checkpoint.{state_format}
-use Rattle.log_bytes.specs.Format.{value_of}
-use Rattle.log_bytes.specs.Grammar.{body_format}
-use Rattle.log_bytes.specs.declared.body.Body.TheVariants.{Entry as AnEntry}
-use Rattle.log_bytes.specs.declared.body.Body.{Body}
-use Rattle.log_bytes.specs.declared.state.State.{State}
+use Rattle.log_entries.specs.declared.entry.Entry.{Entry}
+use Rattle.repo_state.specs.Entering.{can_enter}
+use Rattle.repo_state.specs.Keeps.{Keeps}
+use Rattle.repo_state.specs.Said.{said}
+use Rattle.repo_state.specs.Unfit.{IsUnfit}
+use Rattle.repo_state.specs.declared.held.Held.{Held}
+use Rattle.log_codec.specs.Checkpoint.{state_format}
+use Rattle.log_codec.specs.Format.{value_of}
+use Rattle.log_codec.specs.Grammar.{body_format}
+use Rattle.log_codec.specs.declared.body.Body.TheVariants.{Entry as AnEntry}
+use Rattle.log_codec.specs.declared.body.Body.{Body}
+use Rattle.log_codec.specs.declared.state.State.{State}
 use Rattle.log_frame.specs.Log.{Opened, Stands}
-use Rattle.state_log.specs.Opening.{IsTorn}
-use Rattle.state_log.specs.Recovered.{is_whole, next, sequence_end, whole}
+use Rattle.commit_log.specs.Opening.{IsTorn}
+use Rattle.commit_log.specs.Recovered.{is_whole, next, sequence_end, whole}
 
 -- the place of the gate behind some records of a log with this head
 abbrev pub gate_behind : ℕ → List (List ℕ) → ℕ

@@ -1,12 +1,12 @@
 -- What is made of a log that was found.
 use Rattle.std.specs.Prelude.{None, Option, Some, ◌≡◌}
-use Rattle.held_state.specs.Keeps.{IsUnread, Keeps}
-use Rattle.held_state.specs.Said.{said}
+use Rattle.repo_state.specs.Keeps.{IsUnread, Keeps}
+use Rattle.repo_state.specs.Said.{said}
 use Rattle.recovery.specs.declared.recovered.Recovered.{Recovered}
 use Rattle.recovery.specs.Damage.{Counted}
 use Rattle.recovery.specs.Reopening.{reopens_in}
-use Rattle.state_log.specs.Opening.{Found, log_of}
-use Rattle.state_log.specs.Recovered.{state_in}
+use Rattle.commit_log.specs.Opening.{Found, log_of}
+use Rattle.commit_log.specs.Recovered.{state_in}
 
 -- the log with its state, or nothing
 abbrev pub IsRecovered : Option Found → Option Recovered → Type 0

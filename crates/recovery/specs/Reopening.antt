@@ -2,16 +2,16 @@
 use Rattle.std.specs.List.{list_any}
 use Rattle.std.specs.Option.{option_and_then, option_map_or}
 use Rattle.std.specs.Prelude.{Bool, List, None, Option, Some, [], false, map, ℕ, ◌||◌, ◌∷◌}
-use Rattle.commit_log.specs.declared.entry.Entry.TheVariants.{Decided, Finished, Life, One, Prepared, Upgraded}
-use Rattle.commit_log.specs.declared.entry.Entry.{Entry}
-use Rattle.log_bytes.specs.Checkpoint.{state_format}
-use Rattle.log_bytes.specs.Format.{value_of}
-use Rattle.log_bytes.specs.Grammar.{body_format}
-use Rattle.log_bytes.specs.declared.body.Body.TheVariants.{Entry as AnEntry, Installed}
-use Rattle.log_bytes.specs.declared.body.Body.{Body}
-use Rattle.log_bytes.specs.declared.state.State.{State}
+use Rattle.log_entries.specs.declared.entry.Entry.TheVariants.{Decided, Finished, Life, One, Prepared, Upgraded}
+use Rattle.log_entries.specs.declared.entry.Entry.{Entry}
+use Rattle.log_codec.specs.Checkpoint.{state_format}
+use Rattle.log_codec.specs.Format.{value_of}
+use Rattle.log_codec.specs.Grammar.{body_format}
+use Rattle.log_codec.specs.declared.body.Body.TheVariants.{Entry as AnEntry, Installed}
+use Rattle.log_codec.specs.declared.body.Body.{Body}
+use Rattle.log_codec.specs.declared.state.State.{State}
 use Rattle.log_frame.specs.Log.{Opened}
-use Rattle.state_log.specs.Recovered.{log_in, next, whole}
+use Rattle.commit_log.specs.Recovered.{log_in, next, whole}
 use Rattle.thor_value.specs.Names.{same_ts}
 
 -- an entry prepares a transaction on which a decision is kept

@@ -2,14 +2,14 @@
 
 ghost use Rattle.std.specs.List.{AllByRecursion};
 ghost use Rattle.std.specs.Prelude.{◌≡◌, ◌+◌, ◌-◌, ◌^◌, IfOk, IsErrOf, None, Some, length, map, min, ℕ};
-ghost use Rattle.log_bytes.specs.Checkpoint.{StateFits, state_format};
-ghost use Rattle.log_bytes.specs.Format.{value_of};
-ghost use Rattle.log_bytes.specs.Grammar.{BodyFits, body_format};
+ghost use Rattle.log_codec.specs.Checkpoint.{StateFits, state_format};
+ghost use Rattle.log_codec.specs.Format.{value_of};
+ghost use Rattle.log_codec.specs.Grammar.{BodyFits, body_format};
 ghost use Rattle.recovery.specs.Damage.{IsNoBody, first_gate, told_place};
 ghost use Rattle.recovery.specs.declared.fault.RecoverFault.TheVariants.{Damaged, Failed};
 
 use crate::fault::RecoverFault;
-use log_bytes::{Body, BodyFault, State, read_body, read_state};
+use log_codec::{Body, BodyFault, State, read_body, read_state};
 use std::alloc::Global;
 use thor_value::{Sequence, Text};
 

@@ -2,7 +2,7 @@ ghost use Rattle.std.specs.Prelude.{◌≡◌};
 ghost use Rattle.recovery.specs.Faults.{found_fault};
 ghost use Rattle.recovery.specs.declared.fault.RecoverFault.TheVariants.{NoMemory as OutOfMemory};
 
-use state_log::FindFault;
+use commit_log::FindFault;
 use std::fmt;
 use thor_value::NoMemory;
 

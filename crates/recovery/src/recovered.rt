@@ -1,5 +1,5 @@
-use held_state::HeldState;
-use state_log::CommitLog;
+use commit_log::CommitLog;
+use repo_state::HeldState;
 
 /// A repository as its logs tell it.
 #[derive(Drop)]

@@ -3,15 +3,15 @@ ghost use Rattle.std.specs.Option.{IfSome, IsSome, option_and_then, option_map};
 ghost use Rattle.std.specs.Prelude.{◌≡◌, ◌<◌, ◌^◌, ◌≤◌, ◌⊎◌, Err, IfOk, IsErrOf, List, None, Ok, OnOk, Some, false, map, ℕ, ◌||◌};
 ghost use Rattle.disk_trait.specs.AllDisks.{AllSettled, LeavesAll, MayLeaveAll, NoFault, ReadsAs, SameContent};
 ghost use Rattle.disk_trait.specs.Disks.{Disks, Rose};
-ghost use Rattle.commit_log.specs.declared.entry.Entry.{Entry as AnyEntry};
-ghost use Rattle.held_state.specs.Entering.{can_enter};
-ghost use Rattle.held_state.specs.Keeps.{IsUnread, Keeps};
-ghost use Rattle.held_state.specs.Said.{said};
-ghost use Rattle.held_state.specs.declared.fault.HoldFault.TheVariants.{Unfit};
-ghost use Rattle.log_bytes.specs.Checkpoint.{StateFits};
-ghost use Rattle.log_bytes.specs.Grammar.{BodyFits};
-ghost use Rattle.log_bytes.specs.declared.body.Body.TheVariants.{Entry as AnEntry};
-ghost use Rattle.log_bytes.specs.declared.state.State.{State as AState};
+ghost use Rattle.log_entries.specs.declared.entry.Entry.{Entry as AnyEntry};
+ghost use Rattle.repo_state.specs.Entering.{can_enter};
+ghost use Rattle.repo_state.specs.Keeps.{IsUnread, Keeps};
+ghost use Rattle.repo_state.specs.Said.{said};
+ghost use Rattle.repo_state.specs.declared.fault.HoldFault.TheVariants.{Unfit};
+ghost use Rattle.log_codec.specs.Checkpoint.{StateFits};
+ghost use Rattle.log_codec.specs.Grammar.{BodyFits};
+ghost use Rattle.log_codec.specs.declared.body.Body.TheVariants.{Entry as AnEntry};
+ghost use Rattle.log_codec.specs.declared.state.State.{State as AState};
 ghost use Rattle.log_frame.specs.Log.{Stands};
 ghost use Rattle.page_store.specs.Sides.{ReachesSides};
 ghost use Rattle.page_store.specs.Store.{Agrees};
@@ -19,19 +19,19 @@ ghost use Rattle.recovery.specs.Damage.{CantPut, Counted, Fault, IsBroken, IsDam
 ghost use Rattle.recovery.specs.Found.{IsRecovered};
 ghost use Rattle.recovery.specs.Reopening.{prepares_kept, reopened, reopens, reopens_in};
 ghost use Rattle.recovery.specs.declared.fault.RecoverFault.TheVariants.{Damaged, Failed, NoMemory as OutOfMemory};
-ghost use Rattle.state_log.specs.Holds.{Holds};
-ghost use Rattle.state_log.specs.Opening.{IsFresh, IsTorn, log_of};
-ghost use Rattle.state_log.specs.Recovered.{next, stands, state_in, whole};
+ghost use Rattle.commit_log.specs.Holds.{Holds};
+ghost use Rattle.commit_log.specs.Opening.{IsFresh, IsTorn, log_of};
+ghost use Rattle.commit_log.specs.Recovered.{next, stands, state_in, whole};
 
 use crate::bodies::{first_gate, read_bodies, read_head};
 use crate::fault::{RecoverFault, found_fault};
 use crate::recovered::Recovered;
-use commit_log::Entry;
+use commit_log::{CommitLog, open_logs};
 use disk_trait::Parts;
-use held_state::{HeldState, HoldFault};
-use log_bytes::{Body, State};
+use log_codec::{Body, State};
+use log_entries::Entry;
 use log_frame::Records;
-use state_log::{CommitLog, open_logs};
+use repo_state::{HeldState, HoldFault};
 use std::alloc::Global;
 use thor_value::{Sequence, Text};
 
@@ -240,7 +240,7 @@ fn prepares_kept(held: &HeldState, body: &Body) -> bool
 }
 
 // Puts one record behind a state.
-#[tactic(auto, using(held_state::proofs::Limits::entered_limit, crate::proofs::Replayed::next_is))]
+#[tactic(auto, using(repo_state::proofs::Limits::entered_limit, crate::proofs::Replayed::next_is))]
 fn put_behind(held: &mut HeldState, body: &Body) -> Result<(), HoldFault>
     requires fits { BodyFits body.now }
     requires keeps { Keeps held.old }

@@ -1,15 +1,15 @@
 -- What sessions are told where objects have moved.
-use Rattle.commit_log.specs.declared.entry.Entry.{Entry}
-use Rattle.held_state.specs.declared.held.Held.{Held}
-use Rattle.live_sessions.specs.Sessions.{Kept}
+use Rattle.log_entries.specs.declared.entry.Entry.{Entry}
+use Rattle.repo_state.specs.declared.held.Held.{Held}
+use Rattle.repo_sessions.specs.Sessions.{Kept}
 use Rattle.repo_core.specs.Behind.{MovesObjects}
 use Rattle.repo_core.specs.Moving.{MakesRoom}
 use Rattle.repo_core.specs.Shown.{Shown}
 use Rattle.repo_core.specs.Telling.{Tells}
-use Rattle.commit_log.specs.declared.entry.Entry.TheVariants.{Decided, Finished, Life, One, Prepared, Upgraded}
+use Rattle.log_entries.specs.declared.entry.Entry.TheVariants.{Decided, Finished, Life, One, Prepared, Upgraded}
 use Rattle.std.proofs.Common.{length, subst, ℕ, ◌≡◌}
-use Rattle.trace_record.specs.Recorded.{Recorded}
-use Rattle.volatile_state.specs.Volatile.{Memory}
+use Rattle.repo_trace.specs.Recorded.{Recorded}
+use Rattle.repo_volatile.specs.Volatile.{Memory}
 
 moved_tells : (h : Held) (objects : _) (K : Kept) (n : ℕ) (e : Entry) (L : Kept) → Tells (record h { objects = objects }) K n e L → Tells h K n e L
 moved_tells h objects K n (Life m) L t = t

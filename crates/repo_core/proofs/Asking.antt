@@ -3,7 +3,7 @@ use Rattle.repo_core.specs.Behind.{is_marked}
 use Rattle.repo_core.specs.Calls.{WasAsked}
 use Rattle.repo_core.specs.Shown.{Shown}
 use Rattle.std.proofs.Common.{ap, sym, true, ℕ, ◌∙◌, ◌≡◌}
-use Rattle.validation_window.specs.declared.refusal.Refusal.{Refusal}
+use Rattle.repo_refusals.specs.declared.refusal.Refusal.{Refusal}
 
 -- what is told with a mark is what was refused
 told_so : (r s w : Refusal) → (is_marked r ≡ true → r ≡ s) → is_marked w ≡ true → r ≡ w → s ≡ w

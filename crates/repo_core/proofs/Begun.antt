@@ -1,19 +1,19 @@
 -- A repository behind the Life of its opening.
 use Rattle.class_defs.specs.declared.store.Setup.{Setup}
-use Rattle.commit_log.specs.declared.entry.Entry.TheVariants.{Life}
-use Rattle.held_state.specs.Entering.{entered}
-use Rattle.held_state.specs.declared.held.Held.{Held}
-use Rattle.live_sessions.specs.Sessions.{Kept, ended, no_sessions}
+use Rattle.log_entries.specs.declared.entry.Entry.TheVariants.{Life}
+use Rattle.repo_state.specs.Entering.{entered}
+use Rattle.repo_state.specs.declared.held.Held.{Held}
+use Rattle.repo_sessions.specs.Sessions.{Kept, ended, no_sessions}
 use Rattle.repo_core.specs.Restarting.{Begins, life_behind, memory_at}
 use Rattle.repo_core.specs.Shown.{Shown}
-use Rattle.repository_laws.specs.Coming.{BeginsLife}
+use Rattle.law_repo_memory.specs.Coming.{BeginsLife}
 use Rattle.std.proofs.Common.{List, Option, Some, ap, subst, sym, ℕ, ◌+◌, ◌∙◌, ◌≡◌}
-use Rattle.store_format.specs.Pages.{HasRoots}
+use Rattle.repo_format.specs.Pages.{HasRoots}
 use Rattle.thor_value.specs.FiniteMap.{Set, empty}
 use Rattle.thor_value.specs.Names.{ts_cmp}
 use Rattle.thor_value.specs.declared.names.Ts.{Ts}
 use Rattle.validation_queue.specs.Contents.{Contents, cleared}
-use Rattle.volatile_state.specs.Volatile.{Memory}
+use Rattle.repo_volatile.specs.Volatile.{Memory}
 
 abbrev memory_of : Contents → Kept → Set ts_cmp → ℕ → Memory
 memory_of queue sessions requested drawn = record { queue = queue; sessions = sessions; requested = requested; drawn = drawn }

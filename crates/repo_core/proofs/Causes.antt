@@ -1,17 +1,17 @@
 -- Why calls are refused.
-use Rattle.commit_log.specs.declared.entry.Entry.{Entry}
+use Rattle.log_entries.specs.declared.entry.Entry.{Entry}
 use Rattle.repo_core.proofs.Refused.{if_err_on, no_fault}
 use Rattle.repo_core.specs.Behind.{is_marked}
 use Rattle.repo_core.specs.Refusing.{CanRefuse}
 use Rattle.repo_core.specs.Shown.{Shown}
-use Rattle.refusal_reasons.specs.declared.reason.Reason.TheVariants.{Gone}
-use Rattle.refusal_reasons.specs.declared.reason.Reason.{Reason}
-use Rattle.stable_store.specs.Kept.{StandsAfter, held_of, is_fault, is_up, repo_named}
-use Rattle.stable_store.specs.declared.stable.Stable.{Stable}
+use Rattle.base_reasons.specs.declared.reason.Reason.TheVariants.{Gone}
+use Rattle.base_reasons.specs.declared.reason.Reason.{Reason}
+use Rattle.repo_durable.specs.Kept.{StandsAfter, held_of, is_fault, is_up, repo_named}
+use Rattle.repo_durable.specs.declared.stable.Stable.{Stable}
 use Rattle.std.proofs.Common.{Bool, Err, Ok, Option, Result, ap, false, refl, subst, sym, true, ℕ, ◌∙◌, ◌≡◌}
 use Rattle.std.specs.Prelude.{IfErr}
-use Rattle.validation_window.specs.declared.refusal.Refusal.TheVariants as refused
-use Rattle.validation_window.specs.declared.refusal.Refusal.{Refusal}
+use Rattle.repo_refusals.specs.declared.refusal.Refusal.TheVariants as refused
+use Rattle.repo_refusals.specs.declared.refusal.Refusal.{Refusal}
 
 -- it is down
 pub why_down : (x : Shown) (A : Refusal → Type 0) (D : Type 0) (r : Refusal) → r ≡ refused.Down x.held.repo → x.is_up ≡ false → CanRefuse x A D r

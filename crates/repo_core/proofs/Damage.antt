@@ -3,16 +3,16 @@ use Rattle.disk_trait.specs.Disks.{Disks}
 use Rattle.page_store.specs.Store.{IsDamage}
 use Rattle.repo_core.specs.Refusing.{IsPageDamage}
 use Rattle.repo_core.specs.Shown.{Shown, shown}
-use Rattle.stable_store.specs.Kept.{disks_of, held_of}
-use Rattle.stable_store.specs.declared.stable.Stable.{Stable}
+use Rattle.repo_durable.specs.Kept.{disks_of, held_of}
+use Rattle.repo_durable.specs.declared.stable.Stable.{Stable}
 use Rattle.std.proofs.Common.{Err, IfSome, None, Ok, Option, Result, Some, refl, subst, ℕ, ◌≡◌}
 use Rattle.std.specs.Prelude.{IfErr, IsErrOf, slice_get}
 use Rattle.thor_value.specs.declared.names.Oref.{Oref}
 use Rattle.thor_value.specs.declared.values.Obj.{Obj}
-use Rattle.trace_record.specs.Recorded.{Recorded}
-use Rattle.validation_window.specs.declared.refusal.Refusal.TheVariants as refused
-use Rattle.validation_window.specs.declared.refusal.Refusal.{Refusal}
-use Rattle.volatile_state.specs.Volatile.{Memory}
+use Rattle.repo_trace.specs.Recorded.{Recorded}
+use Rattle.repo_refusals.specs.declared.refusal.Refusal.TheVariants as refused
+use Rattle.repo_refusals.specs.declared.refusal.Refusal.{Refusal}
+use Rattle.repo_volatile.specs.Volatile.{Memory}
 
 -- damage of the store's disk is damage of what is shown
 pub damage_shown : {P : Type 0} (disks : P → Disks) (store : Stable P) (M : Memory) (t : Recorded) (n : ℕ) (x : Shown) (page place : ℕ) → shown disks store M t n ≡ x

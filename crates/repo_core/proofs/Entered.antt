@@ -1,14 +1,14 @@
 -- A store into which an entry couldn't be taken.
-use Rattle.commit_log.specs.declared.entry.Entry.{Entry}
+use Rattle.log_entries.specs.declared.entry.Entry.{Entry}
 use Rattle.repo_core.proofs.Refused.{moved_none}
 use Rattle.repo_core.specs.Moving.{Falls}
 use Rattle.repo_core.specs.Refusing.{GoesDown}
 use Rattle.repo_core.specs.Shown.{Shown}
-use Rattle.stable_store.specs.Kept.{held_of, is_torn, pending}
-use Rattle.stable_store.specs.declared.stable.Stable.{Stable}
+use Rattle.repo_durable.specs.Kept.{held_of, is_torn, pending}
+use Rattle.repo_durable.specs.declared.stable.Stable.{Stable}
 use Rattle.std.proofs.Common.{Bool, Err, Ok, Result, false, inr, sym, true, ◌∙◌, ◌≡◌}
 use Rattle.std.specs.Prelude.{OnErr, Some}
-use Rattle.volatile_state.specs.Volatile.{Outlasts}
+use Rattle.repo_volatile.specs.Volatile.{Outlasts}
 
 no_torn : (b : Bool) → b ≡ true → b ≡ false → ⊥
 no_torn b t f = cc

@@ -1,17 +1,17 @@
 -- A disk failed in a call that answers Stopped.
 use Rattle.disk_trait.specs.AllDisks.{NoFault}
 use Rattle.disk_trait.specs.Disks.{Disks, Rose}
-use Rattle.refusal_reasons.specs.declared.reason.Reason.TheVariants.{Gone}
+use Rattle.base_reasons.specs.declared.reason.Reason.TheVariants.{Gone}
 use Rattle.repo_core.proofs.Refused.{no_fault}
 use Rattle.repo_core.specs.Behind.{is_marked}
 use Rattle.repo_core.specs.Shown.{Shown, count_at, faults_of}
-use Rattle.stable_store.proofs.Failing.{failed_behind, fewer_none}
-use Rattle.stable_store.specs.Failing.{HasFailed, NoFewer, is_stopped}
-use Rattle.stable_store.specs.Kept.{is_fault}
+use Rattle.repo_durable.proofs.Failing.{failed_behind, fewer_none}
+use Rattle.repo_durable.specs.Failing.{HasFailed, NoFewer, is_stopped}
+use Rattle.repo_durable.specs.Kept.{is_fault}
 use Rattle.std.proofs.Common.{Err, Ok, Result, ap, arith, refl, subst, suc, sym, true, zero, ℕ, ◌<◌, ◌∙◌, ◌≡◌}
 use Rattle.std.specs.Prelude.{IfErr, IsErrOf, OnOk, false}
-use Rattle.validation_window.specs.declared.refusal.Refusal.TheVariants as refused
-use Rattle.validation_window.specs.declared.refusal.Refusal.{Refusal}
+use Rattle.repo_refusals.specs.declared.refusal.Refusal.TheVariants as refused
+use Rattle.repo_refusals.specs.declared.refusal.Refusal.{Refusal}
 
 abbrev pub counts_in : Disks → ℕ × ℕ × ℕ
 counts_in disks = (disks.faults 0, disks.faults 1, disks.faults 2)

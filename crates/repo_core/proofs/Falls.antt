@@ -1,16 +1,16 @@
 -- What the faults of a store tell.
-use Rattle.commit_log.specs.declared.entry.Entry.{Entry}
+use Rattle.log_entries.specs.declared.entry.Entry.{Entry}
 use Rattle.disk_trait.specs.Disks.{Disks}
-use Rattle.held_state.specs.Keeps.{Keeps}
-use Rattle.held_state.specs.declared.held.Held.{Held}
+use Rattle.repo_state.specs.Keeps.{Keeps}
+use Rattle.repo_state.specs.declared.held.Held.{Held}
 use Rattle.repo_core.specs.Behind.{is_marked}
-use Rattle.stable_store.specs.Kept.{IsFallen, IsKept, IsOpenIn, StandsAfter, disks_of, held_of, is_fault, is_up, is_up_in}
-use Rattle.stable_store.specs.declared.stable.Phase.TheVariants.{Down, Torn, Up}
-use Rattle.stable_store.specs.declared.stable.Phase.{Phase}
-use Rattle.stable_store.specs.declared.stable.Stable.{Stable}
+use Rattle.repo_durable.specs.Kept.{IsFallen, IsKept, IsOpenIn, StandsAfter, disks_of, held_of, is_fault, is_up, is_up_in}
+use Rattle.repo_durable.specs.declared.stable.Phase.TheVariants.{Down, Torn, Up}
+use Rattle.repo_durable.specs.declared.stable.Phase.{Phase}
+use Rattle.repo_durable.specs.declared.stable.Stable.{Stable}
 use Rattle.std.proofs.Common.{Bool, Option, ap, cond, false, refl, sym, true, ◌≡◌, ◌∙◌}
-use Rattle.validation_window.specs.declared.refusal.Refusal.TheVariants as refused
-use Rattle.validation_window.specs.declared.refusal.Refusal.{Refusal}
+use Rattle.repo_refusals.specs.declared.refusal.Refusal.TheVariants as refused
+use Rattle.repo_refusals.specs.declared.refusal.Refusal.{Refusal}
 
 -- a repository was up or down, met this refusal, and stands so
 pub record Falls (before after : Bool) (r : Refusal) : Type 0 where

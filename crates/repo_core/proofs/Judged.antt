@@ -1,7 +1,7 @@
 -- What stands against a request gets a mark.
 use Rattle.cached_sets.specs.Sets as sets
-use Rattle.commit_log.specs.declared.request.Request.{Request}
-use Rattle.live_sessions.specs.Sessions.{is_live}
+use Rattle.log_entries.specs.declared.request.Request.{Request}
+use Rattle.repo_sessions.specs.Sessions.{is_live}
 use Rattle.repo_core.specs.Behind.{is_marked}
 use Rattle.std.proofs.Common.{Bool, Err, None, Ok, Option, Result, Some, ap, cond, false, nat_eq, refl, sym, true, ℕ, ◌<◌, ◌∙◌, ◌≡◌, ◌≤◌}
 use Rattle.std.proofs.lemmas.Bool.{le-ltb, lt-ltb}
@@ -10,12 +10,12 @@ use Rattle.std.specs.Prelude.{IfErr, nat_lt}
 use Rattle.thor_value.specs.declared.names.Oref.{Oref}
 use Rattle.validation_queue.specs.Clashes.{clash}
 use Rattle.validation_queue.specs.Contents.{first_blocking}
-use Rattle.refusal_reasons.specs.declared.reason.Reason.TheVariants as reasons
-use Rattle.refusal_reasons.specs.declared.reason.Reason.{Reason}
-use Rattle.validation_window.specs.Queue.{is_too_old}
-use Rattle.validation_window.specs.declared.refusal.Refusal.TheVariants as refused
-use Rattle.validation_window.specs.declared.refusal.Refusal.{Refusal}
-use Rattle.volatile_state.specs.Volatile.{Memory, against, answer, is_upgrade_kind, transaction_of, verdict}
+use Rattle.base_reasons.specs.declared.reason.Reason.TheVariants as reasons
+use Rattle.base_reasons.specs.declared.reason.Reason.{Reason}
+use Rattle.repo_refusals.specs.Queue.{is_too_old}
+use Rattle.repo_refusals.specs.declared.refusal.Refusal.TheVariants as refused
+use Rattle.repo_refusals.specs.declared.refusal.Refusal.{Refusal}
+use Rattle.repo_volatile.specs.Volatile.{Memory, against, answer, is_upgrade_kind, transaction_of, verdict}
 
 -- where there is a refusal, it gets a mark
 abbrev Marked : Option Refusal → Type 0

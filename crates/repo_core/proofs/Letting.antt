@@ -1,5 +1,5 @@
 -- Decisions of earlier lives that go.
-use Rattle.held_state.specs.declared.held.Held.{Held}
+use Rattle.repo_state.specs.declared.held.Held.{Held}
 use Rattle.repo_core.specs.Restarting.{LetsGo}
 use Rattle.std.proofs.Common.{Bool, List, Option, ap, arith, cond, false, refl, subst, sym, true, ℕ, ◌<◌, ◌∙◌, ◌≡◌, ◌≤◌}
 use Rattle.std.specs.Cmp.{Equal-is}

@@ -1,14 +1,14 @@
 -- Objects that move, and what a restart tells.
-use Rattle.commit_log.specs.declared.entry.Entry.TheVariants.{Life}
-use Rattle.commit_log.specs.declared.entry.Entry.{Entry}
-use Rattle.held_state.specs.Entering.{entered}
-use Rattle.held_state.specs.declared.held.Held.{Held}
+use Rattle.log_entries.specs.declared.entry.Entry.TheVariants.{Life}
+use Rattle.log_entries.specs.declared.entry.Entry.{Entry}
+use Rattle.repo_state.specs.Entering.{entered}
+use Rattle.repo_state.specs.declared.held.Held.{Held}
 use Rattle.repo_core.specs.Behind.{HasMoved, IsRecovered, IsRestarted, MovesObjects}
-use Rattle.stable_store.specs.Flushes.{HasFlushed}
+use Rattle.repo_durable.specs.Flushes.{HasFlushed}
 use Rattle.std.proofs.Common.{Err, Ok, OnOk, Result, ap, inl, inr, refl, subst, ℕ, ◌∙◌, ◌≡◌}
 use Rattle.thor_value.specs.declared.memory.NoMemory.{NoMemory}
-use Rattle.trace_record.specs.Recorded.{Recorded, with_entry}
-use Rattle.validation_window.specs.declared.refusal.Refusal.{Refusal}
+use Rattle.repo_trace.specs.Recorded.{Recorded, with_entry}
+use Rattle.repo_refusals.specs.declared.refusal.Refusal.{Refusal}
 
 pub moves_none : (h : Held) → MovesObjects h h
 moves_none h = refl

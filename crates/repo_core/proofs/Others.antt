@@ -1,9 +1,9 @@
 -- Open requests of other coordinators, walked over one behind the other.
-use Rattle.commit_log.specs.declared.request.Request.{Request}
-use Rattle.held_state.specs.Keeps.{TableFits}
-use Rattle.local_history.proofs.Meeting.{in_order}
+use Rattle.log_entries.specs.declared.request.Request.{Request}
+use Rattle.repo_state.specs.Keeps.{TableFits}
+use Rattle.spec_history.proofs.Meeting.{in_order}
 use Rattle.repo_core.specs.Behind.{AreOwn, IsLeastOfOthers}
-use Rattle.repository_laws.proofs.Walking.{IsFirst, open_in, walk-none, walk-some}
+use Rattle.law_repo_memory.proofs.Walking.{IsFirst, open_in, walk-none, walk-some}
 use Rattle.std.proofs.Common.{Bool, List, [], ap, arith, cond, false, inl, inr, length, refl, subst, sym, true, ℕ, ◌<◌, ◌≡◌, ◌≤◌, ◌∙◌, ◌∷◌}
 use Rattle.std.proofs.lemmas.Map.Views.{tells_apart}
 use Rattle.std.specs.BTreeMap.{is_at}

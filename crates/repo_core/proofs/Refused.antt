@@ -1,17 +1,17 @@
 -- What stands behind refusals.
-use Rattle.commit_log.specs.declared.entry.Entry.{Entry}
-use Rattle.held_state.specs.declared.held.Held.{Held}
+use Rattle.log_entries.specs.declared.entry.Entry.{Entry}
+use Rattle.repo_state.specs.declared.held.Held.{Held}
 use Rattle.repo_core.proofs.Moves.{moves_on}
 use Rattle.repo_core.specs.Behind.{MovesObjects, is_marked}
 use Rattle.repo_core.specs.Moving.{MakesRoom}
 use Rattle.repo_core.specs.Refusing.{GoesDown, Leaves, Moved, Rests, StaysAsWas, made_of}
 use Rattle.repo_core.specs.Shown.{Shown}
-use Rattle.stable_store.specs.Kept.{is_fault}
+use Rattle.repo_durable.specs.Kept.{is_fault}
 use Rattle.std.proofs.Common.{Bool, Err, Ok, Option, Result, ap, arith, cond, false, inl, inr, refl, subst, sym, true, ℕ, ◌+◌, ◌-◌, ◌∙◌, ◌≡◌}
 use Rattle.std.specs.Prelude.{IfErr, None, Some, ◌⊎◌}
-use Rattle.validation_window.specs.declared.refusal.Refusal.{Refusal}
-use Rattle.volatile_state.proofs.Lasting.{lasts_itself, lasts_on, stayed}
-use Rattle.volatile_state.specs.Volatile.{Memory, Outlasts}
+use Rattle.repo_refusals.specs.declared.refusal.Refusal.{Refusal}
+use Rattle.repo_volatile.proofs.Lasting.{lasts_itself, lasts_on, stayed}
+use Rattle.repo_volatile.specs.Volatile.{Memory, Outlasts}
 
 pub no_fault : (b : Bool) → b ≡ false → b ≡ true → ⊥
 no_fault b f t = cc

@@ -1,9 +1,9 @@
 -- What is open in a table that fits.
-use Rattle.commit_log.specs.RequestForm.{RequestFits}
-use Rattle.commit_log.specs.declared.request.Request.{Request}
-use Rattle.held_state.proofs.Kept.{open_fits}
-use Rattle.held_state.specs.Keeps.{Keeps, Stands}
-use Rattle.held_state.specs.declared.held.Held.{Held}
+use Rattle.log_entries.specs.RequestForm.{RequestFits}
+use Rattle.log_entries.specs.declared.request.Request.{Request}
+use Rattle.repo_state.proofs.Kept.{open_fits}
+use Rattle.repo_state.specs.Keeps.{Keeps, Stands}
+use Rattle.repo_state.specs.declared.held.Held.{Held}
 use Rattle.repo_core.specs.Behind.{has_prepared, is_of_session}
 use Rattle.std.proofs.Common.{Bool, List, None, Option, Some, [], ◌∷◌, cond, false, is_some, refl, subst, sym, true, ℕ, ◌≡◌}
 use Rattle.std.specs.BTreeMap.{is_at}

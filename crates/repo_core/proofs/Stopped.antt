@@ -1,7 +1,7 @@
 -- A stop that falls at once, or is armed.
-use Rattle.stable_store.specs.Kept.{is_torn_in, is_up_in, lowered, pending_in}
-use Rattle.stable_store.specs.declared.stable.Phase.TheVariants.{Down, Torn, Up}
-use Rattle.stable_store.specs.declared.stable.Phase.{Phase}
+use Rattle.repo_durable.specs.Kept.{is_torn_in, is_up_in, lowered, pending_in}
+use Rattle.repo_durable.specs.declared.stable.Phase.TheVariants.{Down, Torn, Up}
+use Rattle.repo_durable.specs.declared.stable.Phase.{Phase}
 use Rattle.std.proofs.Common.{Bool, ap, cond, false, refl, true, ◌∙◌, ◌≡◌}
 use Rattle.std.specs.Prelude.{None}
 

@@ -1,30 +1,30 @@
 -- What a restart takes.
-use Rattle.commit_log.specs.declared.entry.Entry.{Entry}
-use Rattle.held_state.specs.Entering.{entered}
-use Rattle.held_state.specs.declared.held.Held.{Held}
+use Rattle.log_entries.specs.declared.entry.Entry.{Entry}
+use Rattle.repo_state.specs.Entering.{entered}
+use Rattle.repo_state.specs.declared.held.Held.{Held}
 use Rattle.repo_core.proofs.Refused.{falls_behind, moved_none, moved_on}
 use Rattle.repo_core.specs.Behind.{MovesObjects}
 use Rattle.repo_core.specs.Refusing.{GoesDown, Moved}
 use Rattle.repo_core.specs.Restarting.{AllTold, ComesUp, DropsEarlier, FailsBehind, Recovers, StaysDown, Takes, TakesNone, content_of, life_behind}
 use Rattle.repo_core.specs.Shown.{Shown, shown}
-use Rattle.repository_laws.specs.Coming.{BeginsLife}
-use Rattle.repository_laws.specs.Running.{came_with}
+use Rattle.law_repo_memory.specs.Coming.{BeginsLife}
+use Rattle.law_repo_memory.specs.Running.{came_with}
 use Rattle.disk_trait.specs.AllDisks.{TellsAll}
 use Rattle.disk_trait.specs.Disks.{Disks}
-use Rattle.stable_store.specs.declared.stable.Stable.{Stable}
-use Rattle.stable_store.specs.Kept.{disks_of, is_torn_in, is_up_in, lowered, pending_in}
-use Rattle.stable_store.specs.declared.stable.Phase.TheVariants.{Down, Torn, Up}
-use Rattle.stable_store.specs.declared.stable.Phase.{Phase}
-use Rattle.stable_store.specs.Taking.{TakesFrom}
-use Rattle.stable_store.specs.declared.recovering.Taken.TheVariants as taken
-use Rattle.stable_store.specs.declared.recovering.Taken.{Taken}
+use Rattle.repo_durable.specs.declared.stable.Stable.{Stable}
+use Rattle.repo_durable.specs.Kept.{disks_of, is_torn_in, is_up_in, lowered, pending_in}
+use Rattle.repo_durable.specs.declared.stable.Phase.TheVariants.{Down, Torn, Up}
+use Rattle.repo_durable.specs.declared.stable.Phase.{Phase}
+use Rattle.repo_durable.specs.Taking.{TakesFrom}
+use Rattle.repo_durable.specs.declared.recovering.Taken.TheVariants as taken
+use Rattle.repo_durable.specs.declared.recovering.Taken.{Taken}
 use Rattle.std.proofs.Common.{Bool, Err, List, Ok, OnOk, Option, Result, ap, arith, false, inl, inr, refl, subst, suc, sym, true, zero, ◌<◌, ◌∙◌, ◌≡◌, ℕ}
 use Rattle.std.specs.Prelude.{None, Some, ◌⊎◌}
 use Rattle.thor_value.specs.FiniteMap.{Set}
 use Rattle.thor_value.specs.Names.{ts_cmp}
-use Rattle.trace_record.specs.Recorded.{Recorded, with_entry}
-use Rattle.volatile_state.proofs.Lasting.{lasts_itself}
-use Rattle.volatile_state.specs.Volatile.{Memory, Outlasts}
+use Rattle.repo_trace.specs.Recorded.{Recorded, with_entry}
+use Rattle.repo_volatile.proofs.Lasting.{lasts_itself}
+use Rattle.repo_volatile.specs.Volatile.{Memory, Outlasts}
 
 -- nothing beside what was held
 pub takes_held : (x y : Shown) → x.is_torn ≡ false → MovesObjects x.held y.held → y.held.objects.mob.limit ≡ x.held.objects.mob.limit → y.trace ≡ x.trace → y.memory ≡ x.memory → Takes x y

@@ -1,14 +1,14 @@
 -- What is in memory behind what it was told.
-use Rattle.commit_log.specs.declared.entry.Entry.TheVariants.{One, Prepared, Upgraded}
-use Rattle.commit_log.specs.declared.request.Kind.TheVariants.{App, Transform, Upgrade}
-use Rattle.commit_log.specs.declared.request.Kind.{Kind}
-use Rattle.commit_log.specs.declared.request.Request.{Request}
-use Rattle.held_state.specs.declared.held.Held.{Held}
-use Rattle.held_state.specs.Keeps.{TableFits}
+use Rattle.log_entries.specs.declared.entry.Entry.TheVariants.{One, Prepared, Upgraded}
+use Rattle.log_entries.specs.declared.request.Kind.TheVariants.{App, Transform, Upgrade}
+use Rattle.log_entries.specs.declared.request.Kind.{Kind}
+use Rattle.log_entries.specs.declared.request.Request.{Request}
+use Rattle.repo_state.specs.declared.held.Held.{Held}
+use Rattle.repo_state.specs.Keeps.{TableFits}
 use Rattle.repo_core.specs.Behind.{alone_entry}
 use Rattle.repo_core.specs.Calls.{IsTold}
-use Rattle.repository_laws.proofs.Reopening.{reopens-other, reopens-own}
-use Rattle.repository_laws.specs.Coming.{Becomes, Moves, ReopensTo, alone_queue, decided_queue}
+use Rattle.law_repo_memory.proofs.Reopening.{reopens-other, reopens-own}
+use Rattle.law_repo_memory.specs.Coming.{Becomes, Moves, ReopensTo, alone_queue, decided_queue}
 use Rattle.std.proofs.Common.{Bool, Err, List, Ok, OnOk, Result, ap, cond, refl, subst, sym, ℕ, ◌≡◌, ◌∙◌}
 use Rattle.std.specs.Prelude.{None, Option, Some, false, nat_eq, true}
 use Rattle.thor_value.specs.FiniteMap.{add, has}
@@ -17,7 +17,7 @@ use Rattle.thor_value.specs.declared.names.Ts.{Ts}
 use Rattle.two_phase.specs.Contents as table
 use Rattle.two_phase.specs.Walks.{behind, first_open}
 use Rattle.validation_queue.specs.Contents.{cleared, decide, with_one}
-use Rattle.volatile_state.specs.Volatile.{Memory, entered, is_upgrade_kind, transaction_of}
+use Rattle.repo_volatile.specs.Volatile.{Memory, entered, is_upgrade_kind, transaction_of}
 
 -- a request has come, and nothing was told
 pub told_entered : (M N : Memory) (q : Request) → N ≡ entered M q false → (h : Held) → Moves h M (Prepared q) N

@@ -1,9 +1,9 @@
 -- What may be requested can be written, once nothing stands against it.
-use Rattle.commit_log.specs.declared.entry.Entry.TheVariants.{Decided, Finished, Life, Prepared}
-use Rattle.commit_log.specs.declared.request.Kind.TheVariants.{App, Transform, Upgrade}
-use Rattle.commit_log.specs.declared.request.Kind.{Kind}
-use Rattle.commit_log.specs.declared.request.Request.{Request}
-use Rattle.held_state.specs.declared.held.Held.{Held}
+use Rattle.log_entries.specs.declared.entry.Entry.TheVariants.{Decided, Finished, Life, Prepared}
+use Rattle.log_entries.specs.declared.request.Kind.TheVariants.{App, Transform, Upgrade}
+use Rattle.log_entries.specs.declared.request.Kind.{Kind}
+use Rattle.log_entries.specs.declared.request.Request.{Request}
+use Rattle.repo_state.specs.declared.held.Held.{Held}
 use Rattle.repo_core.specs.Behind.{MovesObjects, alone_entry}
 use Rattle.repo_core.specs.Calls.{CanWrite, Comes, MayRequest}
 use Rattle.std.proofs.Common.{Bool, None, cond, false, refl, subst, sym, true, ℕ, ◌<◌, ◌^◌, ◌≡◌}
@@ -11,7 +11,7 @@ use Rattle.thor_value.specs.FiniteMap.{has}
 use Rattle.thor_value.specs.Spelling.{TsFits}
 use Rattle.thor_value.specs.declared.names.Ts.{Ts}
 use Rattle.validation_queue.specs.Clashes.{clash}
-use Rattle.volatile_state.specs.Volatile.{Memory, transaction_of}
+use Rattle.repo_volatile.specs.Volatile.{Memory, transaction_of}
 
 second : (b c : Bool) → cond b true c ≡ false → c ≡ false
 second true c e = cc

@@ -1,30 +1,30 @@
 -- What stands behind the events of a repository.
-use Rattle.commit_log.specs.declared.entry.Entry.TheVariants.{Life, One, Upgraded}
-use Rattle.commit_log.specs.declared.entry.Entry.{Entry}
-use Rattle.commit_log.specs.declared.request.Kind.TheVariants.{App, Transform, Upgrade}
-use Rattle.commit_log.specs.declared.request.Kind.{Kind}
-use Rattle.commit_log.specs.declared.request.Request.{Request}
-use Rattle.held_state.specs.Entering.{entered}
-use Rattle.held_state.specs.declared.held.Held.{Held}
-use Rattle.message_outbox.specs.Messages.{place_of}
-use Rattle.message_outbox.specs.declared.answers.Asked.TheVariants.{Settled, Undecided}
-use Rattle.message_outbox.specs.declared.answers.Asked.{Asked}
-use Rattle.message_outbox.specs.declared.answers.Verdict.{Verdict}
-use Rattle.message_outbox.specs.declared.message.Message.{Message}
-use Rattle.session_outbox.specs.declared.mark.Mark.TheVariants.{Refused, Took}
-use Rattle.session_outbox.specs.declared.mark.Mark.{Mark}
-use Rattle.stable_store.specs.Flushes.{HasFlushed}
-use Rattle.stable_store.specs.Kept.{is_fault}
+use Rattle.log_entries.specs.declared.entry.Entry.TheVariants.{Life, One, Upgraded}
+use Rattle.log_entries.specs.declared.entry.Entry.{Entry}
+use Rattle.log_entries.specs.declared.request.Kind.TheVariants.{App, Transform, Upgrade}
+use Rattle.log_entries.specs.declared.request.Kind.{Kind}
+use Rattle.log_entries.specs.declared.request.Request.{Request}
+use Rattle.repo_state.specs.Entering.{entered}
+use Rattle.repo_state.specs.declared.held.Held.{Held}
+use Rattle.session_outbox.specs.Messages.{place_of}
+use Rattle.session_outbox.specs.declared.answers.Asked.TheVariants.{Settled, Undecided}
+use Rattle.session_outbox.specs.declared.answers.Asked.{Asked}
+use Rattle.session_outbox.specs.declared.answers.Verdict.{Verdict}
+use Rattle.session_outbox.specs.declared.message.Message.{Message}
+use Rattle.spec_trace.specs.declared.mark.Mark.TheVariants.{Refused, Took}
+use Rattle.spec_trace.specs.declared.mark.Mark.{Mark}
+use Rattle.repo_durable.specs.Flushes.{HasFlushed}
+use Rattle.repo_durable.specs.Kept.{is_fault}
 use Rattle.std.specs.Prelude.{Bool, Err, None, Ok, Option, Result, Some, cond, false, is_some, length, min, nat_eq, true, ℕ, ◌-◌, ◌^◌, ◌≡◌, ◌⊎◌}
 use Rattle.thor_value.specs.FiniteMap.{get}
 use Rattle.thor_value.specs.Names.{Before}
 use Rattle.thor_value.specs.declared.names.Ts.{Ts}
-use Rattle.trace_record.specs.Recorded.{Recorded, with_entry, with_mark}
+use Rattle.repo_trace.specs.Recorded.{Recorded, with_entry, with_mark}
 use Rattle.two_phase.specs.Contents.{Contents, keeps, open_at, standing, without}
 use Rattle.two_phase.specs.declared.standing.Standing.TheVariants.{Aborted, Committed, Open}
 use Rattle.two_phase.specs.declared.standing.Standing.{Standing}
-use Rattle.validation_window.specs.declared.refusal.Refusal.TheVariants as the
-use Rattle.validation_window.specs.declared.refusal.Refusal.{Refusal}
+use Rattle.repo_refusals.specs.declared.refusal.Refusal.TheVariants as the
+use Rattle.repo_refusals.specs.declared.refusal.Refusal.{Refusal}
 
 -- Whether it is up behind a call: after an answer it was up and is; after a fault it is down; after another
 -- refusal it is as it was.

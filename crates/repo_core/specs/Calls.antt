@@ -1,28 +1,28 @@
 -- The conditions of calls.
-use Rattle.commit_log.specs.RequestForm.{IsWellFormed}
-use Rattle.commit_log.specs.declared.entry.Entry.TheVariants.{Decided, Finished, Life, One, Prepared, Upgraded}
-use Rattle.commit_log.specs.declared.entry.Entry.{Entry}
-use Rattle.commit_log.specs.declared.request.Request.{Request}
-use Rattle.held_state.specs.Entering.{can_enter}
-use Rattle.state_log.specs.Recovered.{are_of}
-use Rattle.held_state.specs.declared.held.Held.{Held}
-use Rattle.live_sessions.specs.Sessions.{is_live}
-use Rattle.log_bytes.specs.Grammar.{BodyFits}
-use Rattle.log_bytes.specs.declared.body.Body.TheVariants.{Entry as AnEntry}
+use Rattle.log_entries.specs.RequestForm.{IsWellFormed}
+use Rattle.log_entries.specs.declared.entry.Entry.TheVariants.{Decided, Finished, Life, One, Prepared, Upgraded}
+use Rattle.log_entries.specs.declared.entry.Entry.{Entry}
+use Rattle.log_entries.specs.declared.request.Request.{Request}
+use Rattle.repo_state.specs.Entering.{can_enter}
+use Rattle.commit_log.specs.Recovered.{are_of}
+use Rattle.repo_state.specs.declared.held.Held.{Held}
+use Rattle.repo_sessions.specs.Sessions.{is_live}
+use Rattle.log_codec.specs.Grammar.{BodyFits}
+use Rattle.log_codec.specs.declared.body.Body.TheVariants.{Entry as AnEntry}
 use Rattle.mob_buffer.specs.Buffer.{bytes_of}
 use Rattle.repo_core.specs.Behind.{epoch_of}
 use Rattle.repo_core.specs.Shown.{Shown}
-use Rattle.session_outbox.specs.Calls.{drawn_time}
+use Rattle.spec_trace.specs.Calls.{drawn_time}
 use Rattle.std.specs.Map.{keys_of}
 use Rattle.std.specs.Option.{option_or}
 use Rattle.std.specs.Prelude.{[], Bool, IsTrue, None, Option, Some, cond, false, max, nat_lt, true, ℕ, ◌^◌, ◌↔◌, ◌≡◌, ◌≤◌, ◌⊎◌}
 use Rattle.thor_value.specs.FiniteMap.{has}
 use Rattle.validation_queue.specs.Clashes.{clash}
 use Rattle.validation_queue.specs.Names.{IsInOrder}
-use Rattle.refusal_reasons.specs.declared.reason.Reason.TheVariants as reasons
-use Rattle.validation_window.specs.declared.refusal.Refusal.TheVariants as refused
-use Rattle.validation_window.specs.declared.refusal.Refusal.{Refusal}
-use Rattle.volatile_state.specs.Volatile.{Memory, knows, transaction_of, verdict}
+use Rattle.base_reasons.specs.declared.reason.Reason.TheVariants as reasons
+use Rattle.repo_refusals.specs.declared.refusal.Refusal.TheVariants as refused
+use Rattle.repo_refusals.specs.declared.refusal.Refusal.{Refusal}
+use Rattle.repo_volatile.specs.Volatile.{Memory, knows, transaction_of, verdict}
 
 -- A request may be sent to a repository which has this repository alone for a participant or other ones, too: it
 -- has its form, writes objects of this repository, and its transaction isn't known here.

@@ -1,12 +1,12 @@
 -- Room in the buffer of modified objects, and a store that falls.
-use Rattle.commit_log.specs.declared.entry.Entry.{Entry}
-use Rattle.held_state.specs.declared.held.Held.{Held}
+use Rattle.log_entries.specs.declared.entry.Entry.{Entry}
+use Rattle.repo_state.specs.declared.held.Held.{Held}
 use Rattle.mob_buffer.specs.Buffer.{bytes_of, with_all}
 use Rattle.repo_core.specs.Behind.{MovesObjects}
 use Rattle.repo_core.specs.Shown.{Shown}
-use Rattle.stable_store.specs.Flushes.{HasFlushed}
-use Rattle.stable_store.specs.Kept.{held_of, is_torn, pending}
-use Rattle.stable_store.specs.declared.stable.Stable.{Stable}
+use Rattle.repo_durable.specs.Flushes.{HasFlushed}
+use Rattle.repo_durable.specs.Kept.{held_of, is_torn, pending}
+use Rattle.repo_durable.specs.declared.stable.Stable.{Stable}
 use Rattle.std.specs.Option.{IfSome}
 use Rattle.std.specs.Prelude.{Bool, List, Some, false, true, ◌≡◌, ◌≤◌}
 use Rattle.thor_value.specs.declared.names.Oref.{Oref}

@@ -1,19 +1,19 @@
 -- Why a call is refused, and what stands behind a refusal.
-use Rattle.commit_log.specs.declared.entry.Entry.{Entry}
-use Rattle.live_sessions.specs.Sessions.{is_live}
+use Rattle.log_entries.specs.declared.entry.Entry.{Entry}
+use Rattle.repo_sessions.specs.Sessions.{is_live}
 use Rattle.page_format.specs.Pages.{Contents}
 use Rattle.page_format.specs.Sides.{side_in_use}
 use Rattle.page_store.specs.Objects.{Spells}
 use Rattle.page_store.specs.Sides.{place_of, side_bytes}
-use Rattle.refusal_reasons.specs.declared.reason.Reason.TheVariants.{Gone}
-use Rattle.refusal_reasons.specs.declared.reason.Reason.{Reason}
+use Rattle.base_reasons.specs.declared.reason.Reason.TheVariants.{Gone}
+use Rattle.base_reasons.specs.declared.reason.Reason.{Reason}
 use Rattle.repo_core.specs.Behind.{MovesObjects}
 use Rattle.repo_core.specs.Shown.{Shown}
-use Rattle.stable_store.specs.Kept.{is_fault}
+use Rattle.repo_durable.specs.Kept.{is_fault}
 use Rattle.std.specs.Prelude.{List, None, Option, Some, false, true, ℕ, ◌≡◌, ◌⊎◌}
-use Rattle.validation_window.specs.declared.refusal.Refusal.TheVariants as refused
-use Rattle.validation_window.specs.declared.refusal.Refusal.{Refusal}
-use Rattle.volatile_state.specs.Volatile.{Memory, Outlasts}
+use Rattle.repo_refusals.specs.declared.refusal.Refusal.TheVariants as refused
+use Rattle.repo_refusals.specs.declared.refusal.Refusal.{Refusal}
+use Rattle.repo_volatile.specs.Volatile.{Memory, Outlasts}
 
 -- Why the repository x refuses a call: with `Down` where it is down; where it is up, with a reason that stands against the call,
 -- by a fault of a disk where the call comes to one, or for want of memory.

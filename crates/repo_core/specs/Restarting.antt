@@ -1,24 +1,24 @@
 -- What a restart makes of a repository.
 use Rattle.class_defs.specs.declared.store.Setup.{Setup}
-use Rattle.commit_log.specs.declared.entry.Entry.TheVariants.{Life}
-use Rattle.commit_log.specs.declared.entry.Entry.{Entry}
-use Rattle.held_state.specs.Entering.{entered}
-use Rattle.held_state.specs.declared.held.Held.{Held}
-use Rattle.live_sessions.specs.Sessions.{ended, no_sessions}
+use Rattle.log_entries.specs.declared.entry.Entry.TheVariants.{Life}
+use Rattle.log_entries.specs.declared.entry.Entry.{Entry}
+use Rattle.repo_state.specs.Entering.{entered}
+use Rattle.repo_state.specs.declared.held.Held.{Held}
+use Rattle.repo_sessions.specs.Sessions.{ended, no_sessions}
 use Rattle.repo_core.specs.Behind.{MovesObjects}
 use Rattle.repo_core.specs.Refusing.{GoesDown, Moved}
 use Rattle.repo_core.specs.Shown.{Shown}
-use Rattle.repository_laws.specs.Coming.{BeginsLife}
-use Rattle.repository_laws.specs.Running.{held_with, recorded_with, requested_with}
+use Rattle.law_repo_memory.specs.Coming.{BeginsLife}
+use Rattle.law_repo_memory.specs.Running.{held_with, recorded_with, requested_with}
 use Rattle.std.specs.Option.{IfSome}
 use Rattle.std.specs.Prelude.{List, None, Option, Some, false, suc, zero, ℕ, ◌+◌, ◌<◌, ◌≡◌, ◌≤◌, ◌⊎◌}
-use Rattle.store_format.specs.Fresh.{IsFresh}
+use Rattle.repo_format.specs.Fresh.{IsFresh}
 use Rattle.thor_value.specs.FiniteMap.{IsSorted, empty, get, has}
 use Rattle.thor_value.specs.declared.names.Ts.{Ts}
-use Rattle.trace_record.specs.Recorded.{with_entry}
+use Rattle.repo_trace.specs.Recorded.{with_entry}
 use Rattle.two_phase.specs.Contents.{Contents, keeps, open_at}
 use Rattle.validation_queue.specs.Contents.{cleared}
-use Rattle.volatile_state.specs.Volatile.{Memory, Outlasts}
+use Rattle.repo_volatile.specs.Volatile.{Memory, Outlasts}
 
 -- The disks agree with what is held, or with that and the entry that was pending: this one is taken. The transactions that
 -- came count as such, that of the entry among them.

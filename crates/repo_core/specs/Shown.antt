@@ -1,13 +1,13 @@
 -- What contracts see of a repository.
-use Rattle.commit_log.specs.declared.entry.Entry.{Entry}
+use Rattle.log_entries.specs.declared.entry.Entry.{Entry}
 use Rattle.disk_trait.specs.Disks.{Disks}
-use Rattle.held_state.specs.declared.held.Held.{Held}
-use Rattle.stable_store.specs.Kept.{disks_of, held_of, is_torn, is_up, pending}
-use Rattle.stable_store.specs.Pages.{TellsPages}
-use Rattle.stable_store.specs.declared.stable.Stable.{Stable}
+use Rattle.repo_state.specs.declared.held.Held.{Held}
+use Rattle.repo_durable.specs.Kept.{disks_of, held_of, is_torn, is_up, pending}
+use Rattle.repo_durable.specs.Pages.{TellsPages}
+use Rattle.repo_durable.specs.declared.stable.Stable.{Stable}
 use Rattle.std.specs.Prelude.{Bool, List, Option, suc, zero, ℕ}
-use Rattle.trace_record.specs.Recorded.{Recorded}
-use Rattle.volatile_state.specs.Volatile.{Memory}
+use Rattle.repo_trace.specs.Recorded.{Recorded}
+use Rattle.repo_volatile.specs.Volatile.{Memory}
 
 pub record Shown : Type 0 where
   -- what is held in memory of the state for which its log stands

@@ -1,14 +1,14 @@
 -- What sessions are told of entries and pages.
-use Rattle.commit_log.specs.declared.entry.Entry.TheVariants.{Decided, Finished, Life, One, Prepared, Upgraded}
-use Rattle.commit_log.specs.declared.entry.Entry.{Entry}
-use Rattle.held_state.specs.declared.held.Held.{Held}
-use Rattle.live_sessions.specs.Sessions.{Kept, acknowledged, ended, sent}
-use Rattle.message_outbox.specs.declared.message.Message.TheVariants.{Page}
+use Rattle.log_entries.specs.declared.entry.Entry.TheVariants.{Decided, Finished, Life, One, Prepared, Upgraded}
+use Rattle.log_entries.specs.declared.entry.Entry.{Entry}
+use Rattle.repo_state.specs.declared.held.Held.{Held}
+use Rattle.repo_sessions.specs.Sessions.{Kept, acknowledged, ended, sent}
+use Rattle.session_outbox.specs.declared.message.Message.TheVariants.{Page}
 use Rattle.repo_core.specs.Behind.{epoch_of}
 use Rattle.std.specs.Prelude.{List, min, ℕ, ◌+◌, ◌-◌, ◌^◌, ◌≡◌}
 use Rattle.two_phase.specs.Contents.{open_at}
-use Rattle.volatile_state.specs.Telling.{CommitTold, TellsDecided}
-use Rattle.volatile_state.specs.Volatile.{Memory}
+use Rattle.repo_volatile.specs.Telling.{CommitTold, TellsDecided}
+use Rattle.repo_volatile.specs.Volatile.{Memory}
 
 -- the number of the upgrade that is installed next, in a count that stays at 2 ^ 32 - 1
 abbrev pub next_epoch : Held → ℕ

@@ -1,18 +1,18 @@
 //! A coordinator is asked.
 
 ghost use Rattle.std.specs.Prelude.{◌≡◌, IfErr, IfOk, false};
-ghost use Rattle.message_outbox.specs.declared.answers.Asked.TheVariants.{Undecided as IsUndecided};
+ghost use Rattle.session_outbox.specs.declared.answers.Asked.TheVariants.{Undecided as IsUndecided};
 ghost use Rattle.repo_core.specs.Behind.{IsAsked, Stands};
 ghost use Rattle.two_phase.specs.Contents.{standing};
 ghost use Rattle.two_phase.specs.declared.standing.Standing.TheVariants.{Open as IsOpen};
-ghost use Rattle.validation_window.specs.declared.refusal.Refusal.TheVariants.{Down as IsDown};
+ghost use Rattle.repo_refusals.specs.declared.refusal.Refusal.TheVariants.{Down as IsDown};
 
 use crate::repo::Repo;
 use disk_trait::Parts;
-use message_outbox::{Asked, Verdict};
+use repo_refusals::Refusal;
+use session_outbox::{Asked, Verdict};
 use thor_value::Ts;
 use two_phase::Standing;
-use validation_window::Refusal;
 
 impl<P: Parts> Repo<P> {
     /// The verdict on a transaction that this repository coordinates, as far as there is one. It takes no

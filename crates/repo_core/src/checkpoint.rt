@@ -5,12 +5,12 @@ ghost use Rattle.repo_core.specs.Behind.{Stands};
 ghost use Rattle.repo_core.specs.Refusing.{CanRefuse, HasNoReason, Rests};
 ghost use Rattle.repo_core.specs.Restarting.{DropsEarlier};
 ghost use Rattle.repo_core.specs.Shown.{faults_of, ShowsPages};
-ghost use Rattle.stable_store.specs.Failing.{HasFailed, is_stopped};
-ghost use Rattle.validation_window.specs.declared.refusal.Refusal.TheVariants.{Damaged as IsDamaged, Stopped as IsStopped};
+ghost use Rattle.repo_durable.specs.Failing.{HasFailed, is_stopped};
+ghost use Rattle.repo_refusals.specs.declared.refusal.Refusal.TheVariants.{Damaged as IsDamaged, Stopped as IsStopped};
 
 use crate::repo::Repo;
 use disk_trait::Parts;
-use validation_window::Refusal;
+use repo_refusals::Refusal;
 
 impl<P: Parts> Repo<P> {
     /// Begins a log on the other log disk with all that the present one stands for, but for decisions that are

@@ -4,20 +4,20 @@ ghost use Rattle.std.specs.Prelude.{◌≡◌, IfErr, IfOk, None, OnOk, Some, fa
 ghost use Rattle.repo_core.specs.Behind.{HasMoved, Stands, alone_entry, epoch_of, with_refusal, is_marked};
 ghost use Rattle.repo_core.specs.Calls.{MayRequest, judged};
 ghost use Rattle.repo_core.specs.Moving.{HasRoom};
-ghost use Rattle.held_state.specs.Entering.{entered as entered_in};
-ghost use Rattle.repository_laws.specs.Coming.{Moves};
+ghost use Rattle.repo_state.specs.Entering.{entered as entered_in};
+ghost use Rattle.law_repo_memory.specs.Coming.{Moves};
 ghost use Rattle.repo_core.specs.Shown.{faults_of, ShowsPages};
-ghost use Rattle.stable_store.specs.Failing.{HasFailed, is_stopped};
-ghost use Rattle.trace_record.specs.Recorded.{with_entry};
-ghost use Rattle.volatile_state.specs.Volatile.{verdict};
+ghost use Rattle.repo_durable.specs.Failing.{HasFailed, is_stopped};
+ghost use Rattle.repo_trace.specs.Recorded.{with_entry};
+ghost use Rattle.repo_volatile.specs.Volatile.{verdict};
 ghost use Rattle.repo_core.specs.Refusing.{CanRefuse, GoesDown, IsPageDamage, Leaves, made_of};
 ghost use Rattle.repo_core.specs.Telling.{Tells};
-ghost use Rattle.validation_window.specs.declared.refusal.Refusal.TheVariants.{Damaged as IsDamaged, Stopped as IsStopped};
+ghost use Rattle.repo_refusals.specs.declared.refusal.Refusal.TheVariants.{Damaged as IsDamaged, Stopped as IsStopped};
 
 use crate::repo::Repo;
-use commit_log::{Entry, Kind, Request};
 use disk_trait::Parts;
-use validation_window::Refusal;
+use log_entries::{Entry, Kind, Request};
+use repo_refusals::Refusal;
 
 impl<P: Parts> Repo<P> {
     /// Commits a transaction that has this one participant, and tells the other sessions. Answer and refusals

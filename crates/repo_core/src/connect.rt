@@ -1,24 +1,24 @@
 //! A client connects.
 
 ghost use Rattle.std.specs.Prelude.{◌≡◌, ◌+◌, IfOk, OnErr, length, IfErr, None, ◌<◌, ◌^◌};
-ghost use Rattle.live_sessions.specs.Sessions.{begun};
+ghost use Rattle.repo_sessions.specs.Sessions.{begun};
 ghost use Rattle.repo_core.specs.Behind.{Stands, epoch_of};
-ghost use Rattle.session_outbox.specs.declared.mark.Mark.TheVariants.{Connected as Connects};
-ghost use Rattle.trace_record.specs.Recorded.{with_mark};
+ghost use Rattle.spec_trace.specs.declared.mark.Mark.TheVariants.{Connected as Connects};
+ghost use Rattle.repo_trace.specs.Recorded.{with_mark};
 ghost use Rattle.repo_core.specs.Refusing.{CanRefuse, HasNoReason, Leaves};
-ghost use Rattle.volatile_state.specs.Volatile.{Outlasts};
+ghost use Rattle.repo_volatile.specs.Volatile.{Outlasts};
 ghost use Rattle.repo_core.specs.Shown.{ShowsPages};
 
 use crate::repo::Repo;
 use disk_trait::Parts;
-use message_outbox::Welcome;
-use session_outbox::Mark;
+use repo_refusals::Refusal;
+use session_outbox::Welcome;
+use spec_trace::Mark;
 use thor_value::{NoMemory, Texts, TryCopy};
-use validation_window::Refusal;
 
 impl<P: Parts> Repo<P> {
     /// Begins a session of the client, and ends its older one.
-    #[tactic(auto, using(crate::proofs::Readable::shown_has, crate::proofs::Refused::leaves_given_back, crate::proofs::Refused::leaves_down, crate::proofs::Refused::falls_with, crate::proofs::Refused::moved_none, volatile_state::proofs::Lasting::stayed, crate::proofs::Causes::why_down, crate::proofs::Causes::why_memory))]
+    #[tactic(auto, using(crate::proofs::Readable::shown_has, crate::proofs::Refused::leaves_given_back, crate::proofs::Refused::leaves_down, crate::proofs::Refused::falls_with, crate::proofs::Refused::moved_none, repo_volatile::proofs::Lasting::stayed, crate::proofs::Causes::why_down, crate::proofs::Causes::why_memory))]
     pub fn connect(&mut self, client: u8) -> Result<Welcome, Refusal>
         ensures stands { Stands self.old.is_up result self.new.is_up }
         ensures readable { ShowsPages self.old → ShowsPages self.new }

@@ -1,28 +1,28 @@
 //! A coordinator decides.
 
 ghost use Rattle.std.specs.Prelude.{◌≡◌, IfOk, OnErr, OnOk, cond, false, true, IfErr, None, Some, length, IsErrOf, ℕ};
-ghost use Rattle.commit_log.specs.declared.entry.Entry.TheVariants.{Decided as Decides};
-ghost use Rattle.live_sessions.specs.Sessions.{is_live};
+ghost use Rattle.log_entries.specs.declared.entry.Entry.TheVariants.{Decided as Decides};
+ghost use Rattle.repo_sessions.specs.Sessions.{is_live};
 ghost use Rattle.repo_core.specs.Behind.{HasMoved, IsVerdict, Stands, has_prepared, is_committed};
-ghost use Rattle.repository_laws.specs.Coming.{Moves};
+ghost use Rattle.law_repo_memory.specs.Coming.{Moves};
 ghost use Rattle.thor_value.specs.FiniteMap.{has};
 ghost use Rattle.repo_core.specs.Shown.{faults_of, ShowsPages};
-ghost use Rattle.stable_store.specs.Failing.{HasFailed, is_stopped};
-ghost use Rattle.trace_record.specs.Recorded.{with_entry};
+ghost use Rattle.repo_durable.specs.Failing.{HasFailed, is_stopped};
+ghost use Rattle.repo_trace.specs.Recorded.{with_entry};
 ghost use Rattle.two_phase.specs.Contents.{standing};
 ghost use Rattle.repo_core.specs.Moving.{HasRoomFor};
 ghost use Rattle.repo_core.specs.Refusing.{CanRefuse, GoesDown, IsGone, IsPageDamage, Leaves};
 ghost use Rattle.repo_core.specs.Telling.{Tells};
-ghost use Rattle.refusal_reasons.specs.declared.reason.Reason.TheVariants.{Gone as AGone};
-ghost use Rattle.validation_window.specs.declared.refusal.Refusal.TheVariants.{Damaged as IsDamaged, Reason as IsReason, Stopped as IsStopped};
+ghost use Rattle.base_reasons.specs.declared.reason.Reason.TheVariants.{Gone as AGone};
+ghost use Rattle.repo_refusals.specs.declared.refusal.Refusal.TheVariants.{Damaged as IsDamaged, Reason as IsReason, Stopped as IsStopped};
 
 use crate::repo::Repo;
-use commit_log::Entry;
 use disk_trait::Parts;
-use message_outbox::Verdict;
+use log_entries::Entry;
+use repo_refusals::Refusal;
+use session_outbox::Verdict;
 use thor_value::Ts;
 use two_phase::Standing;
-use validation_window::Refusal;
 
 impl<P: Parts> Repo<P> {
     /// Decides a transaction that the session prepared here and that this repository coordinates. Refusal:

@@ -1,22 +1,22 @@
 //! A client draws a timestamp.
 
 ghost use Rattle.std.specs.Prelude.{◌≡◌, ◌<◌, ◌^◌, IfErr, IfOk, IsErrOf, None, OnOk, false, true};
-ghost use Rattle.live_sessions.specs.Sessions.{is_live};
+ghost use Rattle.repo_sessions.specs.Sessions.{is_live};
 ghost use Rattle.repo_core.specs.Behind.{Stands, is_marked, with_refusal};
-ghost use Rattle.session_outbox.specs.declared.mark.Mark.TheVariants.{Drew as Draws};
-ghost use Rattle.trace_record.specs.Recorded.{with_mark};
+ghost use Rattle.spec_trace.specs.declared.mark.Mark.TheVariants.{Drew as Draws};
+ghost use Rattle.repo_trace.specs.Recorded.{with_mark};
 ghost use Rattle.repo_core.specs.Refusing.{CanRefuse, Leaves, StaysAsWas};
 ghost use Rattle.repo_core.specs.Calls.{DrawIsRefused, IsDrawn, WasAsked};
-ghost use Rattle.refusal_reasons.specs.declared.reason.Reason.TheVariants.{ClockEnd as IsClockEnd, Gone as IsGone};
-ghost use Rattle.validation_window.specs.declared.refusal.Refusal.TheVariants.{Down as IsDown, NoMemory as IsNoMemory, Reason as IsReason};
+ghost use Rattle.base_reasons.specs.declared.reason.Reason.TheVariants.{ClockEnd as IsClockEnd, Gone as IsGone};
+ghost use Rattle.repo_refusals.specs.declared.refusal.Refusal.TheVariants.{Down as IsDown, NoMemory as IsNoMemory, Reason as IsReason};
 ghost use Rattle.repo_core.specs.Shown.{ShowsPages};
 
 use crate::repo::Repo;
+use base_reasons::Reason;
 use disk_trait::Parts;
-use refusal_reasons::Reason;
-use session_outbox::Mark;
+use repo_refusals::Refusal;
+use spec_trace::Mark;
 use thor_value::Ts;
-use validation_window::Refusal;
 
 /// The times that are drawn are below this one.
 const CLOCK_END: u64 = 1 << 62;

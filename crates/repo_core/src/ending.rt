@@ -1,22 +1,22 @@
 //! How an event begins and ends.
 
-ghost use Rattle.commit_log.specs.declared.entry.Entry.{Entry as AnEntry};
+ghost use Rattle.log_entries.specs.declared.entry.Entry.{Entry as AnEntry};
 ghost use Rattle.repo_core.specs.Behind.{is_marked};
-ghost use Rattle.stable_store.specs.Kept.{is_fault};
+ghost use Rattle.repo_durable.specs.Kept.{is_fault};
 ghost use Rattle.repo_core.specs.Refusing.{GoesDown, Leaves, StaysAsWas};
 ghost use Rattle.std.specs.Prelude.{◌≡◌, IfErr, Ok, OnErr, OnOk, Option, false, true};
-ghost use Rattle.live_sessions.specs.Sessions.{is_live};
-ghost use Rattle.trace_record.specs.Recorded.{with_mark};
-ghost use Rattle.refusal_reasons.specs.declared.reason.Reason.TheVariants.{Gone as IsGone};
-ghost use Rattle.validation_window.specs.declared.refusal.Refusal.TheVariants.{Down as IsDown, NoMemory as IsNoMemory, Reason as IsReason};
+ghost use Rattle.repo_sessions.specs.Sessions.{is_live};
+ghost use Rattle.repo_trace.specs.Recorded.{with_mark};
+ghost use Rattle.base_reasons.specs.declared.reason.Reason.TheVariants.{Gone as IsGone};
+ghost use Rattle.repo_refusals.specs.declared.refusal.Refusal.TheVariants.{Down as IsDown, NoMemory as IsNoMemory, Reason as IsReason};
 ghost use Rattle.repo_core.specs.Shown.{ShowsPages};
 
 use crate::repo::Repo;
+use base_reasons::Reason;
 use disk_trait::Parts;
-use refusal_reasons::Reason;
-use session_outbox::Mark;
+use repo_refusals::Refusal;
+use spec_trace::Mark;
 use thor_value::NoMemory;
-use validation_window::Refusal;
 
 impl<P: Parts> Repo<P> {
     /// Refuses a call on a repository that is down.

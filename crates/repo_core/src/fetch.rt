@@ -1,21 +1,21 @@
 //! A client asks for a page.
 
 ghost use Rattle.std.specs.Prelude.{◌≡◌, OnErr, OnOk, true, IfErr, None, length, IsErrOf, false, ℕ};
-ghost use Rattle.live_sessions.specs.Sessions.{is_live};
+ghost use Rattle.repo_sessions.specs.Sessions.{is_live};
 ghost use Rattle.repo_core.specs.Behind.{MovesObjects, Stands};
-ghost use Rattle.session_outbox.specs.declared.mark.Mark.TheVariants.{Fetched as Fetches};
+ghost use Rattle.spec_trace.specs.declared.mark.Mark.TheVariants.{Fetched as Fetches};
 ghost use Rattle.repo_core.specs.Shown.{faults_of, ShowsPages};
-ghost use Rattle.stable_store.specs.Failing.{HasFailed, is_stopped};
-ghost use Rattle.trace_record.specs.Recorded.{with_mark};
+ghost use Rattle.repo_durable.specs.Failing.{HasFailed, is_stopped};
+ghost use Rattle.repo_trace.specs.Recorded.{with_mark};
 ghost use Rattle.repo_core.specs.Refusing.{CanRefuse, IsGone, IsPageDamage, Leaves};
 ghost use Rattle.repo_core.specs.Telling.{SendsPage};
-ghost use Rattle.refusal_reasons.specs.declared.reason.Reason.TheVariants.{Gone as AGone};
-ghost use Rattle.validation_window.specs.declared.refusal.Refusal.TheVariants.{Damaged as IsDamaged, Reason as IsReason, Stopped as IsStopped};
+ghost use Rattle.base_reasons.specs.declared.reason.Reason.TheVariants.{Gone as AGone};
+ghost use Rattle.repo_refusals.specs.declared.refusal.Refusal.TheVariants.{Damaged as IsDamaged, Reason as IsReason, Stopped as IsStopped};
 
 use crate::repo::Repo;
 use disk_trait::Parts;
-use session_outbox::Mark;
-use validation_window::Refusal;
+use repo_refusals::Refusal;
+use spec_trace::Mark;
 
 impl<P: Parts> Repo<P> {
     /// Puts a page into the session's outbox, as it stands behind all entries. The messages below `upto` are

@@ -1,26 +1,26 @@
 //! A participant learns the coordinator's verdict.
 
 ghost use Rattle.std.specs.Prelude.{◌≡◌, IfOk, OnErr, OnOk, Some, None, cond, is_some, false, length, true, IfErr, IsErrOf, ℕ};
-ghost use Rattle.commit_log.specs.declared.entry.Entry.TheVariants.{Finished as Finishes};
+ghost use Rattle.log_entries.specs.declared.entry.Entry.TheVariants.{Finished as Finishes};
 ghost use Rattle.repo_core.specs.Behind.{HasMoved, Stands};
 ghost use Rattle.thor_value.specs.Spelling.{TsFits};
-ghost use Rattle.repository_laws.specs.Coming.{Moves};
+ghost use Rattle.law_repo_memory.specs.Coming.{Moves};
 ghost use Rattle.thor_value.specs.FiniteMap.{has};
 ghost use Rattle.repo_core.specs.Shown.{faults_of, ShowsPages};
-ghost use Rattle.stable_store.specs.Failing.{HasFailed, is_stopped};
-ghost use Rattle.trace_record.specs.Recorded.{with_entry};
+ghost use Rattle.repo_durable.specs.Failing.{HasFailed, is_stopped};
+ghost use Rattle.repo_trace.specs.Recorded.{with_entry};
 ghost use Rattle.two_phase.specs.Contents.{open_at};
 ghost use Rattle.repo_core.specs.Moving.{HasRoomFor};
 ghost use Rattle.repo_core.specs.Refusing.{CanRefuse, GoesDown, HasNoReason, IsPageDamage, Leaves};
 ghost use Rattle.repo_core.specs.Telling.{Tells};
-ghost use Rattle.validation_window.specs.declared.refusal.Refusal.TheVariants.{Damaged as IsDamaged, Stopped as IsStopped};
+ghost use Rattle.repo_refusals.specs.declared.refusal.Refusal.TheVariants.{Damaged as IsDamaged, Stopped as IsStopped};
 
 use crate::repo::Repo;
-use commit_log::Entry;
 use disk_trait::Parts;
-use message_outbox::Verdict;
+use log_entries::Entry;
+use repo_refusals::Refusal;
+use session_outbox::Verdict;
 use thor_value::Ts;
-use validation_window::Refusal;
 
 impl<P: Parts> Repo<P> {
     /// Finishes a transaction by the coordinator's verdict. The answer is the place of the entry; `None`

@@ -5,14 +5,14 @@ ghost use Rattle.std.specs.Option.{IfSome};
 ghost use Rattle.repo_core.specs.Behind.{MovesObjects, Stands};
 ghost use Rattle.repo_core.specs.Refusing.{CanRefuse, HasNoReason, IsPageDamage, Rests};
 ghost use Rattle.repo_core.specs.Shown.{faults_of, ShowsPages};
-ghost use Rattle.stable_store.specs.Failing.{HasFailed, is_stopped};
-ghost use Rattle.stable_store.specs.Flushes.{IsOldest, left_by};
-ghost use Rattle.validation_window.specs.declared.refusal.Refusal.TheVariants.{Damaged as IsDamaged, Stopped as IsStopped};
+ghost use Rattle.repo_durable.specs.Failing.{HasFailed, is_stopped};
+ghost use Rattle.repo_durable.specs.Flushes.{IsOldest, left_by};
+ghost use Rattle.repo_refusals.specs.declared.refusal.Refusal.TheVariants.{Damaged as IsDamaged, Stopped as IsStopped};
 
 use crate::repo::Repo;
 use disk_trait::Parts;
 use mob_flusher::Flushed;
-use validation_window::Refusal;
+use repo_refusals::Refusal;
 
 impl<P: Parts> Repo<P> {
     /// Writes the page of the oldest buffered object, with all its buffered objects, to the side of it that

@@ -2,16 +2,16 @@
 
 ghost use Rattle.std.specs.Prelude.{◌≡◌, OnErr, OnOk, IfErr, None};
 ghost use Rattle.repo_core.specs.Behind.{Stands, forgotten};
-ghost use Rattle.session_outbox.specs.declared.mark.Mark.TheVariants.{Forgot as Forgets};
-ghost use Rattle.trace_record.specs.Recorded.{with_mark};
+ghost use Rattle.spec_trace.specs.declared.mark.Mark.TheVariants.{Forgot as Forgets};
+ghost use Rattle.repo_trace.specs.Recorded.{with_mark};
 ghost use Rattle.repo_core.specs.Refusing.{CanRefuse, HasNoReason, Leaves};
 ghost use Rattle.repo_core.specs.Shown.{ShowsPages};
 
 use crate::repo::Repo;
 use disk_trait::Parts;
-use session_outbox::Mark;
+use repo_refusals::Refusal;
+use spec_trace::Mark;
 use thor_value::Ts;
-use validation_window::Refusal;
 
 impl<P: Parts> Repo<P> {
     /// Forgets the decision to commit a transaction, which every other participant has finished. It leaves

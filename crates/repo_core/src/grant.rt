@@ -1,24 +1,24 @@
 //! A client asks for names.
 
 ghost use Rattle.std.specs.Prelude.{◌≡◌, ◌+◌, ◌<◌, IfErr, IfOk, None, Ok, OnOk, Option, false, length, true};
-ghost use Rattle.live_sessions.specs.Sessions.{is_live, sent};
-ghost use Rattle.message_outbox.specs.declared.message.Message.TheVariants.{Grant as AGrant};
+ghost use Rattle.repo_sessions.specs.Sessions.{is_live, sent};
+ghost use Rattle.session_outbox.specs.declared.message.Message.TheVariants.{Grant as AGrant};
 ghost use Rattle.repo_core.specs.Behind.{Stands, is_marked, with_refusal};
-ghost use Rattle.session_outbox.specs.declared.mark.Mark.TheVariants.{Granted as Grants};
-ghost use Rattle.trace_record.specs.Recorded.{with_mark};
-ghost use Rattle.commit_log.specs.declared.entry.Entry.{Entry as AnEntry};
+ghost use Rattle.spec_trace.specs.declared.mark.Mark.TheVariants.{Granted as Grants};
+ghost use Rattle.repo_trace.specs.Recorded.{with_mark};
+ghost use Rattle.log_entries.specs.declared.entry.Entry.{Entry as AnEntry};
 ghost use Rattle.repo_core.specs.Refusing.{CanRefuse, GoesDown, Leaves};
-ghost use Rattle.stable_store.specs.Kept.{is_fault};
+ghost use Rattle.repo_durable.specs.Kept.{is_fault};
 ghost use Rattle.repo_core.specs.Calls.{GrantIsRefused};
-ghost use Rattle.validation_window.specs.declared.refusal.Refusal.TheVariants.{NoMemory as IsNoMemory};
+ghost use Rattle.repo_refusals.specs.declared.refusal.Refusal.TheVariants.{NoMemory as IsNoMemory};
 ghost use Rattle.repo_core.specs.Shown.{ShowsPages};
 
 use crate::repo::Repo;
+use base_reasons::Reason;
 use disk_trait::Parts;
-use refusal_reasons::Reason;
-use session_outbox::Mark;
+use repo_refusals::Refusal;
+use spec_trace::Mark;
 use thor_value::{NoMemory, PAGES};
-use validation_window::Refusal;
 
 impl<P: Parts> Repo<P> {
     /// Puts a page that was never granted into the session's outbox, for the names of new objects. Refusals:

@@ -26,6 +26,6 @@ mod stop;
 mod writing;
 
 pub use repo::Repo;
+pub use repo_durable::{OpenCause, OpenFault};
+pub use repo_trace::{Entries, Marks, Trace, Traces};
 pub use request_form::is_well_formed;
-pub use stable_store::{OpenCause, OpenFault};
-pub use trace_record::{Entries, Marks, Trace, Traces};

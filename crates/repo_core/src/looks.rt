@@ -4,26 +4,26 @@ ghost use Rattle.std.specs.Prelude.{◌≡◌, None, cond, false, nat_eq, true};
 ghost use Rattle.std.specs.Option.{IfSome};
 ghost use Rattle.cached_sets.specs.Sets as sets;
 ghost use Rattle.disk_trait.specs.Fused.{fused_disks};
-ghost use Rattle.held_state.specs.Keeps.{TableFits};
-ghost use Rattle.live_sessions.specs.Sessions.{is_live};
+ghost use Rattle.repo_state.specs.Keeps.{TableFits};
+ghost use Rattle.repo_sessions.specs.Sessions.{is_live};
 ghost use Rattle.mob_buffer.specs.Buffer.{bytes_of};
 ghost use Rattle.repo_core.specs.Behind.{AreOwn, IsLeastOfOthers, epoch_of, has_prepared};
-ghost use Rattle.stable_store.specs.Saying.{ImagesSay};
+ghost use Rattle.repo_durable.specs.Saying.{ImagesSay};
 ghost use Rattle.thor_value.specs.FiniteMap.{has};
-ghost use Rattle.volatile_state.specs.Volatile.{knows};
+ghost use Rattle.repo_volatile.specs.Volatile.{knows};
 
 use crate::repo::Repo;
-use commit_log::Entry;
 use disk_trait::{Fused, Parts};
-use held_state::HeldState;
-use session_outbox::Mark;
+use log_entries::Entry;
+use repo_state::HeldState;
+use spec_trace::Mark;
 use thor_value::{Oref, Ts};
 use two_phase::Table;
 
 impl<P: Parts> Repo<P> {
     /// Its parts. Whether it is up or down, each image that a crash of their disks may leave says what it holds, or that with
     /// the entry that was being written; of one that is torn nothing is said.
-    #[tactic(auto, using(stable_store::proofs::Saying::images_of))]
+    #[tactic(auto, using(repo_durable::proofs::Saying::images_of))]
     pub fn parts(&self) -> &Fused<P>
         ensures { self.now.is_torn ≡ false → ImagesSay (fused_disks P.disks result.now) self.now.held self.now.pending }
     {

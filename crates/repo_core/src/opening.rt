@@ -1,32 +1,32 @@
 //! A repository is opened.
 
 ghost use Rattle.std.specs.Prelude.{◌≡◌, ◌+◌, ◌≤◌, IfOk, List, Some, true, ℕ};
-ghost use Rattle.commit_log.specs.declared.entry.Entry.TheVariants.{Life as ALife};
+ghost use Rattle.log_entries.specs.declared.entry.Entry.TheVariants.{Life as ALife};
 ghost use Rattle.disk_trait.specs.AllDisks.{AllSettled, TellsAll};
-ghost use Rattle.held_state.specs.Keeps.{Keeps};
-ghost use Rattle.held_state.specs.Said.{said};
-ghost use Rattle.log_bytes.specs.declared.state.State.{State as AState};
-ghost use Rattle.stable_store.specs.Kept.{IsKept, disks_of, held_of, is_up};
-ghost use Rattle.stable_store.specs.Saying.{IsSaid};
-ghost use Rattle.stable_store.specs.Taking.{AgreesWhere};
-ghost use Rattle.state_log.specs.Holds.{Holds};
-ghost use Rattle.store_format.specs.Pages.{HasRoots};
-ghost use Rattle.trace_record.specs.Recorded.{nothing, with_entry};
+ghost use Rattle.repo_state.specs.Keeps.{Keeps};
+ghost use Rattle.repo_state.specs.Said.{said};
+ghost use Rattle.log_codec.specs.declared.state.State.{State as AState};
+ghost use Rattle.repo_durable.specs.Kept.{IsKept, disks_of, held_of, is_up};
+ghost use Rattle.repo_durable.specs.Saying.{IsSaid};
+ghost use Rattle.repo_durable.specs.Taking.{AgreesWhere};
+ghost use Rattle.commit_log.specs.Holds.{Holds};
+ghost use Rattle.repo_format.specs.Pages.{HasRoots};
+ghost use Rattle.repo_trace.specs.Recorded.{nothing, with_entry};
 ghost use Rattle.repo_core.specs.Restarting.{Begins, IsNew};
 ghost use Rattle.disk_trait.specs.Disks.{WhereTold};
-ghost use Rattle.stable_store.specs.Pages.{ArePages, HasPages};
+ghost use Rattle.repo_durable.specs.Pages.{ArePages, HasPages};
 ghost use Rattle.repo_core.specs.Shown.{ShowsPages};
 
 use crate::repo::Repo;
 use class_defs::Setup;
 use disk_trait::Parts;
 use recovery::Recovered;
-use stable_store::{OpenCause, OpenFault, Stable};
+use repo_durable::{OpenCause, OpenFault, Stable};
+use repo_format::format;
+use repo_refusals::Refusal;
+use repo_trace::Recorder;
+use repo_volatile::Memory;
 use std::alloc::Global;
-use store_format::format;
-use trace_record::Recorder;
-use validation_window::Refusal;
-use volatile_state::Memory;
 
 impl<P: Parts> Repo<P> {
     /// A repository of what was recovered from its disks. A Life is written: what an earlier opening left

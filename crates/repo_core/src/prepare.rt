@@ -1,22 +1,22 @@
 //! A transaction that has other participants, too, is prepared.
 
 ghost use Rattle.std.specs.Prelude.{◌≡◌, IfErr, IfOk, None, OnOk, Some, false, length, true, IsErrOf, ℕ};
-ghost use Rattle.commit_log.specs.declared.entry.Entry.TheVariants.{Prepared as Prepares};
-ghost use Rattle.held_state.specs.Entering.{entered as entered_in, prepared_in};
+ghost use Rattle.log_entries.specs.declared.entry.Entry.TheVariants.{Prepared as Prepares};
+ghost use Rattle.repo_state.specs.Entering.{entered as entered_in, prepared_in};
 ghost use Rattle.repo_core.specs.Behind.{HasMoved, Stands, epoch_of, with_refusal, is_marked};
 ghost use Rattle.repo_core.specs.Calls.{MayRequest, judged};
 ghost use Rattle.repo_core.specs.Moving.{HasRoom};
 ghost use Rattle.repo_core.specs.Shown.{faults_of, ShowsPages};
-ghost use Rattle.stable_store.specs.Failing.{HasFailed, is_stopped};
-ghost use Rattle.trace_record.specs.Recorded.{with_entry};
-ghost use Rattle.volatile_state.specs.Volatile.{entered, verdict};
+ghost use Rattle.repo_durable.specs.Failing.{HasFailed, is_stopped};
+ghost use Rattle.repo_trace.specs.Recorded.{with_entry};
+ghost use Rattle.repo_volatile.specs.Volatile.{entered, verdict};
 ghost use Rattle.repo_core.specs.Refusing.{CanRefuse, GoesDown, IsPageDamage, Leaves, made_of};
-ghost use Rattle.validation_window.specs.declared.refusal.Refusal.TheVariants.{Damaged as IsDamaged, Stopped as IsStopped};
+ghost use Rattle.repo_refusals.specs.declared.refusal.Refusal.TheVariants.{Damaged as IsDamaged, Stopped as IsStopped};
 
 use crate::repo::Repo;
-use commit_log::{Entry, Request};
 use disk_trait::Parts;
-use validation_window::Refusal;
+use log_entries::{Entry, Request};
+use repo_refusals::Refusal;
 
 impl<P: Parts> Repo<P> {
     /// Prepares a transaction that has other participants, too. The answer is the place of its entry.

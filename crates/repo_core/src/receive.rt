@@ -1,26 +1,26 @@
 //! A client takes a message.
 
 ghost use Rattle.std.specs.Prelude.{◌≡◌, IfOk, OnErr, OnOk, Option, true, IfErr, None, IsErrOf, false};
-ghost use Rattle.live_sessions.specs.Sessions.{is_live, taken};
-ghost use Rattle.message_outbox.specs.Messages.{first};
-ghost use Rattle.message_outbox.specs.Outbox.{waiting};
+ghost use Rattle.repo_sessions.specs.Sessions.{is_live, taken};
+ghost use Rattle.session_outbox.specs.Messages.{first};
+ghost use Rattle.session_outbox.specs.Outbox.{waiting};
 ghost use Rattle.repo_core.specs.Behind.{Stands, with_taken};
-ghost use Rattle.commit_log.specs.declared.entry.Entry.{Entry as AnEntry};
+ghost use Rattle.log_entries.specs.declared.entry.Entry.{Entry as AnEntry};
 ghost use Rattle.repo_core.specs.Refusing.{CanRefuse, GoesDown, IsGone, Leaves};
-ghost use Rattle.stable_store.specs.Kept.{is_fault};
-ghost use Rattle.validation_window.specs.declared.refusal.Refusal.TheVariants.{NoMemory as IsNoMemory, Reason as IsReason};
-ghost use Rattle.refusal_reasons.specs.declared.reason.Reason.TheVariants.{Gone as AGone};
+ghost use Rattle.repo_durable.specs.Kept.{is_fault};
+ghost use Rattle.repo_refusals.specs.declared.refusal.Refusal.TheVariants.{NoMemory as IsNoMemory, Reason as IsReason};
+ghost use Rattle.base_reasons.specs.declared.reason.Reason.TheVariants.{Gone as AGone};
 ghost use Rattle.repo_core.specs.Shown.{ShowsPages};
 
 use crate::repo::Repo;
 use disk_trait::Parts;
-use message_outbox::Message;
-use session_outbox::Mark;
-use validation_window::Refusal;
+use repo_refusals::Refusal;
+use session_outbox::Message;
+use spec_trace::Mark;
 
 impl<P: Parts> Repo<P> {
     /// Takes the oldest message that waits for the session; `None` exactly where none does. Refusal: `Gone`.
-    #[tactic(auto, using(crate::proofs::Readable::shown_has, crate::proofs::Refused::leaves_read, crate::proofs::Refused::moved_none, volatile_state::proofs::Lasting::stayed, crate::proofs::Causes::why_down, crate::proofs::Causes::why_reason, crate::proofs::Causes::lacks_memory))]
+    #[tactic(auto, using(crate::proofs::Readable::shown_has, crate::proofs::Refused::leaves_read, crate::proofs::Refused::moved_none, repo_volatile::proofs::Lasting::stayed, crate::proofs::Causes::why_down, crate::proofs::Causes::why_reason, crate::proofs::Causes::lacks_memory))]
     pub fn receive(&mut self, session: u32) -> Result<Option<Message>, Refusal>
         ensures stands { Stands self.old.is_up result self.new.is_up }
         ensures readable { ShowsPages self.old → ShowsPages self.new }

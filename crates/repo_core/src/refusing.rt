@@ -1,26 +1,26 @@
 //! How draws, grants and requests are refused.
 
 ghost use Rattle.std.specs.Map.{keys_of};
-ghost use Rattle.commit_log.specs.declared.entry.Entry.{Entry as AnEntry};
+ghost use Rattle.log_entries.specs.declared.entry.Entry.{Entry as AnEntry};
 ghost use Rattle.repo_core.specs.Refusing.{Leaves};
 ghost use Rattle.std.specs.Prelude.{◌≡◌, Err, IfErr, None, OnOk, Option, cond, false, true};
 ghost use Rattle.repo_core.specs.Behind.{epoch_of, is_marked, with_refusal};
-ghost use Rattle.commit_log.specs.RequestForm.{RequestFits};
-ghost use Rattle.stable_store.specs.Kept.{is_fault};
+ghost use Rattle.log_entries.specs.RequestForm.{RequestFits};
+ghost use Rattle.repo_durable.specs.Kept.{is_fault};
 ghost use Rattle.validation_queue.specs.Clashes.{clash};
 ghost use Rattle.validation_queue.specs.Names.{IsInOrder};
-ghost use Rattle.volatile_state.specs.Volatile.{transaction_of, verdict, answer};
+ghost use Rattle.repo_volatile.specs.Volatile.{transaction_of, verdict, answer};
 ghost use Rattle.repo_core.specs.Calls.{full_of, judged};
 ghost use Rattle.std.specs.Option.{option_or};
-ghost use Rattle.validation_window.specs.declared.refusal.Refusal.TheVariants.{NoMemory as IsNoMemory};
-ghost use Rattle.validation_window.specs.declared.refusal.Refusal.{Refusal as ARefusal};
+ghost use Rattle.repo_refusals.specs.declared.refusal.Refusal.TheVariants.{NoMemory as IsNoMemory};
+ghost use Rattle.repo_refusals.specs.declared.refusal.Refusal.{Refusal as ARefusal};
 ghost use Rattle.repo_core.specs.Shown.{ShowsPages};
 
 use crate::repo::Repo;
-use commit_log::Request;
 use disk_trait::Parts;
-use session_outbox::Mark;
-use validation_window::Refusal;
+use log_entries::Request;
+use repo_refusals::Refusal;
+use spec_trace::Mark;
 
 impl<P: Parts> Repo<P> {
     /// Puts the mark of a refused draw, grant or request behind the trace. The answer is the refusal, or

@@ -3,11 +3,11 @@
 ghost use Rattle.std.specs.Prelude.{◌≡◌};
 
 use disk_trait::Parts;
-use stable_store::Stable;
+use repo_durable::Stable;
+use repo_trace::{Recorder, Trace};
+use repo_volatile::Memory;
 use std::alloc::Global;
 use std::marker::Model;
-use trace_record::{Recorder, Trace};
-use volatile_state::Memory;
 
 /// A repository: what of it outlives a crash, what a restart begins anew, and its trace since it was opened.
 /// While it is up it is consistent with its disks, and whether it is up or down, they say what it holds (`parts`).
@@ -26,8 +26,8 @@ pub struct Repo<P: Parts> {
 
 impl<P: Parts> Model for Repo<P> {
     ghost use Rattle.repo_core.specs.Shown.{Shown, shown};
-    ghost use Rattle.stable_store.specs.Kept.{IsKept};
-    ghost use Rattle.stable_store.specs.Saying.{IsSaid};
+    ghost use Rattle.repo_durable.specs.Kept.{IsKept};
+    ghost use Rattle.repo_durable.specs.Saying.{IsSaid};
 
     ghost Value = { Shown };
 

@@ -4,9 +4,9 @@ ghost use Rattle.std.specs.Int.{w64};
 ghost use Rattle.std.specs.Ordering.{nat_cmp};
 ghost use Rattle.std.specs.Prelude.{◌≡◌, ◌<◌, FitsSigned, IsTrue};
 ghost use Rattle.std.specs.List.{AllByRecursion};
-ghost use Rattle.commit_log.specs.RequestForm.{AnswerFits, IsWellFormed, RequestFits, WriteFits};
-ghost use Rattle.state_log.specs.Recovered.{are_of};
-ghost use Rattle.log_bytes.specs.Grammar.{is_above, rise};
+ghost use Rattle.log_entries.specs.RequestForm.{AnswerFits, IsWellFormed, RequestFits, WriteFits};
+ghost use Rattle.commit_log.specs.Recovered.{are_of};
+ghost use Rattle.log_codec.specs.Grammar.{is_above, rise};
 ghost use Rattle.object_codec.specs.Spelling.{ObjFits};
 ghost use Rattle.repo_core.specs.Calls.{MayRequest};
 ghost use Rattle.std.specs.Map.{keys_of};
@@ -14,8 +14,8 @@ ghost use Rattle.thor_value.specs.Spelling.{OrefFits, TsFits, ValueFits};
 ghost use Rattle.validation_queue.specs.Names.{IsInOrder};
 
 use crate::repo::Repo;
-use commit_log::Request;
 use disk_trait::Parts;
+use log_entries::Request;
 use thor_value::{Answer, Obj, Oref, Ts, Value};
 use validation_queue::is_in_order;
 

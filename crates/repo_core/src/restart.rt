@@ -1,35 +1,35 @@
 //! A repository is restarted.
 
 ghost use Rattle.std.specs.Prelude.{◌≡◌, ◌+◌, ◌<◌, ◌≤◌, IfErr, IsErrOf, IsTrue, OnErr, OnOk, false, true, Some, ℕ};
-ghost use Rattle.commit_log.specs.declared.entry.Entry.TheVariants.{Life as ALife};
-ghost use Rattle.live_sessions.specs.Sessions.{ended};
-ghost use Rattle.log_bytes.specs.Grammar.{BodyFits};
-ghost use Rattle.log_bytes.specs.declared.body.Body.TheVariants.{Entry as AnEntry};
+ghost use Rattle.log_entries.specs.declared.entry.Entry.TheVariants.{Life as ALife};
+ghost use Rattle.repo_sessions.specs.Sessions.{ended};
+ghost use Rattle.log_codec.specs.Grammar.{BodyFits};
+ghost use Rattle.log_codec.specs.declared.body.Body.TheVariants.{Entry as AnEntry};
 ghost use Rattle.repo_core.specs.Behind.{IsRecovered, IsRestarted, Stands, is_marked};
 ghost use Rattle.repo_core.specs.Shown.{faults_of, ShowsPages};
-ghost use Rattle.stable_store.specs.Failing.{HasFailed, NoFewer, is_stopped};
-ghost use Rattle.stable_store.specs.Kept.{IsKept, disks_of, held_of, is_fault, is_up, parts_in};
-ghost use Rattle.stable_store.specs.Saying.{IsAhead, IsSaid};
-ghost use Rattle.trace_record.specs.Recorded.{with_entry};
+ghost use Rattle.repo_durable.specs.Failing.{HasFailed, NoFewer, is_stopped};
+ghost use Rattle.repo_durable.specs.Kept.{IsKept, disks_of, held_of, is_fault, is_up, parts_in};
+ghost use Rattle.repo_durable.specs.Saying.{IsAhead, IsSaid};
+ghost use Rattle.repo_trace.specs.Recorded.{with_entry};
 ghost use Rattle.repo_core.specs.Restarting.{AllTold, ComesUp, DropsEarlier, LetsGo, StaysDown, Takes, TakesNone, life_behind};
 ghost use Rattle.repo_core.specs.Moving.{Falls};
 ghost use Rattle.repo_core.specs.Refusing.{GoesDown};
-ghost use Rattle.repository_laws.specs.Running.{came_with};
-ghost use Rattle.repository_laws.specs.Coming.{BeginsLife};
-ghost use Rattle.held_state.specs.Entering.{can_enter, entered};
-ghost use Rattle.validation_window.specs.declared.refusal.Refusal.TheVariants.{Damaged as IsDamaged, NoMemory as IsNoMemory, Stopped as IsStopped};
-ghost use Rattle.volatile_state.specs.Volatile.{Outlasts};
-ghost use Rattle.stable_store.specs.Pages.{HasPages};
+ghost use Rattle.law_repo_memory.specs.Running.{came_with};
+ghost use Rattle.law_repo_memory.specs.Coming.{BeginsLife};
+ghost use Rattle.repo_state.specs.Entering.{can_enter, entered};
+ghost use Rattle.repo_refusals.specs.declared.refusal.Refusal.TheVariants.{Damaged as IsDamaged, NoMemory as IsNoMemory, Stopped as IsStopped};
+ghost use Rattle.repo_volatile.specs.Volatile.{Outlasts};
+ghost use Rattle.repo_durable.specs.Pages.{HasPages};
 
 use crate::repo::Repo;
 use crate::writing::{note, record};
-use commit_log::Entry;
 use disk_trait::Parts;
-use stable_store::{Stable, Taken};
+use log_entries::Entry;
+use repo_durable::{Stable, Taken};
+use repo_refusals::Refusal;
+use repo_trace::Recorder;
+use repo_volatile::Memory;
 use thor_value::Ts;
-use trace_record::Recorder;
-use validation_window::Refusal;
-use volatile_state::Memory;
 
 impl<P: Parts> Repo<P> {
     /// Takes the repository down where it is up, crashes its disks, recovers from them, and writes a Life.
@@ -143,7 +143,7 @@ impl<P: Parts> Repo<P> {
 }
 
 /// Takes the pending entry, which the disks have.
-#[tactic(auto, using(crate::proofs::Entered::falls_told, volatile_state::proofs::Lasting::lasts_itself))]
+#[tactic(auto, using(crate::proofs::Entered::falls_told, repo_volatile::proofs::Lasting::lasts_itself))]
 fn take_pending<P: Parts>(
     stable: &mut Stable<P>,
     memory: &mut Memory,
@@ -178,7 +178,7 @@ fn take_pending<P: Parts>(
 }
 
 /// Forgets the kept decisions of transactions of earlier lives than this one.
-#[tactic(auto, using(stable_store::proofs::Readable::tabled_has))]
+#[tactic(auto, using(repo_durable::proofs::Readable::tabled_has))]
 fn forget_before<P: Parts>(stable: &mut Stable<P>, life: u32)
     requires kept { IsKept P.disks stable.old }
     requires up { is_up stable.old ≡ true }
@@ -204,7 +204,7 @@ fn forget_before<P: Parts>(stable: &mut Stable<P>, life: u32)
 }
 
 /// Forgets a kept decision, where its transaction is of an earlier life than this one.
-#[tactic(auto, using(crate::proofs::Letting::goes_itself, stable_store::proofs::Readable::tabled_has))]
+#[tactic(auto, using(crate::proofs::Letting::goes_itself, repo_durable::proofs::Readable::tabled_has))]
 fn forget_earlier<P: Parts>(stable: &mut Stable<P>, tx: Ts, life: u32)
     requires kept { IsKept P.disks stable.old }
     requires up { is_up stable.old ≡ true }
@@ -223,7 +223,7 @@ fn forget_earlier<P: Parts>(stable: &mut Stable<P>, tx: Ts, life: u32)
 }
 
 /// Forgets a kept decision of a transaction of an earlier life than this one.
-#[tactic(auto, using(crate::proofs::Letting::one_goes_in, crate::proofs::Letting::table_alone, stable_store::proofs::Readable::tabled_has))]
+#[tactic(auto, using(crate::proofs::Letting::one_goes_in, crate::proofs::Letting::table_alone, repo_durable::proofs::Readable::tabled_has))]
 fn forget_one<P: Parts>(stable: &mut Stable<P>, tx: Ts, life: u32)
     requires kept { IsKept P.disks stable.old }
     requires up { is_up stable.old ≡ true }

@@ -3,31 +3,31 @@
 ghost use Rattle.disk_trait.specs.AllDisks.{NoFault};
 ghost use Rattle.std.specs.List.{AllByRecursion};
 ghost use Rattle.std.specs.Prelude.{◌≡◌, IfErr, IsErrOf, false, true, OnErr, Option, None, OnOk, ◌<◌, ◌≤◌, ℕ};
-ghost use Rattle.held_state.specs.Keeps.{Keeps};
+ghost use Rattle.repo_state.specs.Keeps.{Keeps};
 ghost use Rattle.mob_buffer.specs.Buffer.{CanStand, bytes_of};
 ghost use Rattle.repo_core.specs.Behind.{MovesObjects, Stands, is_marked};
 ghost use Rattle.repo_core.specs.Moving.{HasRoom, HasRoomFor, MakesRoom};
-ghost use Rattle.stable_store.specs.Kept.{IsKept, RestsWith, disks_of, held_of, is_fault, is_up, repo_named};
-ghost use Rattle.stable_store.specs.Saying.{IsSaid};
-ghost use Rattle.commit_log.specs.declared.entry.Entry.{Entry as AnEntry};
+ghost use Rattle.repo_durable.specs.Kept.{IsKept, RestsWith, disks_of, held_of, is_fault, is_up, repo_named};
+ghost use Rattle.repo_durable.specs.Saying.{IsSaid};
+ghost use Rattle.log_entries.specs.declared.entry.Entry.{Entry as AnEntry};
 ghost use Rattle.repo_core.specs.Refusing.{IsPageDamage, Leaves};
 ghost use Rattle.repo_core.specs.Shown.{faults_of, ShowsPages};
-ghost use Rattle.stable_store.specs.Failing.{HasFailed, NoFewer, is_stopped};
-ghost use Rattle.stable_store.specs.Flushes.{HasFlushed};
-ghost use Rattle.refusal_reasons.specs.declared.reason.Reason.TheVariants.{Full as IsFull};
-ghost use Rattle.validation_window.specs.declared.refusal.Refusal.TheVariants.{Reason as IsReason, Stopped as IsStopped, Damaged as IsDamaged};
+ghost use Rattle.repo_durable.specs.Failing.{HasFailed, NoFewer, is_stopped};
+ghost use Rattle.repo_durable.specs.Flushes.{HasFlushed};
+ghost use Rattle.base_reasons.specs.declared.reason.Reason.TheVariants.{Full as IsFull};
+ghost use Rattle.repo_refusals.specs.declared.refusal.Refusal.TheVariants.{Reason as IsReason, Stopped as IsStopped, Damaged as IsDamaged};
 ghost use Rattle.page_store.specs.Store.{IsDamage};
-ghost use Rattle.stable_store.specs.Pages.{HasPages};
+ghost use Rattle.repo_durable.specs.Pages.{HasPages};
 
 use crate::repo::Repo;
+use base_reasons::Reason;
 use disk_trait::Parts;
-use held_state::HeldState;
 use mob_buffer::spelled_bytes;
 use mob_flusher::Flushed;
-use refusal_reasons::Reason;
-use stable_store::Stable;
+use repo_durable::Stable;
+use repo_refusals::Refusal;
+use repo_state::HeldState;
 use thor_value::{Ts, Writes};
-use validation_window::Refusal;
 
 impl<P: Parts> Repo<P> {
     /// Refuses writes that don't fit into the buffer by themselves.
@@ -46,7 +46,7 @@ impl<P: Parts> Repo<P> {
     }
 
     /// Flushes pages until writes fit into the buffer beside what is there, or it is empty.
-    #[tactic(auto, using(crate::proofs::Refused::leaves_down, crate::proofs::Refused::falls_with, crate::proofs::Refused::lasts_same, crate::proofs::Damage::some_shown, crate::proofs::Failing::failed_between, crate::proofs::Failing::ok_shown, crate::proofs::Failing::err_shown, crate::proofs::Failing::fewer_between, crate::proofs::Failing::fewer_same, stable_store::proofs::Flushes::flushed_none, crate::proofs::Readable::shown_has))]
+    #[tactic(auto, using(crate::proofs::Refused::leaves_down, crate::proofs::Refused::falls_with, crate::proofs::Refused::lasts_same, crate::proofs::Damage::some_shown, crate::proofs::Failing::failed_between, crate::proofs::Failing::ok_shown, crate::proofs::Failing::err_shown, crate::proofs::Failing::fewer_between, crate::proofs::Failing::fewer_same, repo_durable::proofs::Flushes::flushed_none, crate::proofs::Readable::shown_has))]
     pub(crate) fn make_room(&mut self, writes: &Writes) -> Result<(), Refusal>
         requires up { self.old.is_up ≡ true }
         requires fits { AllByRecursion CanStand writes.now }
@@ -70,7 +70,7 @@ impl<P: Parts> Repo<P> {
     }
 
     /// Does so for the writes of a transaction that is open here, where it commits.
-    #[tactic(auto, using(crate::proofs::Refused::leaves_down, crate::proofs::Refused::falls_with, crate::proofs::Refused::lasts_same, crate::proofs::Damage::some_shown, crate::proofs::Failing::failed_between, crate::proofs::Failing::ok_shown, crate::proofs::Failing::err_shown, crate::proofs::Failing::fewer_between, crate::proofs::Failing::fewer_same, stable_store::proofs::Flushes::flushed_none, crate::proofs::Readable::shown_has))]
+    #[tactic(auto, using(crate::proofs::Refused::leaves_down, crate::proofs::Refused::falls_with, crate::proofs::Refused::lasts_same, crate::proofs::Damage::some_shown, crate::proofs::Failing::failed_between, crate::proofs::Failing::ok_shown, crate::proofs::Failing::err_shown, crate::proofs::Failing::fewer_between, crate::proofs::Failing::fewer_same, repo_durable::proofs::Flushes::flushed_none, crate::proofs::Readable::shown_has))]
     pub(crate) fn make_room_for(&mut self, tx: Ts, commit: bool) -> Result<(), Refusal>
         requires { self.old.is_up ≡ true }
         ensures stands { Stands true result self.new.is_up }
@@ -97,7 +97,7 @@ impl<P: Parts> Repo<P> {
     }
 }
 
-#[tactic(auto, using(stable_store::proofs::Failing::fewer_none, stable_store::proofs::Counting::stays_none, stable_store::proofs::Counting::stays_then, stable_store::proofs::Flushes::flushed_none))]
+#[tactic(auto, using(repo_durable::proofs::Failing::fewer_none, repo_durable::proofs::Counting::stays_none, repo_durable::proofs::Counting::stays_then, repo_durable::proofs::Flushes::flushed_none))]
 fn make_room<P: Parts>(stable: &mut Stable<P>, writes: &Writes) -> Result<(), Refusal>
     requires kept { IsKept P.disks stable.old }
     requires says { IsSaid P.disks stable.old }
@@ -129,7 +129,7 @@ fn make_room<P: Parts>(stable: &mut Stable<P>, writes: &Writes) -> Result<(), Re
 }
 
 /// Flushes pages until the buffer keeps its limit with these writes, or it is empty.
-#[tactic(auto, using(stable_store::proofs::Failing::fewer_none, stable_store::proofs::Counting::stays_none, stable_store::proofs::Counting::stays_then, stable_store::proofs::Counting::err_behind, stable_store::proofs::Failing::fewer_then, stable_store::proofs::Failing::failed_behind, stable_store::proofs::Flushes::flushed_none, stable_store::proofs::Flushes::flushed_then, stable_store::proofs::Flushes::flushed_same))]
+#[tactic(auto, using(repo_durable::proofs::Failing::fewer_none, repo_durable::proofs::Counting::stays_none, repo_durable::proofs::Counting::stays_then, repo_durable::proofs::Counting::err_behind, repo_durable::proofs::Failing::fewer_then, repo_durable::proofs::Failing::failed_behind, repo_durable::proofs::Flushes::flushed_none, repo_durable::proofs::Flushes::flushed_then, repo_durable::proofs::Flushes::flushed_same))]
 fn flush_for<P: Parts>(stable: &mut Stable<P>, writes: &Writes) -> Result<(), Refusal>
     requires kept { IsKept P.disks stable.old }
     requires says { IsSaid P.disks stable.old }
@@ -165,7 +165,7 @@ fn flush_for<P: Parts>(stable: &mut Stable<P>, writes: &Writes) -> Result<(), Re
 }
 
 /// Flushes pages until the writes of a transaction that is open fit into the buffer, or it is empty.
-#[tactic(auto, using(stable_store::proofs::Failing::fewer_none, stable_store::proofs::Counting::stays_none, stable_store::proofs::Counting::stays_then, stable_store::proofs::Flushes::flushed_none))]
+#[tactic(auto, using(repo_durable::proofs::Failing::fewer_none, repo_durable::proofs::Counting::stays_none, repo_durable::proofs::Counting::stays_then, repo_durable::proofs::Flushes::flushed_none))]
 fn make_room_for<P: Parts>(stable: &mut Stable<P>, tx: Ts) -> Result<(), Refusal>
     requires kept { IsKept P.disks stable.old }
     requires says { IsSaid P.disks stable.old }
@@ -195,7 +195,7 @@ fn make_room_for<P: Parts>(stable: &mut Stable<P>, tx: Ts) -> Result<(), Refusal
     flush_open(stable, tx)
 }
 
-#[tactic(auto, using(stable_store::proofs::Failing::fewer_none, stable_store::proofs::Counting::stays_none, stable_store::proofs::Counting::stays_then, stable_store::proofs::Counting::err_behind, stable_store::proofs::Failing::fewer_then, stable_store::proofs::Failing::failed_behind, stable_store::proofs::Flushes::flushed_none, stable_store::proofs::Flushes::flushed_then, stable_store::proofs::Flushes::flushed_same))]
+#[tactic(auto, using(repo_durable::proofs::Failing::fewer_none, repo_durable::proofs::Counting::stays_none, repo_durable::proofs::Counting::stays_then, repo_durable::proofs::Counting::err_behind, repo_durable::proofs::Failing::fewer_then, repo_durable::proofs::Failing::failed_behind, repo_durable::proofs::Flushes::flushed_none, repo_durable::proofs::Flushes::flushed_then, repo_durable::proofs::Flushes::flushed_same))]
 fn flush_open<P: Parts>(stable: &mut Stable<P>, tx: Ts) -> Result<(), Refusal>
     requires kept { IsKept P.disks stable.old }
     requires says { IsSaid P.disks stable.old }

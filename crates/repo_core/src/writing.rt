@@ -1,45 +1,45 @@
 //! How an entry is written: into the log, then into what is held in memory, then into the trace.
 
 ghost use Rattle.std.specs.Prelude.{◌≡◌, IfErr, IfOk, IsErrOf, IsTrue, Ok, OnErr, OnOk, cond, false, length, nat_eq, true, ℕ, Some};
-ghost use Rattle.commit_log.specs.declared.request.Request.{Request as ARequest};
-ghost use Rattle.commit_log.specs.declared.entry.Entry.TheVariants.{Life as ALife, Prepared as Prepares};
-ghost use Rattle.held_state.specs.Entering.{can_enter, entered};
-ghost use Rattle.held_state.specs.Keeps.{Keeps, TableFits};
-ghost use Rattle.live_sessions.specs.Sessions.{ended, acknowledged};
-ghost use Rattle.log_bytes.specs.Grammar.{BodyFits};
-ghost use Rattle.log_bytes.specs.declared.body.Body.TheVariants.{Entry as AnEntry};
+ghost use Rattle.log_entries.specs.declared.request.Request.{Request as ARequest};
+ghost use Rattle.log_entries.specs.declared.entry.Entry.TheVariants.{Life as ALife, Prepared as Prepares};
+ghost use Rattle.repo_state.specs.Entering.{can_enter, entered};
+ghost use Rattle.repo_state.specs.Keeps.{Keeps, TableFits};
+ghost use Rattle.repo_sessions.specs.Sessions.{ended, acknowledged};
+ghost use Rattle.log_codec.specs.Grammar.{BodyFits};
+ghost use Rattle.log_codec.specs.declared.body.Body.TheVariants.{Entry as AnEntry};
 ghost use Rattle.repo_core.specs.Behind.{Stands, is_marked};
 ghost use Rattle.repo_core.specs.Calls.{CanWrite, Comes, ComesIn, IsTold};
 ghost use Rattle.repo_core.specs.Moving.{Falls};
-ghost use Rattle.stable_store.specs.Kept.{IsKept, disks_of, held_of, is_fault, is_up, repo_named};
-ghost use Rattle.stable_store.specs.Saying.{IsAhead, IsSaid};
-ghost use Rattle.repository_laws.specs.Coming.{Becomes, BeginsLife, Moves, Reopens, alone_queue, decided_queue};
+ghost use Rattle.repo_durable.specs.Kept.{IsKept, disks_of, held_of, is_fault, is_up, repo_named};
+ghost use Rattle.repo_durable.specs.Saying.{IsAhead, IsSaid};
+ghost use Rattle.law_repo_memory.specs.Coming.{Becomes, BeginsLife, Moves, Reopens, alone_queue, decided_queue};
 ghost use Rattle.thor_value.specs.FiniteMap.{add, has};
 ghost use Rattle.thor_value.specs.declared.names.Ts.{Ts as ATs};
-ghost use Rattle.trace_record.specs.Recorded.{with_entry};
+ghost use Rattle.repo_trace.specs.Recorded.{with_entry};
 ghost use Rattle.two_phase.specs.Contents.{open_at};
 ghost use Rattle.validation_queue.specs.Contents.{cleared, with_one};
-ghost use Rattle.volatile_state.specs.Volatile.{entered as entered_memory, transaction_of, Outlasts};
+ghost use Rattle.repo_volatile.specs.Volatile.{entered as entered_memory, transaction_of, Outlasts};
 ghost use Rattle.repo_core.specs.Refusing.{GoesDown};
 ghost use Rattle.repo_core.specs.Shown.{faults_of, ShowsPages};
 ghost use Rattle.repo_core.specs.Telling.{Tells, next_epoch};
-ghost use Rattle.stable_store.specs.Failing.{HasFailed, is_stopped};
-ghost use Rattle.volatile_state.specs.Telling.{CommitTold, TellsDecided};
-ghost use Rattle.repository_laws.specs.Running.{came_with};
-ghost use Rattle.validation_window.specs.declared.refusal.Refusal.TheVariants.{Damaged as IsDamaged, NoMemory as IsNoMemory, Stopped as IsStopped};
-ghost use Rattle.stable_store.specs.Pages.{HasPages};
+ghost use Rattle.repo_durable.specs.Failing.{HasFailed, is_stopped};
+ghost use Rattle.repo_volatile.specs.Telling.{CommitTold, TellsDecided};
+ghost use Rattle.law_repo_memory.specs.Running.{came_with};
+ghost use Rattle.repo_refusals.specs.declared.refusal.Refusal.TheVariants.{Damaged as IsDamaged, NoMemory as IsNoMemory, Stopped as IsStopped};
+ghost use Rattle.repo_durable.specs.Pages.{HasPages};
 
 use crate::looks::epoch_of;
 use crate::repo::Repo;
-use commit_log::{Entry, Request};
 use disk_trait::Parts;
-use held_state::HeldState;
-use stable_store::Stable;
+use log_entries::{Entry, Request};
+use repo_durable::Stable;
+use repo_refusals::Refusal;
+use repo_state::HeldState;
+use repo_trace::Recorder;
+use repo_volatile::Memory;
 use thor_value::{NoMemory, Ts};
-use trace_record::Recorder;
 use two_phase::Table;
-use validation_window::Refusal;
-use volatile_state::Memory;
 
 impl<P: Parts> Repo<P> {
     /// Writes an entry. The answer is its place.
@@ -88,7 +88,7 @@ impl<P: Parts> Repo<P> {
 
 /// Takes an entry that the log has into what is held of the log's state, and into the trace, once the rest
 /// of what is in memory has it. After `NoMemory` the repository is down: the entry is pending where it wasn't told.
-#[tactic(auto, using(crate::proofs::Entered::falls_told, crate::proofs::Entered::falls_torn, held_state::proofs::Limits::entered_limit))]
+#[tactic(auto, using(crate::proofs::Entered::falls_told, crate::proofs::Entered::falls_torn, repo_state::proofs::Limits::entered_limit))]
 pub(crate) fn record<P: Parts>(
     stable: &mut Stable<P>,
     trace: &mut Recorder,
@@ -200,7 +200,7 @@ fn tell_decision(
 
 /// Begins a life: the sessions end, and of the transactions that came since the opening those stand in the
 /// queue that stay undecided. The life aborts those that this repository coordinates.
-#[tactic(auto, using(volatile_state::proofs::Lasting::stayed, volatile_state::proofs::Lasting::lasts_itself))]
+#[tactic(auto, using(repo_volatile::proofs::Lasting::stayed, repo_volatile::proofs::Lasting::lasts_itself))]
 fn begin_life(held: &HeldState, memory: &mut Memory) -> Result<(), NoMemory>
     requires { Keeps held.now }
     ensures begins { OnOk result (BeginsLife held.now memory.old memory.new) }
@@ -212,7 +212,7 @@ fn begin_life(held: &HeldState, memory: &mut Memory) -> Result<(), NoMemory>
 }
 
 /// Notes the transaction of a pending entry, which the disks have, before the next life.
-#[tactic(auto, using(volatile_state::proofs::Lasting::lasts_itself))]
+#[tactic(auto, using(repo_volatile::proofs::Lasting::lasts_itself))]
 pub(crate) fn note(memory: &mut Memory, entry: &Entry) -> Result<(), NoMemory>
     ensures sessions { memory.new.sessions ≡ memory.old.sessions }
     ensures requested { OnOk result (memory.new.requested ≡ came_with memory.old.requested entry.now) }

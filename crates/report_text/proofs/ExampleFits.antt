@@ -9,7 +9,7 @@ use Rattle.thor_value.specs.declared.values.Fault.TheVariants.{NullCall}
 use Rattle.serial_model.specs.declared.outcomes.ItemOutcome.{ItemOutcome}
 use Rattle.serial_model.specs.declared.outcomes.ItemOutcome.TheVariants.{Done, Upgraded, Faulted, Refused, Unknown}
 use Rattle.serial_model.specs.declared.outcomes.Cause.TheVariants as cause
-use Rattle.refusal_reasons.specs.declared.reason.Reason.TheVariants.{Stale}
+use Rattle.base_reasons.specs.declared.reason.Reason.TheVariants.{Stale}
 use Rattle.report_text.specs.Fits.{FitsTs, FitsOref, FitsInts, FitsOutcome}
 use Rattle.report_text.specs.Shown.{FitsItem, FitsEntry, IsReported}
 use Rattle.report_text.specs.Examples.{at_time, at_slot, ended, entry, example_ends, example_history}

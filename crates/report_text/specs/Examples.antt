@@ -10,7 +10,7 @@ use Rattle.serial_model.specs.declared.entries.Did.{Did}
 use Rattle.serial_model.specs.declared.entries.What.TheVariants.{Tx}
 use Rattle.serial_model.specs.declared.outcomes.Ended.{Ended}
 use Rattle.serial_model.specs.declared.outcomes.Cause.TheVariants as cause
-use Rattle.refusal_reasons.specs.declared.reason.Reason.TheVariants.{Stale}
+use Rattle.base_reasons.specs.declared.reason.Reason.TheVariants.{Stale}
 use Rattle.serial_model.specs.declared.outcomes.ItemOutcome.{ItemOutcome}
 use Rattle.serial_model.specs.declared.outcomes.ItemOutcome.TheVariants.{Done, Upgraded, Faulted, Refused, Unknown}
 

@@ -9,7 +9,7 @@ use Rattle.thor_value.specs.declared.values.Fault.TheVariants.{NullCall, Steps, 
 use Rattle.serial_model.specs.declared.outcomes.Cause.{Cause}
 use Rattle.serial_model.specs.declared.outcomes.Cause.TheVariants.{Missing, Down, Calls}
 use Rattle.serial_model.specs.declared.outcomes.Cause.TheVariants as cause
-use Rattle.refusal_reasons.specs.declared.reason.Reason.TheVariants.{Stale, Earlier, Later, TooOld, Epoch, Blocked, Gone, Full, ClockEnd}
+use Rattle.base_reasons.specs.declared.reason.Reason.TheVariants.{Stale, Earlier, Later, TooOld, Epoch, Blocked, Gone, Full, ClockEnd}
 
 -- a word: bytes without a space or the end of a line
 abbrev pub Word : Type 0

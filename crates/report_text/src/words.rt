@@ -5,7 +5,7 @@ ghost use Rattle.report_text.specs.Fits.{FitsCause, FitsOref, FitsTs, FitsWho};
 ghost use Rattle.report_text.specs.Lines.{spaced, spaced_words};
 ghost use Rattle.report_text.specs.Words.{who_word, ts_word, oref_word, fault_word, cause_words};
 
-use refusal_reasons::Reason;
+use base_reasons::Reason;
 use serial_model::Cause;
 use std::fmt::Write;
 use thor_value::{Fault, NoMemory, Oref, Ts, Who};

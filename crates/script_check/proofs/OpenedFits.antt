@@ -14,10 +14,10 @@ use Rattle.thor_value.specs.FiniteMap.{Map, empty, get, insert, overwrite}
 use Rattle.thor_value.specs.Names.{oref_cmp, same_oref}
 use Rattle.thor_value.specs.declared.names.Oref.{Oref}
 use Rattle.class_defs.proofs.SameNames.{same_itself, one_name}
-use Rattle.fitting_laws.proofs.FitNames.{stands_there}
-use Rattle.fitting_laws.proofs.FitObjects.{begin_fields, fields_told}
+use Rattle.law_type_soundness.proofs.FitNames.{stands_there}
+use Rattle.law_type_soundness.proofs.FitObjects.{begin_fields, fields_told}
 use Rattle.class_defs.proofs.KeptRules.{each_nothing, held, nothing, schema_sound, there}
-use Rattle.fitting_laws.specs.Fits.{ObjectFits, RootFits, StoreFits}
+use Rattle.law_type_soundness.specs.Fits.{ObjectFits, RootFits, StoreFits}
 use Rattle.class_defs.specs.Rules.{is_class, is_free_class}
 use Rattle.class_defs.specs.SchemaRules.{class_names, classes_from, root_names, root_rules, schema_rules}
 use Rattle.class_defs.specs.Steps.{beginning}

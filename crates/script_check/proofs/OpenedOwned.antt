@@ -30,7 +30,7 @@ use Rattle.class_defs.specs.declared.store.Schema.{Schema}
 use Rattle.class_defs.specs.declared.store.Schemas.{Schemas}
 use Rattle.class_defs.specs.declared.types.ExprType.{ExprType}
 use Rattle.class_defs.specs.declared.types.ExprType.TheVariants as type
-use Rattle.fitting_laws.specs.Fits.{FieldsFit, ObjectFits, ValueFits}
+use Rattle.law_type_soundness.specs.Fits.{FieldsFit, ObjectFits, ValueFits}
 use Rattle.script_check.proofs.OpenedFits.{IsThere, all_filled, all_owed, objects, root_classed, roots_rules, roots_there}
 use Rattle.script_check.specs.Opened.{class_of, opened, root_object, root_of, roots_of, schema_of}
 

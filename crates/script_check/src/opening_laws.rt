@@ -4,7 +4,7 @@ ghost use Rattle.class_defs.specs.Stored.{all_written};
 ghost use Rattle.class_defs.specs.WellOwned.{AreOfTheirClasses, IsWellOwned};
 ghost use Rattle.class_defs.specs.declared.declarations.Declarations.{Declarations};
 ghost use Rattle.class_defs.specs.declared.store.Schemas.{Schemas};
-ghost use Rattle.fitting_laws.specs.Fits.{StoreFits};
+ghost use Rattle.law_type_soundness.specs.Fits.{StoreFits};
 ghost use Rattle.script_check.specs.Opened.{opened, schema_of};
 
 /// The store that a script opens with fits its schema: each object has a class that is there and the fields of that, and

@@ -1,4 +1,4 @@
-use refusal_reasons::Reason;
+use base_reasons::Reason;
 use thor_value::{Fault, Ints, NoMemory, Oref, Sequence, TryCopy, Ts, Who};
 
 /// How an item ended.

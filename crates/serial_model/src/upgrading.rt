@@ -5,9 +5,9 @@ ghost use Rattle.serial_model.specs.Upgrading.{transformed_pair};
 
 use crate::whole_maps::{map_of, pairs_of};
 use class_defs::{Classes, Object, Plain, PlainObjects, Upgrade};
+use lang_upgrade_eval::{transformed, upgrade_of};
 use std::alloc::Global;
 use thor_value::{NoMemory, Oref, Sequence, TryCopy};
-use upgrade_eval::{transformed, upgrade_of};
 
 /// All objects behind an upgrade, with their names.
 fn transformed_pairs(

@@ -9,7 +9,7 @@ use crate::same::are_same;
 use class_defs::Plain;
 use disk_trait::{MemParts, TickClock};
 use std::alloc::Global;
-use store_reading::{ClusterFault, Found};
+use store_opening::{ClusterFault, Found};
 
 /// What disks hold.
 pub(crate) fn read(

@@ -1,6 +1,6 @@
 //! What a script is judged to be.
 
-use repository_reading::Unopened;
+use repo_opening::Unopened;
 use script_parse::ReadError;
 use thor_value::NoMemory;
 

@@ -5,10 +5,10 @@ ghost use Rattle.thor_value.specs.FiniteMap.{IsSorted};
 use crate::beginning::Begun;
 use crate::faults::{Fault, Wrong};
 use class_defs::Plain;
-use history_check::{Line, Lines, checked_history};
 use serial_model::{Ended, Ends, ItemOutcome, are_made};
 use std::alloc::Global;
 use thor_value::{NoMemory, TryCopy, Ts, Who};
+use top_history_check::{Line, Lines, checked_history};
 
 fn end_of(ends: &[Ended], who: Who) -> Option<&Ended> {
     for ended in ends {

@@ -16,7 +16,7 @@ use serial_model::{Ended, ItemOutcome};
 use simulation_events::Coverage;
 use simulation_scripts::{Ending, Options};
 use std::alloc::Global;
-use store_reading::Found;
+use store_opening::Found;
 use thor_value::{NoMemory, both};
 
 /// What a life has come to: what its disks hold, whether all items are done, and the store behind it.

@@ -5,14 +5,14 @@ use crate::faults::{Fault, Wrong, unopened};
 use crate::watching::Watch;
 use cluster_core::{Cluster, Finished, Ran, Seat, Start};
 use disk_trait::{MemParts, TickClock};
-use history_check::Lines;
 use schedule::{Event, EventKind};
 use serial_model::Ends;
 use simulation_events::Coverage;
 use simulation_scripts::{Ending, Options};
 use std::alloc::Global;
-use store_reading::{ClusterFault, Found};
+use store_opening::{ClusterFault, Found};
 use thor_value::{NoMemory, both};
+use top_history_check::Lines;
 
 /// Repositories in memory, with their clients.
 type Store = Cluster<MemParts<TickClock>>;

@@ -1,11 +1,11 @@
 //! What an event has come to, as far as repositories show it.
 
-use commit_log::Entry;
-use refusal_reasons::Reason;
+use base_reasons::Reason;
+use log_entries::Entry;
+use repo_refusals::Refusal;
 use schedule::EventKind;
 use serial_model::Cause;
-use session_outbox::Mark;
-use validation_window::Refusal;
+use spec_trace::Mark;
 
 /// How many kinds of events there are, turns behind the last event included.
 pub const EVENTS: usize = 8;

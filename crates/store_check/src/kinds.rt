@@ -9,8 +9,8 @@ ghost use Rattle.std.specs.Option.{option_copied};
 ghost use Rattle.std.specs.Prelude.{[], length, slice_get, true, unwrap_or, ◌≡◌, ◌≤◌};
 
 use class_defs::{Class, Classes, ExprType, Root, Schemas, UpgradedSchemas, type_named};
+use lang_upgrade_eval::schema_at;
 use thor_value::{Obj, Oref, OrefMap, Value};
-use upgrade_eval::schema_at;
 
 /// The most classes of a schema: a class has a number of 16 bits.
 const CLASSES: usize = 65_536;

@@ -12,9 +12,9 @@ ghost use Rattle.thor_value.specs.FiniteMap.{get, keys};
 use crate::kinds::epoch_of;
 use crate::naming::{Naming, sole};
 use class_defs::Schemas;
+use lang_upgrade_eval::level;
 use std::alloc::Global;
 use thor_value::{NoMemory, Obj, Oref, OrefMap};
-use upgrade_eval::level;
 
 /// Some steps from an object to its owner, from there to that one's owner, and so on.
 #[derive(Clone, Copy, Debug, PartialEq, Eq)]

@@ -18,7 +18,6 @@ use crate::folder::{Folder, enter, settle};
 use crate::help::{HELP, VERSION};
 use crate::parts::{closed, files, memory};
 use crate::wrong_word::fault_of;
-use command_words::{Command, Plan, WordsFault, read_words};
 use disk_trait::{FileParts, Parts};
 use outside::{OpenGate, StdSink, StdSource, write_all};
 use std::env;
@@ -28,6 +27,7 @@ use std::sync::Wait;
 use std::thread::Threads;
 use thor_top::{Status, thor};
 use thor_value::{NoMemory, Text, Texts};
+use top_words::{Command, Plan, WordsFault, read_words};
 
 fn main(rt: HostRuntime) -> ExitCode {
     let status = match answer(rt, &rt) {

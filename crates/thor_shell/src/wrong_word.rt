@@ -1,9 +1,9 @@
 //! Which word of a faulty command line is wrong, and what would be right in its place.
 
-use command_words::{WordsFault, read_words};
 use std::alloc::Global;
 use std::str;
 use thor_value::{NoMemory, Text, Texts, TryCopy};
+use top_words::{WordsFault, read_words};
 
 /// A word that is right wherever a value is wanted.
 const A_VALUE: &[u8] = b"1";

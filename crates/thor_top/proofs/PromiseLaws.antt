@@ -1,8 +1,8 @@
 -- What the program wrote by a plan, by the promise: what is said by the status (`Wrote`) keeps each.
-use Rattle.command_words.specs.declared.command.Command.{Command}
-use Rattle.command_words.specs.declared.command.Command.TheVariants.{Check, Gen, Play, Run}
-use Rattle.command_words.specs.declared.command.Plan.{Plan}
-use Rattle.generator.specs.Bank.{script_text}
+use Rattle.top_words.specs.declared.command.Command.{Command}
+use Rattle.top_words.specs.declared.command.Command.TheVariants.{Check, Gen, Play, Run}
+use Rattle.top_words.specs.declared.command.Plan.{Plan}
+use Rattle.script_bank.specs.Bank.{script_text}
 use Rattle.outside.specs.Faults.{Rose}
 use Rattle.outside.specs.Streams.{IsMoreThan, Put, PutFront}
 use Rattle.std.proofs.Common.{◌≡◌, Err, IfOk, List, Ok, Option, Result, inl, inr, refl, subst, sym, ℕ}
@@ -10,12 +10,12 @@ use Rattle.std.specs.Prelude.{Bool, [], ◌++◌, ◌∷◌, ◌⊎◌, codes, f
 use Rattle.thor_top.specs.Promises.{AreOtherParts, HasBytes, HasTold, IsTooLong, OfScript, OnAnswer, Reads, Runs, SaysDisk, SaysLimit, SaysOk, SaysReport, SaysRule, SaysSummary}
 use Rattle.thor_top.specs.Stages.{WroteReply}
 use Rattle.thor_value.specs.declared.memory.NoMemory.{NoMemory}
-use Rattle.checked_report.specs.Texts.{limit_text}
-use Rattle.checked_report.specs.declared.reply.Reply.{Reply}
-use Rattle.command_answer.specs.Opening.{DiskBytes}
-use Rattle.command_answer.specs.Top.{IsDone, IsUnfinished, SaysBy, SaysFor, SaysOf, SaysRead, Tells, Told, WasRead, Wrote}
-use Rattle.checked_report.specs.declared.status.Status.{Status}
-use Rattle.checked_report.specs.declared.status.Status.TheVariants as status
+use Rattle.top_reply.specs.Texts.{limit_text}
+use Rattle.top_reply.specs.declared.reply.Reply.{Reply}
+use Rattle.top_statement.specs.Opening.{DiskBytes}
+use Rattle.top_statement.specs.Top.{IsDone, IsUnfinished, SaysBy, SaysFor, SaysOf, SaysRead, Tells, Told, WasRead, Wrote}
+use Rattle.top_reply.specs.declared.status.Status.{Status}
+use Rattle.top_reply.specs.declared.status.Status.TheVariants as status
 
 -- the statuses whose text tells of bytes that were taken for a script, and of nothing else
 abbrev HasText : Status → Type 0

@@ -1,29 +1,29 @@
 -- What is told at one stage is told at the next.
-use Rattle.checked_report.specs.Reports.{IsReported}
-use Rattle.checked_report.specs.declared.form.Form.{Form}
-use Rattle.checked_report.specs.declared.form.Form.TheVariants as form
-use Rattle.checked_report.specs.declared.reply.Reply.{Reply}
-use Rattle.checked_report.specs.declared.status.Status.{Status}
-use Rattle.checked_report.specs.declared.status.Status.TheVariants as status
+use Rattle.top_reply.specs.Reports.{IsReported}
+use Rattle.top_reply.specs.declared.form.Form.{Form}
+use Rattle.top_reply.specs.declared.form.Form.TheVariants as form
+use Rattle.top_reply.specs.declared.reply.Reply.{Reply}
+use Rattle.top_reply.specs.declared.status.Status.{Status}
+use Rattle.top_reply.specs.declared.status.Status.TheVariants as status
 use Rattle.class_defs.specs.declared.declarations.Declarations.{Declarations}
 use Rattle.class_defs.specs.declared.store.Plain.{Plain}
 use Rattle.class_defs.specs.declared.store.Schemas.{Schemas}
-use Rattle.command_answer.specs.Opening.{DiskBytes, IsAccepted, IsOfDisks, IsStore}
-use Rattle.command_answer.specs.Reports.{IsReport, TellsRun}
-use Rattle.command_answer.specs.Top.{IsDone, IsUnfinished, IsWithinLimits, SaysBy, SaysFor, SaysRead, Tells, TellsOf, Told, WasRead}
-use Rattle.command_words.specs.declared.command.Command.{Command}
-use Rattle.command_words.specs.declared.command.Command.TheVariants.{Check, Gen, Play, Run}
-use Rattle.command_words.specs.declared.command.Plan.{Plan}
-use Rattle.generator.specs.Bank.{script_text}
+use Rattle.top_statement.specs.Opening.{DiskBytes, IsAccepted, IsOfDisks, IsStore}
+use Rattle.top_statement.specs.Reports.{IsReport, TellsRun}
+use Rattle.top_statement.specs.Top.{IsDone, IsUnfinished, IsWithinLimits, SaysBy, SaysFor, SaysRead, Tells, TellsOf, Told, WasRead}
+use Rattle.top_words.specs.declared.command.Command.{Command}
+use Rattle.top_words.specs.declared.command.Command.TheVariants.{Check, Gen, Play, Run}
+use Rattle.top_words.specs.declared.command.Plan.{Plan}
+use Rattle.script_bank.specs.Bank.{script_text}
 use Rattle.script_check.specs.Upgrading.{extended, upgrades_of}
 use Rattle.script_parse.specs.Script.{HasFew, IsWritten}
 use Rattle.script_parse.specs.declared.script.Script.{Script}
 use Rattle.std.proofs.Common.{◌≡◌, ◌≤◌, Err, IfOk, List, Ok, Option, Result, Some, None, inl, inr, length, subst, sym, ℕ}
 use Rattle.std.proofs.lemmas.Option.{same_Some}
 use Rattle.std.specs.Prelude.{IfErr, IfSome, false, true}
-use Rattle.store_reading.specs.Reading.{IsOpened, IsOpenedIn, IsStoredIn, schemas_in}
-use Rattle.store_reading.specs.declared.found.Store.TheVariants.{Fresh, Open}
-use Rattle.store_reading.specs.declared.found.Store.{Store}
+use Rattle.store_opening.specs.Reading.{IsOpened, IsOpenedIn, IsStoredIn, schemas_in}
+use Rattle.store_opening.specs.declared.found.Store.TheVariants.{Fresh, Open}
+use Rattle.store_opening.specs.declared.found.Store.{Store}
 use Rattle.thor_top.specs.Stages.{Foretells, IsOpenedAs, IsRead, IsReadFrom, IsScriptFor, IsStoredBy, SaysNoScriptFor, SaysUnread, TellsNoScript, TellsOver}
 use Rattle.thor_top.specs.declared.expected.Expected.{Expected}
 use Rattle.thor_top.specs.declared.expected.OpenedStore.{OpenedStore}

@@ -1,11 +1,11 @@
 -- What is said by the words is said by their plan, and the other way round.
-use Rattle.checked_report.specs.declared.reply.Reply.{Reply}
-use Rattle.checked_report.specs.declared.status.Status.{Status}
-use Rattle.checked_report.specs.declared.status.Status.TheVariants as status
-use Rattle.command_answer.specs.Opening.{DiskBytes}
-use Rattle.command_answer.specs.Top.{IsNoPlan, IsPlan, Says, SaysBy, SaysOf, Told, Wrote}
-use Rattle.command_words.specs.Words.{plan_of}
-use Rattle.command_words.specs.declared.command.Plan.{Plan}
+use Rattle.top_reply.specs.declared.reply.Reply.{Reply}
+use Rattle.top_reply.specs.declared.status.Status.{Status}
+use Rattle.top_reply.specs.declared.status.Status.TheVariants as status
+use Rattle.top_statement.specs.Opening.{DiskBytes}
+use Rattle.top_statement.specs.Top.{IsNoPlan, IsPlan, Says, SaysBy, SaysOf, Told, Wrote}
+use Rattle.top_words.specs.Words.{plan_of}
+use Rattle.top_words.specs.declared.command.Plan.{Plan}
 use Rattle.outside.specs.Faults.{Rose}
 use Rattle.outside.specs.Streams.{Put}
 use Rattle.std.proofs.Common.{◌≡◌, ◌∙◌, Err, IfOk, List, Ok, Option, Result, inl, inr, subst, sym, ℕ}

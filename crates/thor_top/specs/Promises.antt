@@ -1,21 +1,21 @@
 -- What the program promises, by the promise (this project's). Each speaks of some statuses, and says nothing of the others.
 use Rattle.std.specs.Prelude.{◌≡◌, ◌⊎◌, ℕ, Bool, List, [], ◌∷◌, Option, codes, ◌++◌, true, false}
-use Rattle.command_words.specs.declared.command.Command.{Command}
-use Rattle.command_words.specs.declared.command.Command.TheVariants.{Check, Gen, Play, Run}
-use Rattle.command_words.specs.declared.command.Plan.{Plan}
-use Rattle.generator.specs.Bank.{script_text}
+use Rattle.top_words.specs.declared.command.Command.{Command}
+use Rattle.top_words.specs.declared.command.Command.TheVariants.{Check, Gen, Play, Run}
+use Rattle.top_words.specs.declared.command.Plan.{Plan}
+use Rattle.script_bank.specs.Bank.{script_text}
 use Rattle.outside.specs.Streams.{IsMoreThan, Put, PutFront}
 use Rattle.script_parse.specs.Refusals.{refusal_text}
 use Rattle.script_parse.specs.Script.{IsRefusedText, IsWritten}
 use Rattle.script_parse.specs.declared.refusal.Refusal.{Refusal}
 use Rattle.script_parse.specs.declared.script.Script.{Script}
-use Rattle.command_answer.specs.Opening.{DiskBytes}
-use Rattle.command_answer.specs.Reports.{IsReport}
-use Rattle.checked_report.specs.Texts.{TellsUnopened, limit_text}
-use Rattle.command_answer.specs.Top.{IsChecked, IsNoPlan, IsOverLimit, IsPlan, IsRefused, IsWithinLimits, Says, SaysBy, Told, WasRead}
-use Rattle.checked_report.specs.declared.form.Form.TheVariants as form
-use Rattle.checked_report.specs.declared.status.Status.{Status}
-use Rattle.checked_report.specs.declared.status.Status.TheVariants as status
+use Rattle.top_statement.specs.Opening.{DiskBytes}
+use Rattle.top_statement.specs.Reports.{IsReport}
+use Rattle.top_reply.specs.Texts.{TellsUnopened, limit_text}
+use Rattle.top_statement.specs.Top.{IsChecked, IsNoPlan, IsOverLimit, IsPlan, IsRefused, IsWithinLimits, Says, SaysBy, Told, WasRead}
+use Rattle.top_reply.specs.declared.form.Form.TheVariants as form
+use Rattle.top_reply.specs.declared.status.Status.{Status}
+use Rattle.top_reply.specs.declared.status.Status.TheVariants as status
 
 -- ---- what was read, and what was written
 

@@ -1,19 +1,19 @@
 -- What a plan comes to before its text is written, stage by stage (this project's): its script, a store on which the script
 -- breaks no rule, and a run that is to be made.
-use Rattle.checked_report.specs.Reports.{IsReported}
-use Rattle.checked_report.specs.Texts.{limit_text}
-use Rattle.checked_report.specs.declared.reply.Reply.{Reply}
-use Rattle.checked_report.specs.declared.status.Status.{Status}
-use Rattle.checked_report.specs.declared.status.Status.TheVariants as status
+use Rattle.top_reply.specs.Reports.{IsReported}
+use Rattle.top_reply.specs.Texts.{limit_text}
+use Rattle.top_reply.specs.declared.reply.Reply.{Reply}
+use Rattle.top_reply.specs.declared.status.Status.{Status}
+use Rattle.top_reply.specs.declared.status.Status.TheVariants as status
 use Rattle.class_defs.specs.declared.declarations.Declarations.{Declarations}
 use Rattle.class_defs.specs.declared.store.Plain.{Plain}
 use Rattle.class_defs.specs.declared.store.Schemas.{Schemas}
-use Rattle.command_answer.specs.Opening.{DiskBytes, IsAccepted}
-use Rattle.command_answer.specs.Top.{IsOverLimit, IsRefused, IsWithinLimits, Told, WasRead}
-use Rattle.command_words.specs.declared.command.Command.{Command}
-use Rattle.command_words.specs.declared.command.Command.TheVariants.{Check, Gen, Play, Run}
-use Rattle.command_words.specs.declared.command.Plan.{Plan}
-use Rattle.generator.specs.Bank.{script_text}
+use Rattle.top_statement.specs.Opening.{DiskBytes, IsAccepted}
+use Rattle.top_statement.specs.Top.{IsOverLimit, IsRefused, IsWithinLimits, Told, WasRead}
+use Rattle.top_words.specs.declared.command.Command.{Command}
+use Rattle.top_words.specs.declared.command.Command.TheVariants.{Check, Gen, Play, Run}
+use Rattle.top_words.specs.declared.command.Plan.{Plan}
+use Rattle.script_bank.specs.Bank.{script_text}
 use Rattle.outside.specs.Faults.{Rose}
 use Rattle.outside.specs.Streams.{IsMoreThan, Put, PutFront}
 use Rattle.script_parse.specs.Refusals.{refusal_text}
@@ -22,8 +22,8 @@ use Rattle.script_parse.specs.declared.refusal.Refusal.{Refusal}
 use Rattle.script_parse.specs.declared.script.Script.{Script}
 use Rattle.serial_model.specs.Replays.{AreMade}
 use Rattle.std.specs.Prelude.{◌≡◌, ◌⊎◌, ◌≤◌, ℕ, List, [], ◌∷◌, Option, Some, None, Result, Ok, Err, codes, ◌++◌, length}
-use Rattle.store_reading.specs.Reading.{IsOpened, IsStoredIn, schemas_in}
-use Rattle.store_reading.specs.declared.found.Store.{Store}
+use Rattle.store_opening.specs.Reading.{IsOpened, IsStoredIn, schemas_in}
+use Rattle.store_opening.specs.declared.found.Store.{Store}
 use Rattle.thor_top.specs.declared.expected.Expected.{Expected}
 use Rattle.thor_value.specs.FiniteMap.{IsSorted}
 use Rattle.thor_value.specs.declared.memory.NoMemory.{NoMemory}

@@ -1,23 +1,23 @@
 //! The answer to a plan, on one thread or on several.
 
-ghost use Rattle.command_answer.specs.Kept.{WritesNothing};
-ghost use Rattle.command_answer.specs.Top.{SaysBy};
-ghost use Rattle.repository_reading.specs.Same.{AreSame};
+ghost use Rattle.top_statement.specs.Kept.{WritesNothing};
+ghost use Rattle.top_statement.specs.Top.{SaysBy};
+ghost use Rattle.repo_opening.specs.Same.{AreSame};
 ghost use Rattle.std.specs.Prelude.{IfOk, vec_len, ◌≡◌};
-ghost use Rattle.store_reading.specs.Reading.{ReadAll};
+ghost use Rattle.store_opening.specs.Reading.{ReadAll};
 
 use crate::beginning::begin;
 use crate::in_turn::run_in_turn;
 use crate::opening::OpenRun;
 use crate::telling::told;
 use cluster_threads::run_clients;
-use command_answer::Answered;
-use command_words::Plan;
 use disk_trait::Parts;
 use outside::{Gate, Source};
 use std::alloc::Global;
 use std::sync::Wait;
 use std::thread::Threads;
+use top_statement::Answered;
+use top_words::Plan;
 
 /// What a run on threads goes by: what starts them, and the gate that their events pass.
 #[derive(Drop)]

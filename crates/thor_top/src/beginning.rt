@@ -1,25 +1,25 @@
 //! What a plan asks for is begun: its script is read, its store is opened. No run is made here.
 
 ghost use Rattle.cluster_core.specs.Counts.{parts_of};
-ghost use Rattle.command_answer.specs.Kept.{WritesNothing};
-ghost use Rattle.command_answer.specs.Top.{SaysBy, TellsOf};
-ghost use Rattle.repository_reading.specs.Same.{AreSame};
+ghost use Rattle.top_statement.specs.Kept.{WritesNothing};
+ghost use Rattle.top_statement.specs.Top.{SaysBy, TellsOf};
+ghost use Rattle.repo_opening.specs.Same.{AreSame};
 ghost use Rattle.script_parse.specs.Script.{HasFew};
 ghost use Rattle.std.specs.Prelude.{IfErr, IfOk, List, length, vec_len, ◌≡◌, ◌≤◌};
-ghost use Rattle.store_reading.specs.Counts.{HasParts, parts_in};
-ghost use Rattle.store_reading.specs.Reading.{ReadAll};
+ghost use Rattle.store_opening.specs.Counts.{HasParts, parts_in};
+ghost use Rattle.store_opening.specs.Reading.{ReadAll};
 ghost use Rattle.thor_top.specs.Stages.{Foretells, IsJudged, IsPlayed, IsStoredBy};
 
 use crate::finding::{Judged, find};
 use crate::opening::{OpenRun, open_run};
 use crate::reading::script_of;
-use checked_report::{Form, Status, says};
-use command_answer::{Answered, are_parts_of, unplayed, untouched};
-use command_words::{Command, Plan};
 use disk_trait::Parts;
 use outside::Source;
 use script_parse::Script;
 use std::alloc::Global;
+use top_reply::{Form, Status, says};
+use top_statement::{Answered, are_parts_of, unplayed, untouched};
+use top_words::{Command, Plan};
 
 /// The answer to a check of a script that breaks no rule.
 fn checked<P: Parts>(alloc: Global, plan: &Plan, script: &Script, judged: Judged<P>) -> Answered<P>

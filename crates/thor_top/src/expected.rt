@@ -1,8 +1,8 @@
 //! What a run is compared with before it is told.
 
-use checked_report::Form;
 use class_defs::{Plain, Schemas};
 use script_parse::Script;
+use top_reply::Form;
 
 /// The store with which a run begins.
 #[derive(Drop)]

@@ -1,22 +1,22 @@
 //! The store that the parts hold, and whether a script may be run on it.
 
-ghost use Rattle.command_answer.specs.Top.{TellsOf};
-ghost use Rattle.repository_reading.specs.Same.{AreSame};
+ghost use Rattle.top_statement.specs.Top.{TellsOf};
+ghost use Rattle.repo_opening.specs.Same.{AreSame};
 ghost use Rattle.script_parse.specs.Script.{HasFew};
 ghost use Rattle.std.specs.Prelude.{IfErr, IfOk, List, length, vec_len, ◌≡◌, ◌≤◌};
-ghost use Rattle.store_reading.specs.Counts.{HasParts, parts_in};
-ghost use Rattle.store_reading.specs.Reading.{ReadAll};
+ghost use Rattle.store_opening.specs.Counts.{HasParts, parts_in};
+ghost use Rattle.store_opening.specs.Reading.{ReadAll};
 ghost use Rattle.thor_top.specs.Stages.{IsJudged, IsStoredBy, TellsUnjudged};
 
 use crate::judging::base_in;
 use crate::unopened::unopened;
 use class_defs::Schemas;
-use command_answer::{Answered, unplayed};
-use command_words::Plan;
 use disk_trait::Parts;
 use script_parse::Script;
 use std::alloc::Global;
-use store_reading::{ClusterFault, Found};
+use store_opening::{ClusterFault, Found};
+use top_statement::{Answered, unplayed};
+use top_words::Plan;
 
 /// A store that was found, on which a script breaks no rule.
 pub struct Judged<P: Parts> {

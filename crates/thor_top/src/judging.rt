@@ -1,7 +1,7 @@
 //! Whether a script may be run on the store that was found.
 
-ghost use Rattle.command_answer.specs.Opening.{IsAccepted, IsBase};
-ghost use Rattle.command_answer.specs.Top.{IsOverLimit, IsRefused, IsWithinLimits};
+ghost use Rattle.top_statement.specs.Opening.{IsAccepted, IsBase};
+ghost use Rattle.top_statement.specs.Top.{IsOverLimit, IsRefused, IsWithinLimits};
 ghost use Rattle.script_check.specs.Upgrading.{upgrades_of};
 ghost use Rattle.script_parse.specs.Script.{HasFew};
 ghost use Rattle.serial_model.specs.Replays.{AreMade};
@@ -9,16 +9,16 @@ ghost use Rattle.std.specs.Prelude.{IfErr, IfOk, IfSome, None, length, ◌≡◌
 ghost use Rattle.thor_top.specs.Stages.{IsJudged, TellsUnjudged};
 
 use crate::starting::base_of;
-use checked_report::{Reply, limited, refused};
 use class_defs::Schemas;
-use command_words::Plan;
 use disk_trait::Parts;
 use script_check::{judge, last_schema, upgrade_count};
 use script_parse::{Refusal, Script};
 use serial_model::are_made;
 use std::alloc::Global;
-use store_reading::Found;
+use store_opening::Found;
 use thor_value::NoMemory;
+use top_reply::{Reply, limited, refused};
+use top_words::Plan;
 
 /// The most upgrades that a store may have, those of the script included.
 const UPGRADE_LIMIT: usize = 1_000;

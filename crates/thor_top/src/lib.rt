@@ -16,8 +16,8 @@ mod top;
 mod unopened;
 mod writing;
 
-pub use checked_report::Status;
-pub use command_answer::Outcome;
 pub use performing::perform;
 pub use reading::SCRIPT_LIMIT;
 pub use top::thor;
+pub use top_reply::Status;
+pub use top_statement::Outcome;

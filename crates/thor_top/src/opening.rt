@@ -1,31 +1,31 @@
 //! The store that was found is opened for a script's run.
 
-ghost use Rattle.checked_report.specs.Texts.{TellsUnsettled};
+ghost use Rattle.top_reply.specs.Texts.{TellsUnsettled};
 ghost use Rattle.cluster_core.specs.Counts.{parts_of, schemas_of};
-ghost use Rattle.command_answer.specs.Opening.{IsBase, IsStore};
-ghost use Rattle.command_answer.specs.Reports.{TellsRun};
+ghost use Rattle.top_statement.specs.Opening.{IsBase, IsStore};
+ghost use Rattle.top_statement.specs.Reports.{TellsRun};
 ghost use Rattle.script_check.specs.Upgrading.{extended, upgrades_of};
 ghost use Rattle.serial_model.specs.Replays.{AreMade};
 ghost use Rattle.std.specs.Prelude.{IfErr, IfOk, IfSome, List, None, length, vec_len, ◌≡◌, ℕ};
-ghost use Rattle.store_reading.specs.Counts.{parts_in};
-ghost use Rattle.store_reading.specs.Reading.{IsOpened, IsStoredIn, ReadAll};
+ghost use Rattle.store_opening.specs.Counts.{parts_in};
+ghost use Rattle.store_opening.specs.Reading.{IsOpened, IsStoredIn, ReadAll};
 ghost use Rattle.thor_top.specs.Stages.{Foretells, HasSchemas, IsJudged, IsOpenedAs, IsStoredBy};
 ghost use Rattle.thor_value.specs.FiniteMap.{IsSorted};
 
 use crate::expected::{Expected, OpenedStore};
 use crate::finding::Judged;
 use crate::unopened::unsettled;
-use checked_report::Form;
 use class_defs::{Plain, Schemas, Setup};
 use cluster_core::{Cluster, Plan as Run, Start};
-use command_answer::{Answered, unplayed};
-use command_words::Plan;
 use disk_trait::Parts;
 use script_check::{opened_store, roots_of, with_upgrades};
 use script_parse::Script;
 use std::alloc::Global;
-use store_reading::{ClusterFault, Found};
+use store_opening::{ClusterFault, Found};
 use thor_value::{NoMemory, TryCopy, both};
+use top_reply::Form;
+use top_statement::{Answered, unplayed};
+use top_words::Plan;
 
 /// A store that is open for a script's run.
 pub struct OpenRun<P: Parts> {

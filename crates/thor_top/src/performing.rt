@@ -1,26 +1,26 @@
 //! A plan is performed, and its answer written.
 
-ghost use Rattle.command_answer.specs.Kept.{Refuses};
-ghost use Rattle.command_answer.specs.Top.{SaysBy, Wrote};
-ghost use Rattle.command_words.specs.declared.command.Command.TheVariants.{Check, Gen};
+ghost use Rattle.top_statement.specs.Kept.{Refuses};
+ghost use Rattle.top_statement.specs.Top.{SaysBy, Wrote};
+ghost use Rattle.top_words.specs.declared.command.Command.TheVariants.{Check, Gen};
 ghost use Rattle.outside.specs.Faults.{Rose};
 ghost use Rattle.outside.specs.Streams.{Put};
-ghost use Rattle.repository_reading.specs.Same.{AreSame};
+ghost use Rattle.repo_opening.specs.Same.{AreSame};
 ghost use Rattle.std.specs.Prelude.{[], codes, vec_len, ℕ, ◌++◌, ◌∷◌, ◌≡◌, ◌⊎◌};
-ghost use Rattle.store_reading.specs.Reading.{ReadAll};
+ghost use Rattle.store_opening.specs.Reading.{ReadAll};
 ghost use Rattle.thor_top.specs.Promises.{AreOtherParts, HasTold, IsFrontBy, IsTooLong, OnAnswer, Reads, Runs, SaysDisk, SaysLimit, SaysOk, SaysReport, SaysRule, SaysSummary};
 ghost use Rattle.thor_top.specs.Stages.{IsInTurn};
 
 use crate::answering::{Runtime, answer_in_turn, answer_on_threads};
 use crate::writing::write_answer;
-use checked_report::Status;
-use command_answer::Outcome;
-use command_words::Plan;
 use disk_trait::Parts;
 use outside::{Gate, Sink, Source};
 use std::alloc::Global;
 use std::sync::Wait;
 use std::thread::Threads;
+use top_reply::Status;
+use top_statement::Outcome;
+use top_words::Plan;
 
 /// Performs a plan on one thread, and writes the answer.
 fn perform_in_turn<S: Source, K: Sink, P: Parts>(

@@ -1,18 +1,18 @@
 //! The script that a plan asks for: that of the source, or a generated one.
 
-ghost use Rattle.command_answer.specs.Top.{IsOverLimit};
-ghost use Rattle.generator.specs.Bank.{script_text};
+ghost use Rattle.top_statement.specs.Top.{IsOverLimit};
+ghost use Rattle.script_bank.specs.Bank.{script_text};
 ghost use Rattle.std.specs.Prelude.{IfErr, IfOk, IfSome, None, length, ◌≡◌, ◌≤◌};
 ghost use Rattle.std.specs.String.{string_bytes};
 ghost use Rattle.thor_top.specs.Stages.{IsRead, IsReadFrom, IsScriptFor, SaysNoScriptFor, SaysUnread, TellsNoScript, TellsOver};
 
-use checked_report::{Reply, Status, limited, refused, says};
-use command_words::{Command, Plan};
-use generator::generate;
 use outside::{ReadAll, Source, read_all};
+use script_bank::generate;
 use script_parse::{ReadError, Script, read_script};
 use std::alloc::Global;
 use thor_value::NoMemory;
+use top_reply::{Reply, Status, limited, refused, says};
+use top_words::{Command, Plan};
 
 /// The most bytes that a script may have.
 pub const SCRIPT_LIMIT: usize = 8_388_608;

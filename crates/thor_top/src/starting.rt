@@ -2,14 +2,14 @@
 
 ghost use Rattle.std.specs.Prelude.{◌≡◌, ◌<◌, ◌^◌, IfOk, IfSome, length};
 ghost use Rattle.script_parse.specs.Script.{HasFew};
-ghost use Rattle.command_answer.specs.Opening.{IsBase, first_schemas};
+ghost use Rattle.top_statement.specs.Opening.{IsBase, first_schemas};
 ghost use Rattle.thor_top.specs.Stages.{HasSchemas};
 
 use class_defs::{Declarations, Schemas, UpgradedSchemas};
 use disk_trait::Parts;
 use script_check::schema_of;
 use std::alloc::Global;
-use store_reading::Found;
+use store_opening::Found;
 use thor_value::{NoMemory, TryCopy};
 
 /// The schemas of the store that a setup opens.

@@ -1,17 +1,17 @@
 //! What is told of a run that was made.
 
-ghost use Rattle.checked_report.specs.Reports.{IsReported};
+ghost use Rattle.top_reply.specs.Reports.{IsReported};
 ghost use Rattle.std.specs.Prelude.{IfOk, ◌≡◌};
 ghost use Rattle.thor_value.specs.FiniteMap.{IsSorted};
 
 use crate::expected::Expected;
-use checked_report::{Reply, report};
 use cluster_core::{Finished, Ran};
-use command_answer::Answered;
 use disk_trait::Parts;
+use repo_trace::Traces;
 use std::alloc::Global;
 use thor_value::NoMemory;
-use trace_record::Traces;
+use top_reply::{Reply, report};
+use top_statement::Answered;
 
 /// What is told of what was run, where it is as expected.
 fn reported(

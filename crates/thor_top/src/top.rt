@@ -1,27 +1,27 @@
 ghost use Rattle.std.specs.Prelude.{◌≡◌, ◌⊎◌, ◌++◌, ◌∷◌, [], Some, codes, vec_len, ℕ};
-ghost use Rattle.command_answer.specs.Kept.{Refuses};
-ghost use Rattle.command_answer.specs.Top.{IsPlan, Says, SaysBy, Wrote};
-ghost use Rattle.command_words.specs.Words.{plan_of};
-ghost use Rattle.command_words.specs.declared.command.Command.TheVariants.{Check, Gen};
-ghost use Rattle.command_words.specs.declared.command.Plan.{Plan};
+ghost use Rattle.top_statement.specs.Kept.{Refuses};
+ghost use Rattle.top_statement.specs.Top.{IsPlan, Says, SaysBy, Wrote};
+ghost use Rattle.top_words.specs.Words.{plan_of};
+ghost use Rattle.top_words.specs.declared.command.Command.TheVariants.{Check, Gen};
+ghost use Rattle.top_words.specs.declared.command.Plan.{Plan};
 ghost use Rattle.outside.specs.Faults.{Rose};
 ghost use Rattle.outside.specs.Streams.{Put};
-ghost use Rattle.repository_reading.specs.Same.{AreSame};
-ghost use Rattle.store_reading.specs.Reading.{ReadAll};
+ghost use Rattle.repo_opening.specs.Same.{AreSame};
+ghost use Rattle.store_opening.specs.Reading.{ReadAll};
 ghost use Rattle.thor_top.specs.Promises.{AreNoWords, HasTold, IsFront, IsPlanned, IsTooLong, OnAnswer, Reads, Runs, SaysDisk, SaysLimit, SaysOk, SaysReport, SaysRule, SaysSummary};
 
 use crate::answering::Runtime;
 use crate::performing::{perform, perform_on_threads};
 use crate::writing::write_answer;
-use checked_report::{Status, says};
-use command_answer::{Outcome, untouched};
-use command_words::{Command, Plan, WordsFault, read_words};
 use disk_trait::Parts;
 use outside::{Gate, Sink, Source};
 use std::alloc::Global;
 use std::sync::Wait;
 use std::thread::Threads;
 use thor_value::{NoMemory, Text};
+use top_reply::{Status, says};
+use top_statement::{Outcome, untouched};
+use top_words::{Command, Plan, WordsFault, read_words};
 
 /// Performs a plan, and writes the answer.
 fn perform_plan<R: Threads + Wait + Sync, S: Source, K: Sink, P: Parts + Send, G: Gate + Sync>(

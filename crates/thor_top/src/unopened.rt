@@ -1,12 +1,12 @@
 //! What the program has to write of a store that wasn't opened.
 
-ghost use Rattle.checked_report.specs.Texts.{TellsUnopened, TellsUnsettled};
+ghost use Rattle.top_reply.specs.Texts.{TellsUnopened, TellsUnsettled};
 ghost use Rattle.std.specs.Prelude.{IfOk};
 
-use checked_report::{Reply, damaged, failed};
-use repository_reading::Unopened;
+use repo_opening::Unopened;
 use std::alloc::Global;
 use thor_value::NoMemory;
+use top_reply::{Reply, damaged, failed};
 
 /// The reply where what the disks hold couldn't be read, or is no store.
 pub fn unopened(alloc: Global, why: Unopened) -> Result<Reply, NoMemory>

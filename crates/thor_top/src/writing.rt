@@ -3,10 +3,10 @@
 ghost use Rattle.std.specs.Prelude.{◌≡◌};
 ghost use Rattle.thor_top.specs.Stages.{WroteReply};
 
-use checked_report::{Reply, Status};
-use command_answer::{Answered, Outcome};
 use outside::{Sink, write_all};
 use thor_value::NoMemory;
+use top_reply::{Reply, Status};
+use top_statement::{Answered, Outcome};
 
 /// Writes a reply. The answer is the status with which the program ends.
 fn write_reply<K: Sink>(sink: &mut K, reply: Result<Reply, NoMemory>) -> Status

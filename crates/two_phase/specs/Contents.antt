@@ -4,7 +4,7 @@ use Rattle.std.specs.List.{list_any}
 use Rattle.std.specs.Map.{values_of}
 use Rattle.std.specs.Ordering.{nat_cmp}
 use Rattle.std.specs.Prelude.{Bool, None, Option, Some, cond, false, option_and_then, true}
-use Rattle.commit_log.specs.declared.request.Request.{Request}
+use Rattle.log_entries.specs.declared.request.Request.{Request}
 use Rattle.thor_value.specs.FiniteMap.{Map, empty, get, insert, remove}
 use Rattle.thor_value.specs.Names.{same_ts, ts_cmp}
 use Rattle.thor_value.specs.declared.names.Ts.{Ts}

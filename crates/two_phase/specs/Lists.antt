@@ -2,7 +2,7 @@
 use Rattle.std.specs.List.{filter}
 use Rattle.std.specs.Map.{keys_of, values_of}
 use Rattle.std.specs.Prelude.{Bool, List, None, Option, Some, [], nat_eq, not, true, ℕ, ◌∷◌}
-use Rattle.commit_log.specs.declared.request.Request.{Request}
+use Rattle.log_entries.specs.declared.request.Request.{Request}
 use Rattle.thor_value.specs.declared.names.Ts.{Ts}
 use Rattle.two_phase.specs.Contents.{Contents, request_of}
 use Rattle.two_phase.specs.declared.transaction.Transaction.TheVariants as kept

@@ -10,7 +10,7 @@ ghost use Rattle.two_phase.specs.declared.transaction.Transaction.TheVariants.{O
 
 use crate::standing::Standing;
 use crate::transaction::Transaction;
-use commit_log::Request;
+use log_entries::Request;
 use std::alloc::Global;
 use std::collections::BTreeMap;
 use std::marker::Model;

@@ -1,7 +1,7 @@
 ghost use Rattle.std.specs.Prelude.{◌≡◌};
 ghost use Rattle.two_phase.specs.Contents.{is_decision, request_of};
 
-use commit_log::Request;
+use log_entries::Request;
 
 /// What is kept of a transaction.
 #[derive(Drop)]

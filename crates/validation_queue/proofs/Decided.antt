@@ -14,7 +14,7 @@ use Rattle.thor_value.specs.declared.names.Ts.{Ts}
 use Rattle.validation_queue.specs.Clashes.{comes_earlier, first_some, is_before}
 use Rattle.validation_queue.specs.Contents.{is_blocking, omit}
 use Rattle.validation_queue.specs.Names.{is_among}
-use Rattle.refusal_reasons.specs.declared.reason.Reason.TheVariants as reasons
+use Rattle.base_reasons.specs.declared.reason.Reason.TheVariants as reasons
 use Rattle.validation_queue.specs.declared.member.Member.{Member}
 
 abbrev is_open : Ts × Member → Bool

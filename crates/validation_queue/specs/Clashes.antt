@@ -11,8 +11,8 @@ use Rattle.thor_value.specs.declared.names.Oref.{Oref}
 use Rattle.thor_value.specs.declared.names.Ts.{Ts}
 use Rattle.validation_queue.specs.Contents.{Contents, Transaction, first_decided, is_full, room_for}
 use Rattle.validation_queue.specs.Names.{is_among}
-use Rattle.refusal_reasons.specs.declared.reason.Reason.TheVariants as reasons
-use Rattle.refusal_reasons.specs.declared.reason.Reason.{Reason}
+use Rattle.base_reasons.specs.declared.reason.Reason.TheVariants as reasons
+use Rattle.base_reasons.specs.declared.reason.Reason.{Reason}
 use Rattle.validation_queue.specs.declared.member.Member.{Member}
 
 -- t comes before u

@@ -13,7 +13,7 @@ use crate::common::first_common;
 use crate::member::Member;
 use crate::members::Members;
 use crate::name_set::NameSet;
-use refusal_reasons::Reason;
+use base_reasons::Reason;
 use std::cmp::Ordering;
 use thor_value::{Obj, Oref, Ts};
 

@@ -9,7 +9,7 @@ use crate::clashes::{
     first_blocking, first_decided, first_earlier, first_later, first_undecided, greatest, is_before,
 };
 use crate::members::{Members, is_behind_all, member_of, raised, replace, stay_decided};
-use refusal_reasons::Reason;
+use base_reasons::Reason;
 use std::alloc::Global;
 use std::collections::BTreeMap;
 use std::marker::Model;

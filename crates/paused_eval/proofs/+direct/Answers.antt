@@ -1,8 +1,8 @@
 use Rattle.std.proofs.Common.{◌≡◌, ◌+◌, ◌-◌, List, ◌∷◌, drop, map, ap, refl, sym, ◌∙◌}
 use Rattle.class_defs.specs.declared.expressions.Expr.{Expr, out-Expr}
 use Rattle.class_defs.specs.declared.statements.Stmt.{out-Stmt}
-use Rattle.paused_defs.specs.Plain.{plain, plain_stmt}
-use Rattle.paused_defs.specs.declared.nodes.ExprNode.{ExprNode}
+use Rattle.lang_small_steps.specs.Plain.{plain, plain_stmt}
+use Rattle.lang_small_steps.specs.declared.nodes.ExprNode.{ExprNode}
 use Rattle.paused_eval.proofs.Nodes.{out_variable}
 use Rattle.paused_eval.proofs.Unwinding.{called_does, called_left, collect_left, kind_there, node_variable, one_less, statement_does, turn_left, turned, value_there}
 use Rattle.paused_eval.specs.Copies.{state}

@@ -1,6 +1,6 @@
 use Rattle.std.proofs.Common.{◌≡◌, ◌-◌, ◌+◌, ◌*◌, drop, map}
-use Rattle.paused_defs.specs.Plain.{plain, plain_stmt}
-use Rattle.paused_defs.specs.Methods.{class_methods}
+use Rattle.lang_small_steps.specs.Plain.{plain, plain_stmt}
+use Rattle.lang_small_steps.specs.Methods.{class_methods}
 use Rattle.paused_eval.specs.Copies.{Keeps, Tied, state}
 use Rattle.paused_eval.specs.Counted.{surplus}
 use Rattle.paused_eval.specs.Direct as spec

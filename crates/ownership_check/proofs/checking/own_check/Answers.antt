@@ -1,6 +1,6 @@
 use Rattle.std.proofs.Common.{◌≡◌, None, sym, ◌∙◌}
-use Rattle.upgrade_laws.proofs.AppliedRules.{rules_behind}
-use Rattle.upgrade_laws.proofs.KeptByRules.{sound}
+use Rattle.law_upgrade_rules.proofs.AppliedRules.{rules_behind}
+use Rattle.law_upgrade_rules.proofs.KeptByRules.{sound}
 use Rattle.class_defs.specs.UpgradeOrder.{own_fault}
 use Rattle.ownership_check.proofs.Behind.{as_many}
 use Rattle.ownership_check.proofs.checking.own_check.Goals as goal

@@ -1,4 +1,4 @@
-use Rattle.paused_defs.specs.Reaches.{over}
+use Rattle.lang_small_steps.specs.Reaches.{over}
 use Rattle.paused_eval.proofs.FieldPlaces.{field_value_is}
 use Rattle.paused_eval.proofs.objects.field_seen.Goals as goal
 use Rattle.paused_eval.specs.Copies.{at_hand, state}

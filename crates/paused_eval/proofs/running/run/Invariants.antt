@@ -1,7 +1,7 @@
 use Rattle.std.proofs.Common.{List, ◌≡◌}
 use Rattle.thor_value.specs.declared.names.Oref.{Oref}
 use Rattle.class_defs.specs.declared.statements.Stmt.{Stmt}
-use Rattle.paused_defs.specs.Methods.{class_methods}
+use Rattle.lang_small_steps.specs.Methods.{class_methods}
 use Rattle.paused_eval.specs.Copies.{Keeps, Tied, at_hand, whole_state}
 use Rattle.paused_eval.specs.Counted.{surplus}
 use Rattle.paused_eval.specs.FromPages.{FromPages}

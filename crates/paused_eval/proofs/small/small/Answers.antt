@@ -1,5 +1,5 @@
 use Rattle.method_eval.specs.Names.{supply}
-use Rattle.paused_defs.specs.Reaches.{over}
+use Rattle.lang_small_steps.specs.Reaches.{over}
 use Rattle.paused_eval.specs.Copies.{at_hand}
 use Rattle.paused_eval.proofs.Standing.{moved_steps, named_steps}
 use Rattle.paused_eval.proofs.small.small.Goals as goal

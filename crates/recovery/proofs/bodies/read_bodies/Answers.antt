@@ -1,6 +1,6 @@
 use Rattle.std.proofs.Common.{IsErrOf, rules, subst, sym}
 use Rattle.std.specs.List.{AllByRecursion}
-use Rattle.log_bytes.specs.Grammar.{BodyFits}
+use Rattle.log_codec.specs.Grammar.{BodyFits}
 use Rattle.recovery.specs.Damage.{IsNoBody}
 use Rattle.recovery.specs.declared.fault.RecoverFault.TheVariants.{Damaged}
 use Rattle.recovery.proofs.Read.{all_push, no_body, place_next, read_next}

@@ -1,7 +1,7 @@
 use Rattle.std.proofs.Common.{◌≡◌, Some, map, take}
 use Rattle.std.specs.List.{AllByRecursion}
-use Rattle.log_bytes.specs.Format.{value_of}
-use Rattle.log_bytes.specs.Grammar.{BodyFits, body_format}
+use Rattle.log_codec.specs.Format.{value_of}
+use Rattle.log_codec.specs.Grammar.{BodyFits, body_format}
 use Rattle.recovery.specs.Damage.{gate_behind, told_place}
 use Rattle.recovery.proofs.bodies.read_bodies.Given as goal
 

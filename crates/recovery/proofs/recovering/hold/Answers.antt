@@ -1,9 +1,9 @@
 use Rattle.std.proofs.Common.{◌≡◌, Err, List, Option, Some, ap, inl, inr, map, rules, subst, sym, ◌||◌, ◌∙◌}
 use Rattle.std.specs.List.{fold}
-use Rattle.held_state.specs.Said.{said}
-use Rattle.held_state.specs.declared.fault.HoldFault.TheVariants.{Unfit}
-use Rattle.log_bytes.specs.declared.body.Body.{Body}
-use Rattle.log_bytes.specs.declared.state.State.{State}
+use Rattle.repo_state.specs.Said.{said}
+use Rattle.repo_state.specs.declared.fault.HoldFault.TheVariants.{Unfit}
+use Rattle.log_codec.specs.declared.body.Body.{Body}
+use Rattle.log_codec.specs.declared.state.State.{State}
 use Rattle.recovery.proofs.Replayed.{whole_said}
 use Rattle.recovery.specs.Damage.{CantPut, put_on}
 use Rattle.recovery.specs.Reopening.{reopened}

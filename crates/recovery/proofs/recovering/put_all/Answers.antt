@@ -1,6 +1,6 @@
-use Rattle.log_bytes.specs.Grammar.{BodyFits}
+use Rattle.log_codec.specs.Grammar.{BodyFits}
 use Rattle.std.proofs.Common.{Bool, Some, ap, ◌||◌, ◌∙◌}
-use Rattle.held_state.specs.Said.{said}
+use Rattle.repo_state.specs.Said.{said}
 use Rattle.recovery.proofs.Read.{all_at}
 use Rattle.recovery.proofs.Reopened.{reopens_next}
 use Rattle.recovery.proofs.Replayed.{put_next as next_put}

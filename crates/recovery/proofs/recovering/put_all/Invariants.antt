@@ -1,7 +1,7 @@
 use Rattle.std.proofs.Common.{◌≡◌, Some, map, take, ◌||◌}
 use Rattle.std.specs.List.{fold}
-use Rattle.held_state.specs.Keeps.{IsUnread, Keeps}
-use Rattle.held_state.specs.Said.{said}
+use Rattle.repo_state.specs.Keeps.{IsUnread, Keeps}
+use Rattle.repo_state.specs.Said.{said}
 use Rattle.recovery.specs.Damage.{put_on}
 use Rattle.recovery.specs.Reopening.{reopened}
 use Rattle.recovery.proofs.recovering.put_all.Given as goal

@@ -3,9 +3,9 @@ use Rattle.recovery.proofs.FoundLaws.{if_ok, inner_damaged, recovered_holds, rec
 use Rattle.recovery.proofs.Lost.{inner_lost}
 use Rattle.recovery.specs.Faults.{found_fault}
 use Rattle.recovery.specs.declared.fault.RecoverFault.TheVariants as recovered
-use Rattle.state_log.proofs.Opened.{torn_none}
-use Rattle.state_log.specs.declared.fault.FindFault.TheVariants as found
-use Rattle.state_log.specs.declared.fault.FindFault.{FindFault}
+use Rattle.commit_log.proofs.Opened.{torn_none}
+use Rattle.commit_log.specs.declared.fault.FindFault.TheVariants as found
+use Rattle.commit_log.specs.declared.fault.FindFault.{FindFault}
 use Rattle.recovery.proofs.recovering.recover.Goals as goal
 
 same_err : {T E : Type 0} (r : Result T E) (a b : E) → r ≡ Err a → r ≡ Err b → a ≡ b

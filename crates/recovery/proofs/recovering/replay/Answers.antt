@@ -1,12 +1,12 @@
-use Rattle.log_bytes.specs.Format.{value_of}
-use Rattle.log_bytes.specs.Grammar.{body_format}
+use Rattle.log_codec.specs.Format.{value_of}
+use Rattle.log_codec.specs.Grammar.{body_format}
 use Rattle.std.proofs.Common.{◌≡◌, IsErrOf, List, Some, map, ℕ, rules, subst, ◌∙◌}
-use Rattle.held_state.specs.Said.{said}
+use Rattle.repo_state.specs.Said.{said}
 use Rattle.recovery.specs.Damage.{CantHold, IsNoBody, NoBody, NoCheckpoint, NoSequence}
 use Rattle.recovery.specs.declared.fault.RecoverFault.TheVariants.{Damaged}
 use Rattle.recovery.proofs.Reopened.{reopens_is}
 use Rattle.recovery.proofs.Replayed.{state_is}
-use Rattle.state_log.specs.Opening.{log_of}
+use Rattle.commit_log.specs.Opening.{log_of}
 use Rattle.recovery.proofs.recovering.replay.Goals as goal
 
 pub returns-clause-state : goal.returns-clause-state

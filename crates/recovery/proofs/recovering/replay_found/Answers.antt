@@ -1,7 +1,7 @@
 use Rattle.std.proofs.Common.{◌≡◌, IsErrOf, IfSome, Option, rules, subst, sym}
 use Rattle.recovery.specs.Damage.{Fault}
 use Rattle.recovery.specs.declared.fault.RecoverFault.TheVariants.{Damaged}
-use Rattle.state_log.specs.Opening.{Found, log_of}
+use Rattle.commit_log.specs.Opening.{Found, log_of}
 use Rattle.recovery.proofs.recovering.replay_found.Goals as goal
 
 pub returns-in_err-replayed-in-Some-clause-damaged : goal.returns-in_err-replayed-in-Some-clause-damaged

@@ -1,4 +1,4 @@
-use Rattle.commit_log.specs.declared.request.Request.{Request}
+use Rattle.log_entries.specs.declared.request.Request.{Request}
 use Rattle.repo_core.proofs.Others.{found_least, left_falls, passed_all, passed_on}
 use Rattle.std.proofs.Common.{ap, false, nat_eq, rules, sym, true, ◌∙◌, ◌≡◌}
 use Rattle.std.specs.Option.{option_copied}

@@ -1,6 +1,6 @@
 use Rattle.std.proofs.Common.{drop}
 use Rattle.std.specs.List.{AllByRecursion}
-use Rattle.commit_log.specs.RequestForm.{WriteFits}
+use Rattle.log_entries.specs.RequestForm.{WriteFits}
 use Rattle.repo_core.proofs.request_form.are_writes.Given as goal
 
 -- the rest decides

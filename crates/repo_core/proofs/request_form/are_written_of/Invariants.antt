@@ -1,5 +1,5 @@
 use Rattle.std.proofs.Common.{drop, ◌≡◌}
-use Rattle.state_log.specs.Recovered.{are_of}
+use Rattle.commit_log.specs.Recovered.{are_of}
 use Rattle.repo_core.proofs.request_form.are_written_of.Given as goal
 
 -- the rest decides

@@ -1,7 +1,7 @@
 use Rattle.std.proofs.Common.{rules, arith}
 use Rattle.std.proofs.lemmas.Cmp.{nat_cmp_total}
 use Rattle.std.specs.Ordering.{nat_cmp}
-use Rattle.log_bytes.proofs.RiseLaws.{sorted_from_rise}
+use Rattle.log_codec.proofs.RiseLaws.{sorted_from_rise}
 use Rattle.repo_core.proofs.request_form.is_spelled.Goals as goal
 
 pub returns-then-len-le8 : goal.returns-then-len-le8

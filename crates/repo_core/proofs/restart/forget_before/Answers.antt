@@ -1,6 +1,6 @@
 use Rattle.std.proofs.Common.{ap, refl, ◌∙◌}
 use Rattle.repo_core.proofs.Letting.{goes_itself, goes_on, table_on}
-use Rattle.stable_store.specs.Kept.{held_of, is_up_in}
+use Rattle.repo_durable.specs.Kept.{held_of, is_up_in}
 use Rattle.repo_core.proofs.restart.forget_before.Goals as goal
 
 pub loop-init : goal.loop-init

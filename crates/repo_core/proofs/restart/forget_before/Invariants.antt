@@ -1,7 +1,7 @@
 use Rattle.std.proofs.Common.{true, ◌≡◌}
 use Rattle.repo_core.specs.Restarting.{LetsGo}
-use Rattle.stable_store.specs.Kept.{IsKept, held_of, is_up, parts_in}
-use Rattle.stable_store.specs.Saying.{IsSaid}
+use Rattle.repo_durable.specs.Kept.{IsKept, held_of, is_up, parts_in}
+use Rattle.repo_durable.specs.Saying.{IsSaid}
 use Rattle.repo_core.proofs.restart.forget_before.Given as goal
 
 -- decisions are forgotten, and all else stays

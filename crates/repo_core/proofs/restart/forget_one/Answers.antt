@@ -1,5 +1,5 @@
 use Rattle.repo_core.proofs.Letting.{one_goes_in}
-use Rattle.stable_store.specs.Kept.{held_of}
+use Rattle.repo_durable.specs.Kept.{held_of}
 use Rattle.repo_core.proofs.restart.forget_one.Goals as goal
 
 pub returns-clause-go : goal.returns-clause-go

@@ -1,5 +1,5 @@
-use Rattle.stable_store.proofs.Counting.{err_behind, err_through}
-use Rattle.stable_store.specs.Kept.{disks_of}
+use Rattle.repo_durable.proofs.Counting.{err_behind, err_through}
+use Rattle.repo_durable.specs.Kept.{disks_of}
 use Rattle.std.proofs.Common.{rules}
 use Rattle.repo_core.proofs.room.flush_for.Goals as goal
 

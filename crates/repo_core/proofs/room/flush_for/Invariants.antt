@@ -1,11 +1,11 @@
 use Rattle.disk_trait.specs.AllDisks.{NoFault}
 use Rattle.std.proofs.Common.{true, ◌≡◌}
 use Rattle.repo_core.specs.Behind.{MovesObjects}
-use Rattle.stable_store.specs.Failing.{NoFewer}
-use Rattle.stable_store.specs.Flushes.{HasFlushed}
-use Rattle.stable_store.specs.Pages.{HasPages}
-use Rattle.stable_store.specs.Saying.{IsSaid}
-use Rattle.stable_store.specs.Kept.{IsKept, disks_of, held_of, is_up}
+use Rattle.repo_durable.specs.Failing.{NoFewer}
+use Rattle.repo_durable.specs.Flushes.{HasFlushed}
+use Rattle.repo_durable.specs.Pages.{HasPages}
+use Rattle.repo_durable.specs.Saying.{IsSaid}
+use Rattle.repo_durable.specs.Kept.{IsKept, disks_of, held_of, is_up}
 use Rattle.repo_core.proofs.room.flush_for.Given as goal
 
 -- objects have moved, and all else stays

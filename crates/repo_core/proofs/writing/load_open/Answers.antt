@@ -1,9 +1,9 @@
-use Rattle.commit_log.specs.declared.request.Request.{Request}
+use Rattle.log_entries.specs.declared.request.Request.{Request}
 use Rattle.std.proofs.Common.{ap, refl, sym, ◌∙◌, ◌≡◌}
 use Rattle.std.specs.Option.{option_copied}
 use Rattle.std.specs.Prelude.{None, Some}
 use Rattle.repo_core.proofs.Told.{walked}
-use Rattle.repository_laws.proofs.Reopening.{reopens-begin, reopens-end}
+use Rattle.law_repo_memory.proofs.Reopening.{reopens-begin, reopens-end}
 use Rattle.thor_value.specs.Names.{ts_cmp}
 use Rattle.two_phase.specs.Walks.{behind, first_open}
 use Rattle.repo_core.proofs.writing.load_open.Goals as goal

@@ -1,6 +1,6 @@
 use Rattle.std.proofs.Common.{◌≡◌}
 use Rattle.repo_core.proofs.writing.load_open.Given as goal
-use Rattle.repository_laws.specs.Coming.{ReopensTo}
+use Rattle.law_repo_memory.specs.Coming.{ReopensTo}
 
 -- the requests up to one are in the queue where they stay undecided, and no session begins or ends
 abbrev pub invariant-loop : goal.invariant-loop

@@ -1,7 +1,7 @@
-use Rattle.checked_report.specs.declared.reply.Reply.{Reply}
-use Rattle.command_answer.specs.Top.{SaysBy, TellsOf, Told}
+use Rattle.top_reply.specs.declared.reply.Reply.{Reply}
+use Rattle.top_statement.specs.Top.{SaysBy, TellsOf, Told}
 use Rattle.std.proofs.Common.{IfOk, Result, arith, refl, subst, sym, vec_len, ◌≡◌}
-use Rattle.store_reading.specs.Reading.{ReadAll}
+use Rattle.store_opening.specs.Reading.{ReadAll}
 use Rattle.thor_top.proofs.StageLaws.{err_map, foretells_map, none_by, ok_map, says_by, says_map}
 use Rattle.thor_top.specs.Stages.{Foretells, SaysNoScriptFor}
 use Rattle.thor_value.specs.declared.memory.NoMemory.{NoMemory}

@@ -1,7 +1,7 @@
-use Rattle.checked_report.specs.declared.form.Form.TheVariants as form
-use Rattle.command_answer.specs.Reports.{TellsRun}
-use Rattle.command_answer.specs.Top.{TellsOf}
-use Rattle.store_reading.specs.Reading.{ReadAll}
+use Rattle.top_reply.specs.declared.form.Form.TheVariants as form
+use Rattle.top_statement.specs.Reports.{TellsRun}
+use Rattle.top_statement.specs.Top.{TellsOf}
+use Rattle.store_opening.specs.Reading.{ReadAll}
 use Rattle.thor_top.proofs.StageLaws.{foretells_map, gen_tells, ok_map, play_tells, threads_tell}
 use Rattle.thor_top.specs.Stages.{Foretells}
 use Rattle.thor_top.proofs.beginning.begin_judged.Goals as goal

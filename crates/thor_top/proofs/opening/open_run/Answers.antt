@@ -1,6 +1,6 @@
-use Rattle.command_answer.specs.Reports.{TellsRun}
+use Rattle.top_statement.specs.Reports.{TellsRun}
 use Rattle.std.proofs.Common.{subst, sym, ◌≡◌}
-use Rattle.store_reading.specs.Reading.{ReadAll}
+use Rattle.store_opening.specs.Reading.{ReadAll}
 use Rattle.thor_top.proofs.StageLaws.{foretells_run, of_disks, ok_map}
 use Rattle.thor_top.specs.Stages.{Foretells}
 use Rattle.thor_top.specs.declared.expected.Expected.{Expected}

@@ -1,6 +1,6 @@
 use Rattle.class_defs.specs.declared.store.Plain.{Plain}
 use Rattle.std.proofs.Common.{Option, subst}
-use Rattle.store_reading.specs.Reading.{IsOpenedIn}
+use Rattle.store_opening.specs.Reading.{IsOpenedIn}
 use Rattle.thor_top.proofs.StageLaws.{opened_at}
 use Rattle.thor_top.proofs.opening.stored.Goals as goal
 

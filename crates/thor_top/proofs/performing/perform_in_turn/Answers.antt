@@ -1,6 +1,6 @@
-use Rattle.command_answer.specs.Top.{SaysBy, Told}
+use Rattle.top_statement.specs.Top.{SaysBy, Told}
 use Rattle.std.proofs.Common.{vec_len}
-use Rattle.store_reading.specs.Reading.{ReadAll}
+use Rattle.store_opening.specs.Reading.{ReadAll}
 use Rattle.thor_top.proofs.PromiseLaws as laws
 use Rattle.thor_top.proofs.performing.perform_in_turn.Goals as goal
 

@@ -1,9 +1,9 @@
-use Rattle.checked_report.specs.declared.reply.Reply.{Reply}
-use Rattle.command_answer.specs.Top.{Says, Told}
-use Rattle.command_words.specs.Words.{Gives, plan_of}
-use Rattle.command_words.specs.declared.command.WordsFault.{WordsFault}
+use Rattle.top_reply.specs.declared.reply.Reply.{Reply}
+use Rattle.top_statement.specs.Top.{Says, Told}
+use Rattle.top_words.specs.Words.{Gives, plan_of}
+use Rattle.top_words.specs.declared.command.WordsFault.{WordsFault}
 use Rattle.std.proofs.Common.{Err, IfOk, Result, refl, subst, sym, vec_len}
-use Rattle.store_reading.specs.Reading.{ReadAll}
+use Rattle.store_opening.specs.Reading.{ReadAll}
 use Rattle.thor_top.proofs.PromiseLaws.{wrote}
 use Rattle.thor_top.proofs.WordsLaws as laws
 use Rattle.thor_value.specs.declared.memory.NoMemory.{NoMemory}

@@ -2,7 +2,7 @@ use Rattle.client_cache.specs.Copies.{kept}
 use Rattle.client_state.proofs.Moving.{by_grant}
 use Rattle.client_state.proofs.held.Held.ask_for_names.Goals as goal
 use Rattle.client_state.specs.declared.held.Held.{Held}
-use Rattle.port.specs.Acting.{RefusesGrant}
+use Rattle.client_port.specs.Acting.{RefusesGrant}
 use Rattle.std.proofs.Common.{ap}
 use Rattle.std.proofs.lemmas.Result.{IfOk-weaker}
 use Rattle.std.specs.Prelude.{Err, Ok}

@@ -2,7 +2,7 @@ use Rattle.client_cache.specs.Copies.{kept}
 use Rattle.client_state.proofs.Moving.{by_connect}
 use Rattle.client_state.proofs.held.Held.connect.Goals as goal
 use Rattle.paused_eval.specs.declared.copies.Copies.{Copies}
-use Rattle.port.specs.Acting.{RefusesConnect}
+use Rattle.client_port.specs.Acting.{RefusesConnect}
 use Rattle.std.proofs.Common.{ap, refl}
 use Rattle.std.specs.Prelude.{Err, Ok}
 

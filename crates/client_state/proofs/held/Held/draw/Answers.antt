@@ -1,7 +1,7 @@
 use Rattle.client_state.proofs.Moving.{by_draw}
 use Rattle.client_state.proofs.held.Held.draw.Goals as goal
 use Rattle.client_state.specs.declared.calls.Drew.TheVariants as drew
-use Rattle.port.specs.Acting.{RefusesDraw}
+use Rattle.client_port.specs.Acting.{RefusesDraw}
 use Rattle.std.proofs.Common.{refl}
 use Rattle.std.specs.Prelude.{Err, Ok}
 

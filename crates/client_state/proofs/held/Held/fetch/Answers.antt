@@ -2,7 +2,7 @@ use Rattle.client_cache.specs.Copies.{kept}
 use Rattle.client_state.proofs.Moving.{by_fetch}
 use Rattle.client_state.proofs.held.Held.fetch.Goals as goal
 use Rattle.client_state.specs.declared.held.Held.{Held}
-use Rattle.port.specs.Acting.{RefusesFetch}
+use Rattle.client_port.specs.Acting.{RefusesFetch}
 use Rattle.std.proofs.Common.{ap}
 use Rattle.std.proofs.lemmas.Result.{IfOk-weaker}
 use Rattle.std.specs.Prelude.{Err, Ok}

@@ -3,8 +3,8 @@ use Rattle.front_end.proofs.Acting.{by_ask}
 use Rattle.front_end.proofs.Calling.{asked_so, nothing_done, settled_so}
 use Rattle.front_end.proofs.Showing.{learnt_of}
 use Rattle.front_end.proofs.client.Client.ask_about.Goals as goal
-use Rattle.item_progress.specs.Courses.{IsDownAt, is_committed}
-use Rattle.item_progress.specs.declared.news.Learnt.{Learnt}
+use Rattle.client_items.specs.Courses.{IsDownAt, is_committed}
+use Rattle.client_items.specs.declared.news.Learnt.{Learnt}
 use Rattle.std.proofs.Common.{ap, refl, subst, ◌≡◌}
 use Rattle.std.specs.Prelude.{IfSome, Option}
 

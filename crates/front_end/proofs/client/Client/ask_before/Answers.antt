@@ -4,12 +4,12 @@ use Rattle.front_end.proofs.Acting.{by_ask}
 use Rattle.front_end.proofs.Calling.{asked_nothing, asked_settled}
 use Rattle.front_end.proofs.Showing.{learnt_of}
 use Rattle.front_end.proofs.client.Client.ask_before.Goals as goal
-use Rattle.item_progress.specs.Courses.{IsDownAt, is_committed}
-use Rattle.item_progress.specs.declared.news.Learnt.{Learnt}
-use Rattle.port.specs.Acting.{RefusesAsk}
+use Rattle.client_items.specs.Courses.{IsDownAt, is_committed}
+use Rattle.client_items.specs.declared.news.Learnt.{Learnt}
+use Rattle.client_port.specs.Acting.{RefusesAsk}
 use Rattle.std.proofs.Common.{subst, ◌≡◌}
 use Rattle.std.specs.Prelude.{IfSome, Option, Some}
-use Rattle.validation_window.specs.declared.refusal.Refusal.{Refusal}
+use Rattle.repo_refusals.specs.declared.refusal.Refusal.{Refusal}
 
 pub returns-in_err-learnt-in-Ok-Settled-clause-acts : goal.returns-in_err-learnt-in-Ok-Settled-clause-acts
 returns-in_err-learnt-in-Ok-Settled-clause-acts g c = by_ask _ _ _ _ _ _ c.ask.ensures.call

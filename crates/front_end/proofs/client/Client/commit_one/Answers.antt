@@ -6,7 +6,7 @@ use Rattle.front_end.proofs.Acting.{by_commit}
 use Rattle.front_end.proofs.Requesting.{by_commit as moves_by_commit, by_commit_refused, commit_as, stopped_asks, stopped_learns}
 use Rattle.front_end.proofs.client.Client.commit_one.Goals as goal
 use Rattle.front_end.specs.declared.client.Client.{Client}
-use Rattle.port.specs.Acting.{ByCommit, Refuses, RefusesCommit}
+use Rattle.client_port.specs.Acting.{ByCommit, Refuses, RefusesCommit}
 use Rattle.std.proofs.Common.{ap, inl, refl, subst, sym, ◌∙◌}
 use Rattle.std.proofs.lemmas.Result.{IfOk-weaker}
 

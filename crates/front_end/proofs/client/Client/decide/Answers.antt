@@ -4,7 +4,7 @@ use Rattle.front_end.proofs.Acting.{by_decide}
 use Rattle.front_end.proofs.Requesting.{by_decide_refused, decided_so}
 use Rattle.front_end.proofs.Showing.{nothing_shown}
 use Rattle.front_end.proofs.client.Client.decide.Goals as goal
-use Rattle.message_outbox.specs.declared.answers.At.{At}
+use Rattle.session_outbox.specs.declared.answers.At.{At}
 use Rattle.std.proofs.Common.{ap, refl, true, ◌∙◌}
 use Rattle.std.proofs.lemmas.Result.{IfOk-weaker, on_ok_weaker}
 

@@ -3,7 +3,7 @@ use Rattle.client_state.proofs.Writing.{nothing_unsent}
 use Rattle.front_end.proofs.Acting.{by_prepare}
 use Rattle.front_end.proofs.Requesting.{by_prepare as moves_by_prepare, by_prepare_refused}
 use Rattle.front_end.proofs.client.Client.prepare.Goals as goal
-use Rattle.port.specs.Acting.{RefusesPrepare}
+use Rattle.client_port.specs.Acting.{RefusesPrepare}
 use Rattle.std.proofs.Common.{inr, ◌∙◌}
 use Rattle.std.proofs.lemmas.Result.{IfOk-weaker}
 

@@ -7,7 +7,7 @@ use Rattle.front_end.proofs.Acting.{by_prepare}
 use Rattle.front_end.proofs.Requesting.{by_prepare as moves_by_prepare, by_prepare_refused}
 use Rattle.front_end.proofs.client.Client.prepare_first.Goals as goal
 use Rattle.front_end.specs.declared.client.Client.{Client}
-use Rattle.port.specs.Acting.{RefusesPrepare}
+use Rattle.client_port.specs.Acting.{RefusesPrepare}
 use Rattle.std.proofs.Common.{ap, inl, sym}
 use Rattle.std.proofs.lemmas.Result.{IfOk-weaker}
 

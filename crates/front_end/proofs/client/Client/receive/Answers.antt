@@ -2,7 +2,7 @@ use Rattle.front_end.proofs.Acting.{by_receive}
 use Rattle.front_end.proofs.Receiving.{by_message, by_none, by_refusal, gave_message, gave_none, gave_refusal, no_message}
 use Rattle.front_end.proofs.Showing.{taken_so}
 use Rattle.front_end.proofs.client.Client.receive.Goals as goal
-use Rattle.port.specs.Acting.{RefusesReceive}
+use Rattle.client_port.specs.Acting.{RefusesReceive}
 use Rattle.std.proofs.Common.{refl}
 
 pub returns-in_err-take-in-Ok-Some-clause-acts : goal.returns-in_err-take-in-Ok-Some-clause-acts

@@ -2,7 +2,7 @@ use Rattle.front_end.proofs.Acting.{by_commit}
 use Rattle.front_end.proofs.Receiving.{whenever}
 use Rattle.front_end.proofs.Requesting.{by_commit_refused, by_transform}
 use Rattle.front_end.proofs.client.Client.send_transform.Goals as goal
-use Rattle.port.specs.Acting.{RefusesCommit}
+use Rattle.client_port.specs.Acting.{RefusesCommit}
 use Rattle.std.proofs.Common.{inl}
 use Rattle.std.proofs.lemmas.Result.{IfOk-weaker, on_ok_weaker}
 

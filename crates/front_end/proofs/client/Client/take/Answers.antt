@@ -1,7 +1,7 @@
 use Rattle.client_state.specs.Receiving.{GivesUp, TakesCopies}
 use Rattle.front_end.proofs.client.Client.take.Goals as goal
-use Rattle.message_outbox.specs.declared.message.Message.{Message}
-use Rattle.port.specs.Acting.{IsTaken}
+use Rattle.session_outbox.specs.declared.message.Message.{Message}
+use Rattle.client_port.specs.Acting.{IsTaken}
 use Rattle.std.proofs.Common.{subst, sym}
 use Rattle.std.proofs.lemmas.Result.{IfOk-weaker, on_ok_weaker}
 

@@ -4,7 +4,7 @@ use Rattle.front_end.proofs.Calling.{moves_from, moves_same}
 use Rattle.front_end.proofs.Showing.{shown_counted, shown_used}
 use Rattle.front_end.proofs.front_end.FrontEnd.follow_counted.Goals as goal
 use Rattle.front_end.specs.Moving.{held_of, standing_of}
-use Rattle.item_progress.proofs.Falling.{then_never_rises}
+use Rattle.client_items.proofs.Falling.{then_never_rises}
 use Rattle.std.proofs.Common.{refl, subst, sym}
 use Rattle.std.proofs.lemmas.Result.{on_ok_weaker}
 

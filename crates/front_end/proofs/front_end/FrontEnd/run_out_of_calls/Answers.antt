@@ -2,7 +2,7 @@ use Rattle.client_state.specs.Pending.{pending_in}
 use Rattle.front_end.proofs.Calling.{moves_down, on_any, rests_so}
 use Rattle.front_end.proofs.Showing.{used_up}
 use Rattle.front_end.proofs.front_end.FrontEnd.run_out_of_calls.Goals as goal
-use Rattle.item_progress.specs.Ending.{ends_try}
+use Rattle.client_items.specs.Ending.{ends_try}
 use Rattle.std.proofs.Common.{ap, refl}
 use Rattle.std.proofs.lemmas.Result.{on_ok_weaker}
 

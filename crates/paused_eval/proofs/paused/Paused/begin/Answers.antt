@@ -1,5 +1,5 @@
 use Rattle.std.proofs.Common.{rules, ◌≡◌, ◌∷◌, [], refl}
-use Rattle.paused_defs.specs.declared.frames.Frame.TheVariants as frame
+use Rattle.lang_small_steps.specs.declared.frames.Frame.TheVariants as frame
 use Rattle.paused_eval.proofs.Standing.{begins_standing}
 use Rattle.paused_eval.proofs.paused.Paused.begin.Goals as goal
 

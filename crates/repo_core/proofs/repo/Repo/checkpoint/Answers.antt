@@ -1,6 +1,6 @@
 use Rattle.repo_core.proofs.Failing.{err_before, err_shown, failed_between, failed_same, ok_before, ok_shown}
 use Rattle.repo_core.specs.Shown.{Shown, shown}
-use Rattle.stable_store.specs.Kept.{disks_of}
+use Rattle.repo_durable.specs.Kept.{disks_of}
 use Rattle.std.proofs.Common.{ap, refl, ◌∙◌}
 use Rattle.repo_core.proofs.Readable.{shown_has}
 use Rattle.repo_core.proofs.repo.Repo.checkpoint.Goals as goal

@@ -5,10 +5,10 @@ use Rattle.repo_core.proofs.Judged.{refused_by}
 use Rattle.repo_core.proofs.Refused.{why_refused}
 use Rattle.repo_core.proofs.Told.{on_ok}
 use Rattle.repo_core.specs.Calls.{judged}
-use Rattle.commit_log.specs.declared.entry.Entry.{Entry}
+use Rattle.log_entries.specs.declared.entry.Entry.{Entry}
 use Rattle.repo_core.specs.Behind.{alone_entry}
-use Rattle.trace_record.specs.Recorded.{Recorded, with_entry}
-use Rattle.stable_store.proofs.Counting.{err_through}
+use Rattle.repo_trace.specs.Recorded.{Recorded, with_entry}
+use Rattle.repo_durable.proofs.Counting.{err_through}
 use Rattle.std.proofs.Common.{rules}
 use Rattle.repo_core.proofs.Failing.{err_before, ok_before}
 use Rattle.repo_core.proofs.repo.Repo.commit_one.Goals as goal

@@ -2,7 +2,7 @@ use Rattle.repo_core.proofs.Refused.{leaves_given_back}
 use Rattle.repo_core.specs.Shown.{Shown, shown}
 use Rattle.std.proofs.Common.{ap, ◌∙◌}
 use Rattle.std.specs.Prelude.{None}
-use Rattle.volatile_state.specs.Volatile.{Memory}
+use Rattle.repo_volatile.specs.Volatile.{Memory}
 use Rattle.repo_core.proofs.repo.Repo.connect.Goals as goal
 
 pub returns-in-Err-mark-clause-left : goal.returns-in-Err-mark-clause-left

@@ -1,12 +1,12 @@
 use Rattle.std.proofs.Common.{None, ap, subst, sym, true, ◌∙◌, ◌≡◌}
-use Rattle.held_state.specs.Keeps.{Keeps}
+use Rattle.repo_state.specs.Keeps.{Keeps}
 use Rattle.repo_core.proofs.Falls.{keeps_up}
 use Rattle.repo_core.proofs.Stamps.{prepared_stamp}
 use Rattle.repo_core.proofs.Written.{can_decide}
 use Rattle.repo_core.specs.Behind.{has_prepared}
 use Rattle.repo_core.specs.Shown.{Shown}
-use Rattle.stable_store.specs.Kept.{is_up}
-use Rattle.stable_store.proofs.Counting.{err_through}
+use Rattle.repo_durable.specs.Kept.{is_up}
+use Rattle.repo_durable.proofs.Counting.{err_through}
 use Rattle.std.proofs.Common.{rules}
 use Rattle.repo_core.proofs.Failing.{err_before}
 use Rattle.repo_core.proofs.repo.Repo.decide.Goals as goal

@@ -1,14 +1,14 @@
-use Rattle.stable_store.specs.Kept.{disks_of}
+use Rattle.repo_durable.specs.Kept.{disks_of}
 use Rattle.std.proofs.Common.{IsErrOf, ap, refl, rules}
 use Rattle.repo_core.proofs.Damage.{damage_shown, damaged_memory}
 use Rattle.repo_core.proofs.Failing.{failed_between, stopped_memory}
-use Rattle.validation_window.specs.declared.refusal.Refusal.TheVariants.{Damaged as IsDamaged, Stopped as IsStopped}
+use Rattle.repo_refusals.specs.declared.refusal.Refusal.TheVariants.{Damaged as IsDamaged, Stopped as IsStopped}
 use Rattle.repo_core.proofs.Refused.{if_err_on, leaves_read}
 use Rattle.repo_core.specs.Shown.{Shown, shown}
 use Rattle.std.specs.Prelude.{None}
 use Rattle.repo_core.proofs.Failing.{counts_between, err_shown}
-use Rattle.stable_store.proofs.Counting.{err_through, if_err_any}
-use Rattle.stable_store.proofs.Returning.{on_ok_any}
+use Rattle.repo_durable.proofs.Counting.{err_through, if_err_any}
+use Rattle.repo_durable.proofs.Returning.{on_ok_any}
 use Rattle.std.proofs.Common.{◌∙◌}
 use Rattle.repo_core.proofs.Readable.{shown_has}
 use Rattle.repo_core.proofs.repo.Repo.fetch.Goals as goal

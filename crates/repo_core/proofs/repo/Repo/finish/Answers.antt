@@ -1,5 +1,5 @@
 use Rattle.std.proofs.Common.{None}
-use Rattle.stable_store.proofs.Counting.{err_through}
+use Rattle.repo_durable.proofs.Counting.{err_through}
 use Rattle.std.proofs.Common.{rules, ◌∙◌}
 use Rattle.repo_core.proofs.Failing.{err_before}
 use Rattle.repo_core.proofs.repo.Repo.finish.Goals as goal

@@ -1,7 +1,7 @@
 use Rattle.repo_core.proofs.Damage.{oldest_shown}
 use Rattle.repo_core.proofs.Failing.{err_shown, failed_between, ok_shown}
 use Rattle.repo_core.specs.Shown.{Shown, shown}
-use Rattle.stable_store.specs.Kept.{disks_of}
+use Rattle.repo_durable.specs.Kept.{disks_of}
 use Rattle.std.proofs.Common.{ap, refl}
 use Rattle.repo_core.proofs.Readable.{shown_has}
 use Rattle.repo_core.proofs.repo.Repo.flush.Goals as goal

@@ -1,11 +1,11 @@
 use Rattle.repo_core.proofs.Begun.{roots_begun}
 use Rattle.repo_core.specs.Restarting.{Begins, IsNew}
 use Rattle.repo_core.specs.Shown.{Shown}
-use Rattle.stable_store.proofs.Returning.{if_ok_on}
-use Rattle.stable_store.specs.Kept.{disks_of, held_of}
+use Rattle.repo_durable.proofs.Returning.{if_ok_on}
+use Rattle.repo_durable.specs.Kept.{disks_of, held_of}
 use Rattle.std.proofs.Common.{List, Option, Some, ℕ, ◌≡◌}
-use Rattle.store_format.proofs.Roots.{ok_of_two}
-use Rattle.store_format.specs.Pages.{HasRoots}
+use Rattle.repo_format.proofs.Roots.{ok_of_two}
+use Rattle.repo_format.specs.Pages.{HasRoots}
 use Rattle.repo_core.proofs.repo.Repo.format.Goals as goal
 
 pub returns-clause-begins : goal.returns-clause-begins

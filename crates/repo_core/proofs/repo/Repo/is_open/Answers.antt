@@ -1,9 +1,9 @@
 use Rattle.std.proofs.Common.{ap, subst, true, ◌∙◌, ◌≡◌}
-use Rattle.held_state.specs.Keeps.{Keeps}
+use Rattle.repo_state.specs.Keeps.{Keeps}
 use Rattle.repo_core.proofs.Falls.{keeps_up}
 use Rattle.repo_core.proofs.Stamps.{open_stamp}
 use Rattle.repo_core.specs.Shown.{Shown}
-use Rattle.stable_store.specs.Kept.{is_up}
+use Rattle.repo_durable.specs.Kept.{is_up}
 use Rattle.repo_core.proofs.repo.Repo.is_open.Goals as goal
 
 pub returns-clause-stamp : goal.returns-clause-stamp

@@ -2,7 +2,7 @@ use Rattle.std.proofs.Common.{ap, ℕ, ◌∙◌, ◌≡◌}
 use Rattle.repo_core.proofs.Judged.{first_of}
 use Rattle.repo_core.specs.Behind.{epoch_of}
 use Rattle.repo_core.specs.Shown.{Shown}
-use Rattle.volatile_state.specs.Volatile.{Memory, answer, verdict}
+use Rattle.repo_volatile.specs.Volatile.{Memory, answer, verdict}
 use Rattle.repo_core.proofs.repo.Repo.judge_by_memory.Goals as goal
 
 pub returns-clause-first : goal.returns-clause-first

@@ -1,6 +1,6 @@
 use Rattle.repo_core.proofs.Readable.{shown_has}
-use Rattle.stable_store.specs.Pages.{HasPages}
-use Rattle.stable_store.specs.declared.stable.Stable.{Stable}
+use Rattle.repo_durable.specs.Pages.{HasPages}
+use Rattle.repo_durable.specs.declared.stable.Stable.{Stable}
 use Rattle.std.proofs.Common.{rules, subst, ◌≡◌}
 use Rattle.repo_core.proofs.repo.Repo.mark.Goals as goal
 

@@ -1,9 +1,9 @@
 use Rattle.disk_trait.specs.Disks.{Disks}
 use Rattle.disk_trait.specs.Fused.{fused_disks}
 use Rattle.repo_core.specs.Shown.{Shown}
-use Rattle.stable_store.proofs.Saying.{images_of}
-use Rattle.stable_store.specs.Kept.{pending}
-use Rattle.stable_store.specs.Saying.{ImagesSay}
+use Rattle.repo_durable.proofs.Saying.{images_of}
+use Rattle.repo_durable.specs.Kept.{pending}
+use Rattle.repo_durable.specs.Saying.{ImagesSay}
 use Rattle.std.proofs.Common.{ap, subst, sym, ◌∙◌}
 use Rattle.repo_core.proofs.repo.Repo.parts.Goals as goal
 

@@ -3,16 +3,16 @@ use Rattle.repo_core.proofs.Causes.{why_marked}
 use Rattle.repo_core.proofs.Judged.{refused_by}
 use Rattle.repo_core.proofs.Refused.{why_refused}
 use Rattle.repo_core.specs.Calls.{judged}
-use Rattle.stable_store.proofs.Counting.{err_through}
+use Rattle.repo_durable.proofs.Counting.{err_through}
 use Rattle.std.proofs.Common.{rules}
 use Rattle.repo_core.proofs.Failing.{err_before, ok_before}
-use Rattle.commit_log.specs.declared.entry.Entry.TheVariants.{Prepared}
-use Rattle.held_state.specs.Entering.{entered}
+use Rattle.log_entries.specs.declared.entry.Entry.TheVariants.{Prepared}
+use Rattle.repo_state.specs.Entering.{entered}
 use Rattle.repo_core.proofs.Moves.{moved_then}
 use Rattle.repo_core.proofs.Told.{on_ok}
 use Rattle.repo_core.specs.Behind.{HasMoved}
 use Rattle.std.proofs.Common.{OnOk, subst}
-use Rattle.trace_record.specs.Recorded.{Recorded, with_entry}
+use Rattle.repo_trace.specs.Recorded.{Recorded, with_entry}
 use Rattle.repo_core.proofs.repo.Repo.prepare.Goals as goal
 
 pub returns-in-Err-clause-why : goal.returns-in-Err-clause-why

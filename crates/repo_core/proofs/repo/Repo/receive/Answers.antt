@@ -2,8 +2,8 @@ use Rattle.repo_core.proofs.Refused.{if_err_on, leaves_read}
 use Rattle.repo_core.specs.Shown.{Shown, shown}
 use Rattle.std.proofs.Common.{ap, refl}
 use Rattle.std.specs.Prelude.{None}
-use Rattle.volatile_state.proofs.Lasting.{stayed}
-use Rattle.volatile_state.specs.Volatile.{Memory}
+use Rattle.repo_volatile.proofs.Lasting.{stayed}
+use Rattle.repo_volatile.specs.Volatile.{Memory}
 use Rattle.repo_core.proofs.repo.Repo.receive.Goals as goal
 
 pub returns-clause-left : goal.returns-clause-left

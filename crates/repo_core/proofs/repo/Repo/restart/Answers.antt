@@ -1,7 +1,7 @@
 use Rattle.repo_core.proofs.Failing.{err_before, failed_same, failed_shown, ok_before}
 use Rattle.repo_core.specs.Shown.{Shown}
 use Rattle.std.proofs.Common.{◌∙◌}
-use Rattle.stable_store.proofs.Counting.{err_through}
+use Rattle.repo_durable.proofs.Counting.{err_through}
 use Rattle.std.proofs.Common.{rules}
 use Rattle.repo_core.proofs.repo.Repo.restart.Goals as goal
 

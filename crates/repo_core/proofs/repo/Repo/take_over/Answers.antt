@@ -3,13 +3,13 @@ use Rattle.repo_core.proofs.Entered.{goes_down, on_err2}
 use Rattle.repo_core.proofs.Taking.{down_with_it, on_ok4, pending_falls, taken_from, takes_after, tells_shown}
 use Rattle.repo_core.specs.Restarting.{Takes, TakesNone}
 use Rattle.repo_core.specs.Shown.{Shown, shown}
-use Rattle.stable_store.specs.Kept.{disks_of, pending}
+use Rattle.repo_durable.specs.Kept.{disks_of, pending}
 use Rattle.std.proofs.Common.{IsErrOf, OnOk, ap, refl, rules, subst}
 use Rattle.std.specs.Prelude.{OnErr}
-use Rattle.validation_window.specs.declared.refusal.Refusal.TheVariants.{Damaged as IsDamaged, Stopped as IsStopped}
+use Rattle.repo_refusals.specs.declared.refusal.Refusal.TheVariants.{Damaged as IsDamaged, Stopped as IsStopped}
 use Rattle.repo_core.proofs.Failing.{counts_between, err_shown}
-use Rattle.stable_store.proofs.Counting.{err_through, if_err_any, stays_then}
-use Rattle.stable_store.proofs.Returning.{on_ok_any}
+use Rattle.repo_durable.proofs.Counting.{err_through, if_err_any, stays_then}
+use Rattle.repo_durable.proofs.Returning.{on_ok_any}
 use Rattle.repo_core.proofs.Readable.{shown_has}
 use Rattle.repo_core.proofs.repo.Repo.take_over.Goals as goal
 

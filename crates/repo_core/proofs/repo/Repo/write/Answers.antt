@@ -1,27 +1,27 @@
 use Rattle.repo_core.proofs.Failing.{failed_between, stopped_memory}
-use Rattle.validation_window.specs.declared.refusal.Refusal.TheVariants.{Stopped as IsStopped}
-use Rattle.commit_log.specs.declared.entry.Entry.TheVariants.{Life, Prepared}
-use Rattle.commit_log.specs.declared.entry.Entry.{Entry}
-use Rattle.live_sessions.specs.Sessions.{ended}
+use Rattle.repo_refusals.specs.declared.refusal.Refusal.TheVariants.{Stopped as IsStopped}
+use Rattle.log_entries.specs.declared.entry.Entry.TheVariants.{Life, Prepared}
+use Rattle.log_entries.specs.declared.entry.Entry.{Entry}
+use Rattle.repo_sessions.specs.Sessions.{ended}
 use Rattle.repo_core.proofs.Entered.{goes_down, on_err1}
 use Rattle.repo_core.proofs.Moves.{told_then}
 use Rattle.repo_core.specs.Refusing.{GoesDown}
 use Rattle.repo_core.specs.Shown.{Shown, shown}
-use Rattle.stable_store.specs.Kept.{disks_of, is_up}
+use Rattle.repo_durable.specs.Kept.{disks_of, is_up}
 use Rattle.std.proofs.Common.{IsErrOf, Ok, OnOk, Some, ap, false, rules, subst, refl, sym, true, ◌∙◌, ◌≡◌}
 use Rattle.std.specs.Prelude.{OnErr}
-use Rattle.volatile_state.specs.Volatile.{Memory, entered}
+use Rattle.repo_volatile.specs.Volatile.{Memory, entered}
 use Rattle.repo_core.proofs.Failing.{counts_between, err_shown}
-use Rattle.stable_store.proofs.Counting.{err_through, if_err_any, stays_then}
-use Rattle.stable_store.proofs.Returning.{on_ok_any}
+use Rattle.repo_durable.proofs.Counting.{err_through, if_err_any, stays_then}
+use Rattle.repo_durable.proofs.Returning.{on_ok_any}
 use Rattle.repo_core.proofs.Readable.{shown_has}
-use Rattle.held_state.specs.Keeps.{Keeps}
-use Rattle.held_state.specs.declared.held.Held.{Held}
+use Rattle.repo_state.specs.Keeps.{Keeps}
+use Rattle.repo_state.specs.declared.held.Held.{Held}
 use Rattle.repo_core.proofs.Falls.{keeps_up}
 use Rattle.repo_core.specs.Calls.{IsTold}
 use Rattle.repo_core.specs.Telling.{Tells}
-use Rattle.repository_laws.specs.Coming.{Moves}
-use Rattle.trace_record.specs.Recorded.{Recorded}
+use Rattle.law_repo_memory.specs.Coming.{Moves}
+use Rattle.repo_trace.specs.Recorded.{Recorded}
 use Rattle.std.proofs.Common.{length, ℕ}
 use Rattle.repo_core.proofs.repo.Repo.write.Goals as goal
 

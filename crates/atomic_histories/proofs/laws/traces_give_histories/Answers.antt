@@ -1,5 +1,0 @@
-use Rattle.atomic_histories.proofs.Traced.{entry-added, mark-added}
-use Rattle.atomic_histories.proofs.laws.traces_give_histories.Goals as goal
-
-pub returns : goal.returns
-returns c = record { entry = entry-added; mark = mark-added }

@@ -1,8 +1,0 @@
-use Rattle.std.proofs.Common.{◌≡◌, drop}
-use Rattle.std.specs.List.{list_all}
-use Rattle.checked_report.specs.Reports.{ends_at_once}
-use Rattle.checked_report.proofs.checking.end_at_once.Given as goal
-
--- the items to come ended at once exactly where all did
-abbrev pub invariant-loop-ended : goal.invariant-loop-ended
-invariant-loop-ended l = list_all ends_at_once (drop l.ended-index l.ends) ≡ list_all ends_at_once l.ends

@@ -1,5 +1,0 @@
-use Rattle.client_laws.proofs.Stepping.{all_fit}
-use Rattle.client_laws.proofs.acting.acting_links_fit.Goals as goal
-
-pub returns : goal.returns
-returns c = λ old new acts committed before after copies left seen stay there fit. all_fit old new acts committed before after copies left seen stay (λ r is within h. there r is h) fit

@@ -1,9 +1,0 @@
-use Rattle.client_laws.proofs.Uncommitted.{grown_on}
-use Rattle.client_laws.proofs.UncommittedCalls.{acted}
-use Rattle.client_laws.proofs.doomed.doomed_transactions_stay.Goals as goal
-
-pub returns-clause-growth : goal.returns-clause-growth
-returns-clause-growth c = grown_on
-
-pub returns-clause-calls : goal.returns-clause-calls
-returns-clause-calls c = λ old new t committed a other seen d. acted old new t committed seen d a other

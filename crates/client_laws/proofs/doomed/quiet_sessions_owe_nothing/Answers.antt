@@ -1,8 +1,0 @@
-use Rattle.client_laws.proofs.Beginning.{doomed_uncommitted, owes_nothing}
-use Rattle.client_laws.proofs.doomed.quiet_sessions_owe_nothing.Goals as goal
-
-pub returns-clause-doomed : goal.returns-clause-doomed
-returns-clause-doomed c = doomed_uncommitted
-
-pub returns-clause-none : goal.returns-clause-none
-returns-clause-none c = owes_nothing

@@ -1,5 +1,0 @@
-use Rattle.client_laws.proofs.Fits.{early, late, other, stale}
-use Rattle.client_laws.proofs.examples.what_does_not_fit.Goals as goal
-
-pub returns : goal.returns
-returns c = record { kept = stale; early = early; late = late; other = other }

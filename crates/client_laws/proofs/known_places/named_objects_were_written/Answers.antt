@@ -1,5 +1,0 @@
-use Rattle.client_laws.proofs.Naming.{all_named}
-use Rattle.client_laws.proofs.known_places.named_objects_were_written.Goals as goal
-
-pub returns : goal.returns
-returns c = λ b T s v is x k t. all_named b s T v is t.at t.names k t.message x t.named

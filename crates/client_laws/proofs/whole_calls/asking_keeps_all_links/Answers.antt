@@ -1,5 +1,0 @@
-use Rattle.client_laws.proofs.Whole.{connect_all, draw_all, fetch_all, grant_all}
-use Rattle.client_laws.proofs.whole_calls.asking_keeps_all_links.Goals as goal
-
-pub returns : goal.returns
-returns c = record { connect = connect_all; fetch = fetch_all; grant = grant_all; draw = draw_all }

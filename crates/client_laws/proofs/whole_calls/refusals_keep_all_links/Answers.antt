@@ -1,5 +1,0 @@
-use Rattle.client_laws.proofs.Whole.{commit_all, prepare_all}
-use Rattle.client_laws.proofs.whole_calls.refusals_keep_all_links.Goals as goal
-
-pub returns : goal.returns
-returns c = record { commit_one = commit_all; prepare = prepare_all }

@@ -1,5 +1,0 @@
-use Rattle.eval_laws.proofs.Told.{holds_elsewhere}
-use Rattle.eval_laws.proofs.evaluations.answers_hold_where_the_objects_read_are_the_same.Goals as goal
-
-pub returns : goal.returns
-returns c = holds_elsewhere

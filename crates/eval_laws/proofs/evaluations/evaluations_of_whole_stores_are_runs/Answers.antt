@@ -1,6 +1,0 @@
-use Rattle.method_eval.specs.Names.{listed}
-use Rattle.serial_model.proofs.WholeStore.{evaluation_is_run, listed_supply}
-use Rattle.eval_laws.proofs.evaluations.evaluations_of_whole_stores_are_runs.Goals as goal
-
-pub returns : goal.returns
-returns c = λ tx schema view names roots none. evaluation_is_run schema tx names roots view (listed names) none (listed_supply names)

@@ -1,5 +1,0 @@
-use Rattle.fitting_laws.proofs.StrictTells.{values_told, transactions_told}
-use Rattle.fitting_laws.proofs.fitting.strict_meaning_tells_what_runs_do.Goals as goal
-
-pub returns : goal.returns
-returns c = record { values = values_told; transactions = transactions_told }

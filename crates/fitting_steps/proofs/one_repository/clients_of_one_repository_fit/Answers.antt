@@ -1,6 +1,0 @@
-use Rattle.fitting_steps.proofs.OneCopies.{right_or_told}
-use Rattle.fitting_steps.proofs.OneStep.{begins, running}
-use Rattle.fitting_steps.proofs.one_repository.clients_of_one_repository_fit.Goals as goal
-
-pub returns : goal.returns
-returns c = record { begins = begins; runs = running; copies = right_or_told }

@@ -1,5 +1,0 @@
-use Rattle.fitting_steps.proofs.Running.{running}
-use Rattle.fitting_steps.proofs.runs.running_clients_fit.Goals as goal
-
-pub returns : goal.returns
-returns c = running

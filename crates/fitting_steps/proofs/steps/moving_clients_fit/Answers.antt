@@ -1,5 +1,0 @@
-use Rattle.fitting_steps.proofs.Calls.{step_fits}
-use Rattle.fitting_steps.proofs.steps.moving_clients_fit.Goals as goal
-
-pub returns : goal.returns
-returns c = step_fits

@@ -1,7 +1,0 @@
-use Rattle.std.proofs.Common.{◌≡◌, drop}
-use Rattle.state_log.specs.Recovered.{are_of}
-use Rattle.held_state.proofs.writes.are_of.Given as goal
-
--- what is left decides
-abbrev pub invariant-loop-write : goal.invariant-loop-write
-invariant-loop-write l = are_of l.repo (drop l.write-index l.writes) ≡ are_of l.repo l.writes

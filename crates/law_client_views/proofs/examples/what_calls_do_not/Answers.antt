@@ -1,0 +1,9 @@
+use Rattle.law_client_views.proofs.examples.what_calls_do_not.Goals as goal
+
+pub returns : goal.returns
+returns c = record {
+  calm = λ w. let e = w.1.1 in cc;
+  unseen = λ w. let e = w.0 in cc;
+  came = λ w. w.1;
+  undecided = λ w. let e = w.0 in cc;
+}

@@ -1,0 +1,5 @@
+use Rattle.law_repo_runs.proofs.Steps.{opens}
+use Rattle.law_repo_runs.proofs.laws.repositories_open.Goals as goal
+
+pub returns : goal.returns
+returns c = opens

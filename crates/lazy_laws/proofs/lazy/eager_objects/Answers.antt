@@ -1,6 +1,0 @@
-use Rattle.lazy_laws.proofs.Values.{get-each}
-use Rattle.class_defs.specs.Eager.{value}
-use Rattle.lazy_laws.proofs.lazy.eager_objects.Goals as goal
-
-pub returns : goal.returns
-returns c = λ s L x. get-each (value s L.objects L.epoch) L.objects x

@@ -1,5 +1,0 @@
-use Rattle.lazy_laws.proofs.Unseen.{unseen}
-use Rattle.lazy_laws.proofs.lazy.transforms_are_unseen.Goals as goal
-
-pub returns : goal.returns
-returns c = λ s L x o keeps owned sorted is undue. unseen s L x o keeps owned is undue sorted

@@ -1,5 +1,0 @@
-use Rattle.local_history.proofs.Mended.{order}
-use Rattle.local_history.proofs.history_examples.mended_example.Goals as goal
-
-pub returns-clause-order : goal.returns-clause-order
-returns-clause-order c = order

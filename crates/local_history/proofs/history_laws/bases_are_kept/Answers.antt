@@ -1,5 +1,0 @@
-use Rattle.local_history.proofs.Vouched.{keeps}
-use Rattle.local_history.proofs.history_laws.bases_are_kept.Goals as goal
-
-pub returns : goal.returns
-returns c = λ b H base sd. keeps b base H sd

@@ -1,5 +1,0 @@
-use Rattle.local_history.proofs.Serial.{created_once}
-use Rattle.local_history.proofs.history_laws.created_objects_are_new.Goals as goal
-
-pub returns : goal.returns
-returns c = created_once

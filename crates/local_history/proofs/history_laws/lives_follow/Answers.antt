@@ -1,5 +1,0 @@
-use Rattle.local_history.proofs.Lives.{lives}
-use Rattle.local_history.proofs.history_laws.lives_follow.Goals as goal
-
-pub returns : goal.returns
-returns c = lives

@@ -1,6 +1,0 @@
-use Rattle.local_history.proofs.Commits.{get-writes}
-use Rattle.local_history.proofs.LastWrite.{source}
-use Rattle.local_history.proofs.history_laws.objects_are_written.Goals as goal
-
-pub returns : goal.returns
-returns c = record { source = λ b H x sd. source b x H sd; behind = get-writes }

@@ -1,5 +1,0 @@
-use Rattle.local_history.proofs.LastWrite.{reads_last}
-use Rattle.local_history.proofs.history_laws.reads_are_last_writes.Goals as goal
-
-pub returns : goal.returns
-returns c = reads_last

@@ -1,5 +1,0 @@
-use Rattle.local_history.proofs.Serial.{order}
-use Rattle.local_history.proofs.history_laws.sound_histories_have_order.Goals as goal
-
-pub returns : goal.returns
-returns c = order

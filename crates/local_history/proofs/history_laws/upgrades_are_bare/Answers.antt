@@ -1,5 +1,0 @@
-use Rattle.local_history.proofs.Vouched.{upgrades}
-use Rattle.local_history.proofs.history_laws.upgrades_are_bare.Goals as goal
-
-pub returns : goal.returns
-returns c = upgrades

@@ -1,5 +1,0 @@
-use Rattle.local_history.proofs.Telling.{tell}
-use Rattle.local_history.proofs.outcome_laws.entries_tell.Goals as goal
-
-pub returns : goal.returns
-returns c = tell

@@ -1,8 +1,0 @@
-use Rattle.std.proofs.Common.{◌≡◌, drop}
-use Rattle.thor_value.specs.FiniteMap.{empty}
-use Rattle.log_bytes.specs.Checkpoint.{are_new}
-use Rattle.log_bytes.proofs.checkpoints.are_new.Given as goal
-
--- what is left decides
-abbrev pub invariant-loop-write : goal.invariant-loop-write
-invariant-loop-write l = are_new l.seen (drop l.write-index l.writes) ≡ are_new empty l.writes

@@ -1,5 +1,0 @@
-use Rattle.log_bytes.proofs.CheckpointLaws.{tested_sides}
-use Rattle.log_bytes.proofs.checkpoints.sides_of.Goals as goal
-
-pub returns : goal.returns
-returns c = tested_sides c.args.pairs c.requires c.from_pairs.result c.from_pairs.ensures.found c.from_pairs.ensures.fit

@@ -1,4 +1,0 @@
-use Rattle.log_bytes.proofs.checkpoints.stamps_rise.Goals as goal
-
-pub returns : goal.returns
-returns c = c.rises.ensures

@@ -1,0 +1,8 @@
+use Rattle.std.proofs.Common.{◌≡◌}
+use Rattle.validation_queue.specs.Clashes.{first_some}
+use Rattle.repo_refusals.specs.Refusals.{comes_earlier}
+use Rattle.model_reading.proofs.against.first_earlier.Given as goal
+
+-- what is left to look at decides
+abbrev pub invariant-loop-tx : goal.invariant-loop-tx
+invariant-loop-tx l = first_some (comes_earlier l.request) l.tx-iterator ≡ first_some (comes_earlier l.request) l.window.members.pairs

@@ -1,0 +1,8 @@
+use Rattle.std.proofs.Common.{◌≡◌}
+use Rattle.std.specs.Map.{keys_of}
+use Rattle.model_reading.specs.Against.{first_meeting}
+use Rattle.model_reading.proofs.finding.first_meeting.Given as goal
+
+-- what is left to look at decides
+abbrev pub invariant-loop-name : goal.invariant-loop-name
+invariant-loop-name l = first_meeting l.request l.other l.name-iterator ≡ first_meeting l.request l.other (keys_of l.names.entries)

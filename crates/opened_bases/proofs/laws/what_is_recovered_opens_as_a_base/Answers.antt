@@ -1,5 +1,0 @@
-use Rattle.opened_bases.proofs.Opens.{opens}
-use Rattle.opened_bases.proofs.laws.what_is_recovered_opens_as_a_base.Goals as goal
-
-pub returns : goal.returns
-returns c = opens

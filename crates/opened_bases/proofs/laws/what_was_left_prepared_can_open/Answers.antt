@@ -1,5 +1,0 @@
-use Rattle.opened_bases.proofs.Example.{left_can_open}
-use Rattle.opened_bases.proofs.laws.what_was_left_prepared_can_open.Goals as goal
-
-pub returns : goal.returns
-returns c = left_can_open

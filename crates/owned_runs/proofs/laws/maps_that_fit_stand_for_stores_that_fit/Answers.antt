@@ -1,5 +1,0 @@
-use Rattle.owned_runs.proofs.Plainly.{store-fits}
-use Rattle.owned_runs.proofs.laws.maps_that_fit_stand_for_stores_that_fit.Goals as goal
-
-pub returns : goal.returns
-returns c = λ s N schema repos epoch rules keeps fits stand. store-fits s N schema repos epoch rules keeps fits stand

@@ -1,5 +1,0 @@
-use Rattle.paused_defs.proofs.Sound.{move_sound}
-use Rattle.paused_defs.proofs.laws.a_small_step_keeps_what_is_left.Goals as goal
-
-pub returns : goal.returns
-returns c = λ w l. move_sound w l.doing l.stack

@@ -1,7 +1,0 @@
-use Rattle.std.proofs.Common.{◌≡◌, map, take}
-use Rattle.paused_defs.specs.Typed.{typed_parameter}
-use Rattle.paused_defs.proofs.parameters.typed_parameters.Given as goal
-
--- as many as were copied so far
-abbrev pub invariant-loop-declared : goal.invariant-loop-declared
-invariant-loop-declared l = l.copied ≡ map (typed_parameter l.classes) (take l.declared-index l.parameters)

@@ -1,7 +1,0 @@
-use Rattle.plain_repository.proofs.ByReading.{fetches, is_step}
-use Rattle.trace_reading.specs.Items.{trace_of}
-use Rattle.trace_reading.specs.Opening.{base_of}
-use Rattle.plain_repository.proofs.answers.fetch.Goals as goal
-
-pub returns : goal.returns
-returns c = is_step _ _ _ _ (fetches (base_of c.args.opening.now) c.args.session (trace_of c.args.items.now) c.in_ok-reading.reading c.in_ok-reading.ensures c.args.page c.args.upto) (c.fetch_by.ensures c.args.items.now)

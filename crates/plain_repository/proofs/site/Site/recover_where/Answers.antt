@@ -1,6 +1,0 @@
-use Rattle.plain_repository.specs.Sites.{trace_in, unsettled_of}
-use Rattle.port_views.proofs.Grown.{none_grew}
-use Rattle.plain_repository.proofs.site.Site.recover_where.Goals as goal
-
-pub returns : goal.returns
-returns c = λ b k may. none_grew b k (unsettled_of k c.args.self.now.left) (trace_in c.args.self.now)

@@ -1,9 +1,0 @@
-use Rattle.port_views.proofs.examples.what_calls_do_not.Goals as goal
-
-pub returns : goal.returns
-returns c = record {
-  calm = λ w. let e = w.1.1 in cc;
-  unseen = λ w. let e = w.0 in cc;
-  came = λ w. w.1;
-  undecided = λ w. let e = w.0 in cc;
-}

@@ -1,5 +1,0 @@
-use Rattle.port_views.proofs.Grown.{both_grew, calm_growth, halts, none_grew}
-use Rattle.port_views.proofs.laws.growth_composes.Goals as goal
-
-pub returns : goal.returns
-returns c = record { none = none_grew; both = both_grew; calm = calm_growth; halts = halts }

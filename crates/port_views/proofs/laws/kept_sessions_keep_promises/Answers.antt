@@ -1,5 +1,0 @@
-use Rattle.port_views.proofs.Agreed.{connects, fetches, grants, is_gone, receives}
-use Rattle.port_views.proofs.laws.kept_sessions_keep_promises.Goals as goal
-
-pub returns : goal.returns
-returns c = record { connect = connects; fetch = fetches; grant = grants; gone = is_gone; receive = receives }

@@ -1,0 +1,69 @@
+-- A disk fails in one of several calls.
+use Rattle.disk_trait.proofs.Several.{goes_then}
+use Rattle.disk_trait.specs.AllDisks.{GoesOn, LeavesAll, MayLeaveAll}
+use Rattle.disk_trait.specs.Disks.{Disks, Rose}
+use Rattle.disk_trait.specs.Fused.{armed, fused_disks}
+use Rattle.disk_trait.specs.declared.fused.Fused.{Fused}
+use Rattle.repo_durable.specs.Failing.{HasFailed, NoFewer}
+use Rattle.repo_durable.specs.Kept.{disks_of, down, down_with, held_of, is_torn_in, lowered}
+use Rattle.repo_durable.specs.declared.stable.Phase.TheVariants.{Down, Torn, Up}
+use Rattle.repo_durable.specs.declared.stable.Phase.{Phase}
+use Rattle.repo_durable.specs.declared.stable.Stable.{Stable}
+use Rattle.page_store.specs.Store.{IsDamage}
+use Rattle.std.specs.Prelude.{slice_get}
+use Rattle.std.proofs.Common.{Bool, IfSome, List, None, ap, arith, false, refl, subst, true, ℕ, ◌<◌, ◌≤◌, ◌∙◌, ◌≡◌}
+
+-- a disk failed behind calls
+pub failed_behind : (old mid new : ℕ → ℕ) → NoFewer old mid → HasFailed mid new → HasFailed old new
+failed_behind old mid new rises failed = record {
+  disk = failed.disk;
+  within = failed.within;
+  rose = λ below. omega (arith, rises failed.disk, failed.rose below);
+}
+
+pub fewer_none : (old new : ℕ → ℕ) → ((d : ℕ) → new d ≡ old d) → NoFewer old new
+fewer_none old new same d = omega (arith, same d)
+
+pub fewer_then : (old mid new : ℕ → ℕ) → NoFewer old mid → NoFewer mid new → NoFewer old new
+fewer_then old mid new first then d = omega (arith, first d, then d)
+
+-- this disk failed
+pub failed_on : (old new : Disks) (disk : ℕ) → disk < 3 → Rose (old.faults disk) (new.faults disk) → HasFailed old.faults new.faults
+failed_on old new disk within rose = record { disk = disk; within = within; rose = rose }
+
+-- calls and more of them, in which images are left
+pub goes_run : (old mid new : Disks) (P Q : (ℕ → List ℕ) → Type 0) → LeavesAll old mid P → LeavesAll mid new Q → GoesOn old new
+goes_run old mid new P Q first then = goes_then old mid new first.goes then.goes
+
+-- a repository was taken down and its stop taken back: its disks are as they were
+pub before_down : {P : Type 0} (disks : P → Disks) (old mid : Stable P) (parts : Fused P) (Q : Disks → Type 0) → parts ≡ armed old.parts 0 → mid ≡ down (record old { parts = parts }) → Q (disks_of disks mid) → Q (disks_of disks old)
+before_down {P = P} disks old mid parts Q same is holds =
+    subst (λ (p : Fused P). Q (fused_disks disks p)) same (subst (λ (s : Stable P). Q (disks_of disks s)) is holds)
+
+torn_stays : (p : Phase) → is_torn_in p ≡ true → lowered p ≡ p
+torn_stays (Up log) torn = absurd (cc)
+torn_stays (Down e) torn = refl
+torn_stays (Torn e) torn = refl
+
+-- one that is torn stays so, with its stop taken back
+pub stays_torn : {P : Type 0} (old mid : Stable P) (parts : Fused P) → parts ≡ armed old.parts 0 → mid ≡ down (record old { parts = parts }) → is_torn_in old.phase ≡ true → mid ≡ record old { parts = armed old.parts 0 }
+stays_torn {P = P} old mid parts same is torn =
+    is ∙ (ap (λ (p : Phase). record old { parts = parts; phase = p }) (torn_stays old.phase torn) ∙ ap (λ (p : Fused P). record old { parts = p }) same)
+
+torn_down : (p : Phase) → is_torn_in p ≡ true → is_torn_in (lowered p) ≡ true
+torn_down (Up log) torn = absurd (cc)
+torn_down (Down e) torn = absurd (cc)
+torn_down (Torn e) torn = refl
+
+-- and what isn't torn behind that wasn't
+pub not_torn : {P : Type 0} (old mid : Stable P) (parts : Fused P) → mid ≡ down (record old { parts = parts }) → is_torn_in mid.phase ≡ false → is_torn_in old.phase ≡ true → ⊥
+not_torn {P = P} old mid parts is whole torn = never (is_torn_in (lowered old.phase)) (torn_down old.phase torn) (subst (λ (s : Stable P). is_torn_in s.phase ≡ false) is whole)
+  where
+    never : (b : Bool) → b ≡ true → b ≡ false → ⊥
+    never b t f = cc
+
+-- damage that stops a flush was damage before the log was taken out
+pub damage_taken : {P : Type 0} (disks : P → Disks) (old mid : Stable P) (place : ℕ) → mid ≡ down_with old None → IfSome (slice_get (held_of mid).objects.mob.objects 0) (λ q. IsDamage (disks_of disks mid) (held_of mid).objects.pages.sides q.0.page place)
+    → IfSome (slice_get (held_of old).objects.mob.objects 0) (λ q. IsDamage (disks_of disks old) (held_of old).objects.pages.sides q.0.page place)
+damage_taken {P = P} disks old mid place same damage =
+    subst (λ (s : Stable P). IfSome (slice_get (held_of s).objects.mob.objects 0) (λ q. IsDamage (disks_of disks s) (held_of s).objects.pages.sides q.0.page place)) same damage

@@ -1,0 +1,31 @@
+use Rattle.repo_opening.proofs.Reading.{reads_on, recovered_on, recovered_reads, stored_is}
+use Rattle.repo_opening.specs.Recovered.{IsRecovered}
+use Rattle.disk_trait.specs.AllDisks.{ReadsAs}
+use Rattle.mob_flusher.specs.Map.{Kept}
+use Rattle.page_store.specs.Store.{Store}
+use Rattle.repo_opening.specs.Paged.{PutsPaged}
+use Rattle.std.proofs.Common.{List, ap, arith, subst, ◌∙◌, ◌≡◌, ℕ}
+use Rattle.repo_opening.proofs.repository.read_repository.Goals as goal
+
+pub returns-clause-found : goal.returns-clause-found
+returns-clause-found g c =
+    let r = c.in-Some.recovered in
+    let known : IsRecovered (g.P.Parts.disks c.recover_one.new.parts) r = rw c.in-Some.is at c.in_ok-recovered.ensures.found in
+    recovered_on (g.P.Parts.disks c.recover_one.new.parts) (g.P.Parts.disks c.read_pages.new.parts) r c.read_pages.ensures.stays known
+
+pub returns-clause-stored : goal.returns-clause-stored
+returns-clause-stored g c = λ images reads.
+    let first = g.P.Parts.disks c.args.parts.now in
+    let synced = g.P.Parts.disks c.sync.new.parts in
+    let found = g.P.Parts.disks c.recover_one.new.parts in
+    let r = c.in-Some.recovered in
+    let known : IsRecovered found r = rw c.in-Some.is at c.in_ok-recovered.ensures.found in
+    let number : r.state.repo ≡ c.args.repo = rw c.in-Some.is at c.in_ok-recovered.ensures.number in
+    let told : ReadsAs found images = reads_on synced found c.recover_one.ensures.same.content images (reads_on first synced c.sync.ensures.same.content images reads) in
+    let sides : c.sides-sides.result.now ≡ r.state.objects.pages.sides = c.sides-sides.ensures ∙ ap (λ (s : Store). s.sides) (c.pages.ensures ∙ ap (λ (k : Kept). k.pages) c.objects.ensures) in
+    stored_is images r c.args.repo c.args.objects.now c.read_pages.new.objects (recovered_reads found r known images told) number
+    (subst (λ (qs : List (ℕ × ℕ)). PutsPaged c.args.repo (images 2) qs c.args.objects.now c.read_pages.new.objects) sides (c.in-Ok.ensures.paged (images 2) (told 2 (omega arith))))
+
+pub returns-clause-reopens : goal.returns-clause-reopens
+returns-clause-reopens g c = λ images reads.
+    rw c.in-Some.is at c.in_ok-recovered.ensures.reopens images (reads_on (g.P.Parts.disks c.args.parts.now) (g.P.Parts.disks c.sync.new.parts) c.sync.ensures.same.content images reads)

@@ -1,0 +1,136 @@
+//! One repository, as an opening finds it on its disks.
+
+ghost use Rattle.disk_trait.specs.Numbers.{number};
+ghost use Rattle.repo_opening.specs.Recovered.{Finds, IsRecovered};
+ghost use Rattle.repo_opening.specs.Same.{Same};
+ghost use Rattle.repo_opening.specs.Paged.{PutsStored};
+ghost use Rattle.disk_trait.specs.AllDisks.{AllSettled, ReadsAs};
+ghost use Rattle.disk_trait.specs.Disks.{IsSettled, OnDisk};
+ghost use Rattle.recovery.specs.Reopening.{reopens};
+ghost use Rattle.commit_log.specs.Opening.{IsFresh};
+ghost use Rattle.std.specs.Prelude.{IfOk, IfSome, List, None, Ok, OnOk, false, ◌<◌, ◌≡◌, ℕ};
+
+use crate::pages::read_pages;
+use crate::unopened::{Unopened, fault_of, outage_of};
+use disk_trait::{Disk, Outage, Parts};
+use recovery::{Recovered, recover};
+use std::alloc::Global;
+use thor_value::{Obj, OrefMap};
+
+/// What was read of a repository whose log is open.
+#[derive(Clone, Copy)]
+pub struct Read<'a> {
+    pub recovered: &'a Recovered,
+    /// The page behind the last installed one that has objects.
+    pub behind: u32,
+}
+
+impl Read<'_> {
+    /// What is told of a store that this repository's checkpoint damages.
+    pub fn damaged(&self, repo: u8) -> Unopened {
+        damaged(self.recovered, repo)
+    }
+}
+
+fn damaged(recovered: &Recovered, repo: u8) -> Unopened {
+    Unopened::Damaged {
+        repo,
+        disk: recovered.log.disk(),
+        place: 0,
+    }
+}
+
+/// Syncs the disks of a repository, and reads it. The answer is what was recovered, and the page behind the
+/// last one with objects; nothing where it is fresh. The objects of its pages are put into a map. `Damaged`, too,
+/// where its log says another repository or store size, or prepares what it keeps as decided.
+#[tactic(auto, using(crate::proofs::Syncing::same_then, crate::proofs::Reading::same_on))]
+pub fn read_repository<P: Parts>(
+    alloc: Global,
+    parts: &mut P,
+    repo: u8,
+    repos: u8,
+    mob: u32,
+    objects: &mut OrefMap<Obj>,
+) -> Result<Option<(Recovered, u32)>, Unopened>
+    ensures found { IfOk result (Finds (P.disks parts.new)) }
+    ensures same { Same (P.disks parts.old) (P.disks parts.new) }
+    ensures stored { (images : ℕ → List ℕ) → ReadsAs (P.disks parts.old) images → OnOk result (PutsStored images objects.old objects.new) }
+    ensures fresh { (images : ℕ → List ℕ) → ReadsAs (P.disks parts.old) images → result ≡ Ok None → IsFresh images }
+    ensures reopens { (images : ℕ → List ℕ) → ReadsAs (P.disks parts.old) images → IfOk result (λ found. IfSome found (λ r. reopens images ≡ false)) }
+{
+    sync(parts, repo)?;
+    let Some(recovered) = recover_one(alloc, parts, repo, repos, mob)? else {
+        return Ok(None);
+    };
+    let sides = recovered.state.objects().pages().sides();
+    let behind = match read_pages(alloc, parts, repo, sides, objects) {
+        Ok(behind) => behind,
+        Err(fault) => {
+            drop(recovered);
+            return Err(fault);
+        }
+    };
+    Ok(Some((recovered, behind)))
+}
+
+/// Recovers a repository from its disks, which are synced. Nothing is there where it is fresh. A log in which
+/// what was decided is prepared anew is none of a repository.
+fn recover_one<P: Parts>(
+    alloc: Global,
+    parts: &mut P,
+    repo: u8,
+    repos: u8,
+    mob: u32,
+) -> Result<Option<Recovered>, Unopened>
+    requires { AllSettled (P.disks parts.old) }
+    ensures found { IfOk result (λ found. IfSome found (IsRecovered (P.disks parts.new))) }
+    ensures number { IfOk result (λ found. IfSome found (λ r. r.state.repo ≡ repo)) }
+    ensures settled { AllSettled (P.disks parts.new) }
+    ensures same { Same (P.disks parts.old) (P.disks parts.new) }
+    ensures fresh { (images : ℕ → List ℕ) → ReadsAs (P.disks parts.old) images → result ≡ Ok None → IsFresh images }
+    ensures reopens { (images : ℕ → List ℕ) → ReadsAs (P.disks parts.old) images → IfOk result (λ found. IfSome found (λ r. reopens images ≡ false)) }
+{
+    let recovered = match recover(alloc, parts, mob) {
+        Ok(Some(recovered)) => recovered,
+        Ok(None) => return Ok(None),
+        Err(fault) => return Err(fault_of(repo, fault)),
+    };
+    if recovered.state.repo() != repo || recovered.state.repos() != repos || recovered.reopens {
+        let fault = damaged(&recovered, repo);
+        drop(recovered);
+        return Err(fault);
+    }
+    Ok(Some(recovered))
+}
+
+/// Syncs the disks of a repository.
+fn sync<P: Parts>(parts: &mut P, repo: u8) -> Result<(), Unopened>
+    ensures settled { OnOk result (AllSettled (P.disks parts.new)) }
+    ensures same { Same (P.disks parts.old) (P.disks parts.new) }
+{
+    match sync_all(parts) {
+        Ok(()) => Ok(()),
+        Err(outage) => Err(outage_of(repo, outage)),
+    }
+}
+
+/// Syncs all disks. After `Ok` a crash leaves what a read gives.
+#[tactic(auto, using(crate::proofs::Syncing::all_synced, crate::proofs::Syncing::same_then))]
+fn sync_all<P: Parts>(parts: &mut P) -> Result<(), Outage>
+    ensures settled { OnOk result (AllSettled (P.disks parts.new)) }
+    ensures same { Same (P.disks parts.old) (P.disks parts.new) }
+{
+    sync_one(parts, Disk::Log0)?;
+    sync_one(parts, Disk::Log1)?;
+    sync_one(parts, Disk::Pages)
+}
+
+/// Syncs one disk.
+#[tactic(auto, using(crate::proofs::Syncing::same_beside))]
+fn sync_one<P: Parts>(parts: &mut P, disk: Disk) -> Result<(), Outage>
+    ensures alone { OnDisk (P.disks parts.old) (P.disks parts.new) (number disk) }
+    ensures settled { OnOk result (IsSettled (P.disks parts.new) (number disk)) }
+    ensures same { Same (P.disks parts.old) (P.disks parts.new) }
+{
+    parts.sync(disk)
+}

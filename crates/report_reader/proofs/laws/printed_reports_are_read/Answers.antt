@@ -1,5 +1,0 @@
-use Rattle.report_reader.proofs.Reported.{printed_is}
-use Rattle.report_reader.proofs.laws.printed_reports_are_read.Goals as goal
-
-pub returns : goal.returns
-returns c = printed_is

@@ -1,5 +1,0 @@
-use Rattle.repository_events.proofs.Stepping.{runs_same}
-use Rattle.repository_events.proofs.calls.ask.Goals as goal
-
-pub returns : goal.returns
-returns g c = λ b. runs_same b c.args.repo.now c.ask.new.self c.ask.ensures.same

@@ -1,5 +1,0 @@
-use Rattle.repository_events.proofs.Formatting.{formatted_right}
-use Rattle.repository_events.proofs.calls.format.Goals as goal
-
-pub returns : goal.returns
-returns g c = λ b base. formatted_right b c.args.repo c.args.repos c.args.setup.now c.args.mob _ c.format.result base c.format.ensures.up c.format.ensures.trace c.format.ensures.begins

@@ -1,5 +1,0 @@
-use Rattle.repository_events.proofs.Restarts.{restart_runs}
-use Rattle.repository_events.proofs.calls.restart.Goals as goal
-
-pub returns : goal.returns
-returns g c = λ b k. restart_runs b c.args.repo.now c.restart.new.self c.restart.result k c.restart.ensures.up c.restart.ensures.down c.restart.ensures.ended c.restart.ensures.comes_up c.restart.ensures.stays_down c.restart.ensures.opened

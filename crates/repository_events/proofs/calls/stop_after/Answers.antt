@@ -1,5 +1,0 @@
-use Rattle.repository_events.proofs.Marked.{stop_runs}
-use Rattle.repository_events.proofs.calls.stop_after.Goals as goal
-
-pub returns : goal.returns
-returns g c = λ b. stop_runs b c.args.repo.now c.stop_after.new.self c.args.calls c.stop_after.ensures.up c.stop_after.ensures.pending c.stop_after.ensures.none c.stop_after.ensures.whole c.stop_after.ensures.torn c.stop_after.ensures.opened c.stop_after.ensures.held c.stop_after.ensures.memory c.stop_after.ensures.trace

@@ -1,9 +1,0 @@
-use Rattle.repository_laws.proofs.Running.{does, runs}
-use Rattle.repository_laws.proofs.run_laws.runs_agree.Goals as goal
-
-pub returns : goal.returns
-returns c = record {
-  event = does;
-  agreement = runs;
-  sound = λ b x y es a s. (runs b x y es a s).held.owed.sound;
-}

@@ -1,5 +1,0 @@
-use Rattle.repository_laws.proofs.Accepted.{continues-one, continues-prepared, continues-upgraded}
-use Rattle.repository_laws.proofs.verdict_laws.accepted_requests_are_owed.Goals as goal
-
-pub returns : goal.returns
-returns c = record { prepared = continues-prepared; one = continues-one; upgraded = continues-upgraded }

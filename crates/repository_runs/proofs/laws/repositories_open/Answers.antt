@@ -1,5 +1,0 @@
-use Rattle.repository_runs.proofs.Steps.{opens}
-use Rattle.repository_runs.proofs.laws.repositories_open.Goals as goal
-
-pub returns : goal.returns
-returns c = opens

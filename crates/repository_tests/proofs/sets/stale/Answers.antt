@@ -1,4 +1,0 @@
-use Rattle.repository_tests.proofs.sets.stale.Goals as goal
-
-pub stale-requires : goal.stale-requires
-stale-requires c = (c.is_in_order.ensures.0 c.if-is_in_order.true).reads_rise

@@ -1,9 +1,0 @@
-use Rattle.class_defs.proofs.RunOutcomes.{run_behind}
-use Rattle.run_laws.proofs.runs.fault_leaves_the_store.Goals as goal
-
-pub returns : goal.returns
-returns c = record {
-  store = λ schema tx store names r f is h. ((run_behind schema tx store names r is).fault f h).left;
-  written = λ schema tx store names r f is h. ((run_behind schema tx store names r is).fault f h).written;
-  names = λ schema tx store names r f is h. ((run_behind schema tx store names r is).fault f h).untaken;
-}

@@ -1,9 +1,0 @@
-use Rattle.class_defs.proofs.RunOutcomes.{run_behind}
-use Rattle.run_laws.proofs.runs.run_changes_what_it_wrote.Goals as goal
-
-pub returns : goal.returns
-returns c = record {
-  objects = λ schema tx store names r x is h. (run_behind schema tx store names r is).objects x h;
-  epoch = λ schema tx store names r is. (run_behind schema tx store names r is).epoch;
-  roots = λ schema tx store names r is. (run_behind schema tx store names r is).roots;
-}

@@ -1,5 +1,0 @@
-use Rattle.run_laws.proofs.TouchedStores.{state_alike, store_alike}
-use Rattle.run_laws.proofs.runs.runs_depend_on_what_they_touch.Goals as goal
-
-pub returns : goal.returns
-returns c = record { state = state_alike; store = store_alike }

@@ -1,5 +1,0 @@
-use Rattle.serial_rows.proofs.Missing.{above, meets, needs}
-use Rattle.serial_rows.proofs.rows.a_missing_part_is_told_with_its_owner.Goals as goal
-
-pub returns : goal.returns
-returns c = record { meets = meets; needs = needs; above = above }

@@ -1,5 +1,0 @@
-use Rattle.session_laws.proofs.Answering.{live_answer, live_there, next_message, stale_none, stale_request}
-use Rattle.session_laws.proofs.laws.agreement_answers.Goals as goal
-
-pub returns : goal.returns
-returns c = record { live = live_answer; there = live_there; stale = stale_request; not_stale = stale_none; message = next_message }

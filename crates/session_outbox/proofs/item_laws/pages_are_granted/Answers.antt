@@ -1,5 +1,0 @@
-use Rattle.session_outbox.proofs.Paged.{pages}
-use Rattle.session_outbox.proofs.item_laws.pages_are_granted.Goals as goal
-
-pub returns : goal.returns
-returns c = λ b T base tells sd kept. pages b base tells T kept sd

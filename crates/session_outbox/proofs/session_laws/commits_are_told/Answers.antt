@@ -1,5 +1,0 @@
-use Rattle.session_outbox.proofs.Told.{all-told}
-use Rattle.session_outbox.proofs.session_laws.commits_are_told.Goals as goal
-
-pub returns : goal.returns
-returns c = λ b T s. all-told b s T

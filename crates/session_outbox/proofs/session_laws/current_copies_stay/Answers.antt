@@ -1,5 +1,0 @@
-use Rattle.session_outbox.proofs.Undecided.{current-brought, current-grown, current-taken}
-use Rattle.session_outbox.proofs.session_laws.current_copies_stay.Goals as goal
-
-pub returns : goal.returns
-returns c = record { grown = current-grown; taken = current-taken; brought = current-brought }

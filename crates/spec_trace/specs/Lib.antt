@@ -1,0 +1,15 @@
+pub mod Acceptance
+pub mod Calls
+pub mod Current
+pub mod Epochs
+pub mod Exact
+pub mod ExactExamples
+pub mod Gaps
+pub mod Messages
+pub mod Notices
+pub mod Session
+pub mod SessionExamples
+pub mod Sessions
+pub mod Trace
+pub mod Verdict
+pub mod VerdictExamples

@@ -1,0 +1,67 @@
+//! What the trace of a repository has between the entries of its history.
+
+use log_entries::Request;
+use repo_refusals::Refusal;
+use thor_value::Ts;
+
+/// One item of the trace of a repository: an entry of its history, by its place, or the mark of
+/// something that no log keeps.
+#[derive(Debug, Drop)]
+pub enum Mark {
+    /// The next entry of the history.
+    Entry {
+        /// Its place, from 0.
+        place: u64,
+    },
+    /// A client connected.
+    Connected {
+        /// The session that begins.
+        session: u32,
+        /// The client.
+        client: u8,
+    },
+    /// A page was asked for, and put into the session's outbox.
+    Fetched {
+        /// The session.
+        session: u32,
+        /// The page.
+        page: u32,
+        /// The messages that the client had taken: those of the places below.
+        upto: u64,
+    },
+    /// A new page was granted, and put into the session's outbox.
+    Granted {
+        /// The session.
+        session: u32,
+        /// The page.
+        page: u32,
+    },
+    /// The client took a message.
+    Took {
+        /// The session.
+        session: u32,
+        /// The message's place.
+        place: u64,
+    },
+    /// The client drew a timestamp.
+    Drew {
+        /// The session.
+        session: u32,
+        /// The timestamp.
+        ts: Ts,
+    },
+    /// A decision to commit was forgotten.
+    Forgot {
+        /// The transaction.
+        tx: Ts,
+    },
+    /// A draw, a grant or a request was refused.
+    Refused {
+        /// The session that was named.
+        session: u32,
+        /// The request, where it was one.
+        request: Option<Request>,
+        /// Why.
+        refusal: Refusal,
+    },
+}

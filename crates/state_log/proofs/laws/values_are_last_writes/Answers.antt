@@ -1,5 +1,0 @@
-use Rattle.state_log.proofs.ValueLaws.{buffer_is_last_write}
-use Rattle.state_log.proofs.laws.values_are_last_writes.Goals as goal
-
-pub returns : goal.returns
-returns c = buffer_is_last_write

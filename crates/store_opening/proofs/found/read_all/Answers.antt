@@ -1,0 +1,35 @@
+use Rattle.store_opening.proofs.Places.{next_one, none_left, zip_all, zip_more}
+use Rattle.store_opening.proofs.found.read_all.Goals as goal
+use Rattle.store_opening.specs.Seated.{IsSeated}
+use Rattle.disk_trait.specs.AllDisks.{ReadsAs}
+use Rattle.std.proofs.Common.{List, OnOk, ap, arith, subst, sym, ℕ, ◌++◌, ◌∙◌, ◌≡◌}
+use Rattle.std.proofs.lemmas.List.{append-nil}
+use Rattle.store_opening.proofs.Holding.{ends, puts_next}
+use Rattle.store_opening.specs.Reading.{PutsAll, ReadAll}
+use Rattle.std.specs.Vec.Iter.{into_iter_items}
+
+pub loop-part-preserved : goal.loop-part-preserved
+loop-part-preserved g c =
+    let inv = c.loop-part.invariant in
+    let next = c.in-Some.ensures.steps in (
+      omega (arith, inv.0, next.1, c.push_reserved.ensures.len),
+      omega (arith, inv.1, next.1, c.push_reserved.ensures.len, c.push_reserved.ensures.capacity),
+      next_one c.loop-part.yielded (into_iter_items c.loop-part.part-iterator) (into_iter_items c.next.new.self) c.args.parts.items c.in-Some.part inv.2 next.0,
+      zip_more (IsSeated g.P.Parts.disks) c.loop-part.yielded c.loop-part.places.items c.push_reserved.new.self.items c.in-Some.part c.read_next-found.result.0 c.push_reserved.ensures.items inv.3 c.read_next-found.ensures.seated,
+      λ images reads.
+          let e = ends (λ p i. ReadsAs (g.P.Parts.disks p) i) c.loop-part.yielded c.in-Some.part images reads in
+          subst (λ (is : List (ℕ → List ℕ)). OnOk c.read_next-found.result.1 (PutsAll is c.args.objects.now c.read_next-found.new.objects)) (sym e.is)
+          (puts_next c.loop-part.read c.read_next-found.result.1 e.before e.last c.args.objects.now c.loop-part.objects c.read_next-found.new.objects (inv.4 e.before e.each) (c.read_next-found.ensures.put e.last e.at_last)),
+    )
+
+pub returns-clause-seated : goal.returns-clause-seated
+returns-clause-seated g c =
+    let inv = c.loop-part.invariant in
+    zip_all (IsSeated g.P.Parts.disks) c.loop-part.yielded (into_iter_items c.loop-part.part-iterator) c.args.parts.items c.loop-part.places.items inv.2 (none_left c.loop-part.part-iterator c.next.new.self c.in-None.ensures.steps) inv.3
+
+pub returns-clause-put : goal.returns-clause-put
+returns-clause-put g c = λ images reads.
+    let inv = c.loop-part.invariant in
+    let none = none_left c.loop-part.part-iterator c.next.new.self c.in-None.ensures.steps in
+    let whole : c.loop-part.yielded ≡ c.args.parts.items = sym (append-nil c.loop-part.yielded) ∙ (ap (λ ps. c.loop-part.yielded ++ ps) (sym none) ∙ inv.2) in
+    inv.4 images (subst (λ ps. ReadAll g.P.Parts.disks ps images) (sym whole) reads)

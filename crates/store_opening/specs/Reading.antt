@@ -1,0 +1,67 @@
+-- What the reading of a store's repositories, one behind the other, finds on their disks.
+use Rattle.class_defs.specs.Stored.{Objects}
+use Rattle.disk_trait.specs.AllDisks.{ReadsAs}
+use Rattle.disk_trait.specs.Disks.{Disks}
+use Rattle.log_codec.specs.declared.state.State.{State}
+use Rattle.repo_opening.specs.Paged.{ArePaged}
+use Rattle.commit_log.specs.Recovered.{stands}
+use Rattle.std.specs.List.{AllZip, flat_map}
+use Rattle.class_defs.specs.declared.store.Plain.{Plain}
+use Rattle.class_defs.specs.declared.store.Schemas.{Schemas}
+use Rattle.std.specs.Prelude.{List, None, Option, Some, length, ℕ, ◌≡◌}
+use Rattle.store_opening.specs.OpenedStore.{Holds, Repository, objects_of, opened_store, roots_of, states_of}
+use Rattle.store_opening.specs.declared.found.OpenStore.{OpenStore}
+use Rattle.store_opening.specs.declared.found.Store.TheVariants.{Fresh, Open}
+use Rattle.store_opening.specs.declared.found.Store.{Store}
+use Rattle.thor_value.specs.FiniteMap.{IsSorted, overwrite}
+use Rattle.thor_value.specs.declared.names.Oref.{Oref}
+use Rattle.thor_value.specs.declared.values.Obj.{Obj}
+
+-- reads of the disks of the repositories give these bytes
+abbrev pub ReadAll : {P : Type 0} → (P → Disks) → List P → List (ℕ → List ℕ) → Type 0
+ReadAll disks parts images = AllZip (λ p i. ReadsAs (disks p) i) parts images
+
+-- the objects on the pages of a repository, by the state for which its logs stand
+pub record IsPagedBy (images : ℕ → List ℕ) (objects : List (Oref × Obj)) : Type 0 where
+  pub paged : (s : State) → stands images ≡ Some s → ArePaged s.repo (images 2) s.installed objects
+
+-- those of all repositories were put into a map
+pub record PutsAll (images : List (ℕ → List ℕ)) (old new : Objects) : Type 0 where
+  pub pages : List (List (Oref × Obj))
+  pub each : AllZip IsPagedBy images pages
+  pub put : new ≡ overwrite old (flat_map (λ ws. ws) pages)
+
+-- disks stand for states, repository by repository
+abbrev pub StandFor : List (ℕ → List ℕ) → List State → Type 0
+StandFor images states = AllZip (λ i s. stands i ≡ Some s) images states
+
+-- what is held of a store is what its disks hold
+pub record IsStored (images : List (ℕ → List ℕ)) (store : OpenStore) : Type 0 where
+  pub repositories : List Repository
+  pub each : AllZip Holds images repositories
+  pub objects : store.stored.objects ≡ objects_of repositories
+  pub sorted : IsSorted store.stored.objects
+  pub epoch : store.stored.epoch ≡ length store.schemas.upgraded
+  pub roots : store.roots ≡ roots_of (states_of repositories)
+
+abbrev pub IsStoredIn : List (ℕ → List ℕ) → Store → Type 0
+IsStoredIn images Fresh = Unit {0}
+IsStoredIn images (Open store) = IsStored images store
+
+-- a store is the one for which these disks stand, with these schemas
+pub record IsOpened (images : List (ℕ → List ℕ)) (schemas : Schemas) (opened : Plain) : Type 0 where
+  pub repositories : List Repository
+  pub each : AllZip Holds images repositories
+  pub store : opened ≡ opened_store schemas repositories
+
+-- where a store was found it is opened, and else nothing
+abbrev pub IsOpenedIn : List (ℕ → List ℕ) → Store → Option Plain → Type 0
+IsOpenedIn images Fresh None = Unit {0}
+IsOpenedIn images Fresh (Some opened) = ⊥
+IsOpenedIn images (Open store) None = ⊥
+IsOpenedIn images (Open store) (Some opened) = IsOpened images store.schemas opened
+
+-- the schemas of a store that was found
+abbrev pub schemas_in : Store → Option Schemas
+schemas_in Fresh = None
+schemas_in (Open store) = Some store.schemas

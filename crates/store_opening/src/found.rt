@@ -1,0 +1,400 @@
+//! A store's parts, read and checked.
+
+ghost use Rattle.repo_opening.specs.Recovered.{Finds};
+ghost use Rattle.repo_opening.specs.Same.{Same};
+ghost use Rattle.store_opening.specs.Seated.{AreSeated, IsSeated};
+ghost use Rattle.std.specs.Option.{IfSome};
+ghost use Rattle.disk_trait.specs.AllDisks.{ReadsAs};
+ghost use Rattle.repo_opening.specs.Paged.{PutsStored};
+ghost use Rattle.std.specs.Prelude.{IfErr, IfOk, IsOk, List, OnOk, vec_capacity, vec_len, ◌≡◌, ◌≤◌, ℕ};
+ghost use Rattle.store_opening.specs.Joined.{AreKept, read_states};
+ghost use Rattle.store_opening.specs.OpenedStore.{roots_of};
+ghost use Rattle.store_opening.specs.Reading.{IsOpened, IsOpenedIn, IsStored, IsStoredIn, PutsAll, ReadAll, StandFor, schemas_in};
+ghost use Rattle.std.specs.Option.{option_copied};
+ghost use Rattle.thor_value.specs.FiniteMap.{IsSorted, empty};
+
+use crate::closed::{Closed, give_back};
+use crate::eager::eager;
+use crate::fault::ClusterFault;
+use crate::fit::check_store;
+use class_defs::{Plain, Roots, Schemas};
+use disk_trait::Parts;
+use method_eval::{Names, View};
+use recovery::Recovered;
+use repo_opening::{Known, Read, Settled, Unopened, number_at, read_repository};
+use std::alloc::Global;
+use thor_value::{NoMemory, Obj, OrefMap, TryCopy, both};
+
+/// What the disks of a store hold.
+#[derive(Drop)]
+enum Store {
+    /// Repository 0 isn't open, so the store is to be formatted.
+    Fresh,
+    /// Every repository is open, and they fit together.
+    Open(OpenStore),
+}
+
+/// A store that can be opened.
+#[derive(Drop)]
+struct OpenStore {
+    /// The schemas of all epochs up to the store's.
+    schemas: Schemas,
+    /// The objects of all repositories, as they are stored.
+    stored: View,
+    /// The roots, as repository 0 has them.
+    roots: Roots,
+}
+
+/// A store's parts, read and checked. What their disks hold is as it was.
+#[derive(Drop)]
+pub struct Found<P: Parts> {
+    /// What was found of each repository, in their order.
+    places: Vec<Closed<P>>,
+    /// An empty vector with room for the parts, into which they go at the end.
+    spare: Vec<P>,
+    /// How many bytes the buffer of a repository may have.
+    mob: u32,
+    store: Store,
+    ghost empty: { vec_len spare ≡ 0 },
+    ghost room: { vec_len places ≤ vec_capacity spare },
+}
+
+impl<P: Parts> Found<P> {
+    ghost use Rattle.store_opening.specs.Counts.{HasParts, parts_in};
+    ghost use Rattle.repo_opening.specs.Same.{AreSame};
+
+    /// Reads and checks every repository, rising, with all its installed pages, and then whether they fit
+    /// together. Its disks are synced before they are read, so that what was read outlives a crash. The buffer
+    /// of a repository is to be full at `mob` bytes, 1 to 16,777,216.
+    #[tactic(auto, using(crate::proofs::Places::gives_all, repo_opening::proofs::Syncing::same_all))]
+    pub fn read(alloc: Global, parts: Vec<P>, mob: u32) -> Result<Found<P>, ClusterFault<P>>
+        ensures ok { IfOk result (λ found. parts_in found ≡ vec_len parts) }
+        ensures err { IfErr result (λ fault. vec_len fault.parts ≡ vec_len parts) }
+        ensures found { IfOk result (HasParts P.disks parts.items) }
+        ensures unread { IfErr result (λ fault. AreSame P.disks parts.items fault.parts.items) }
+        ensures stored { (images : List (ℕ → List ℕ)) → ReadAll P.disks parts.items images → IfOk result (λ found. IsStoredIn images found.store) }
+    {
+        let Ok(spare) = Vec::with_capacity(alloc, parts.len()) else {
+            return Err(unread(parts));
+        };
+        let Ok(places) = Vec::with_capacity(alloc, parts.len()) else {
+            return Err(unread(parts));
+        };
+        let mut objects = OrefMap::new(alloc);
+        let (places, read) = read_all(alloc, parts, places, mob, &mut objects);
+        match store_of(alloc, places.as_slice(), objects, read) {
+            Ok(store) => Ok(Found {
+                places,
+                spare,
+                mob,
+                store,
+            }),
+            Err(why) => Err(ClusterFault {
+                parts: give_back(places, spare),
+                why,
+            }),
+        }
+    }
+
+    /// How many repositories there are.
+    pub fn repos(&self) -> usize
+        ensures { result ≡ parts_in self.now }
+    {
+        self.places.len()
+    }
+
+    /// The schemas of all epochs up to the store's; nothing where it is fresh.
+    pub fn schemas(&self) -> Option<&Schemas>
+        ensures { option_copied result ≡ schemas_in self.now.store }
+    {
+        match &self.store {
+            Store::Fresh => None,
+            Store::Open(store) => Some(&store.schemas),
+        }
+    }
+
+    /// How many upgrades the store has installed.
+    pub fn epoch(&self) -> usize {
+        match &self.store {
+            Store::Fresh => 0,
+            Store::Open(store) => store.schemas.upgraded.len(),
+        }
+    }
+
+    /// The greatest life of a repository, on the disks.
+    pub fn greatest_life(&self) -> u32 {
+        let mut greatest = 0;
+        for place in &self.places {
+            greatest = greatest.max(life_of(place));
+        }
+        greatest
+    }
+
+    /// The greatest sequence of a log that counts, and count of entries of a repository's history.
+    pub fn greatest_count(&self) -> u64 {
+        let mut greatest = 0;
+        for place in &self.places {
+            greatest = greatest.max(count_of(place));
+        }
+        greatest
+    }
+
+    /// The store as it is opened, each object brought up to its epoch; nothing where it is fresh.
+    pub fn opened(&self, alloc: Global) -> Result<Option<Plain>, NoMemory>
+        ensures sorted { IfOk result (λ store. IfSome store (λ s. IsSorted s.objects)) }
+        ensures opened { (images : List (ℕ → List ℕ)) → IsStoredIn images self.now.store → IfOk result (IsOpenedIn images self.now.store) }
+    {
+        match &self.store {
+            Store::Fresh => Ok(None),
+            Store::Open(store) => Ok(Some(opened(alloc, store)?)),
+        }
+    }
+
+    /// The parts, as they were handed in.
+    #[tactic(auto, using(crate::proofs::Places::gives_all))]
+    pub fn into_parts(self) -> Vec<P>
+        ensures count { vec_len result ≡ parts_in self }
+        ensures parts { (given : List P) → HasParts P.disks given self → AreSame P.disks given result.items }
+    {
+        let Found {
+            places,
+            spare,
+            store,
+            ..
+        } = self;
+        drop(store);
+        give_back(places, spare)
+    }
+
+    /// What an opening takes: the repositories, in their order; an empty vector with room for their parts; how many
+    /// bytes a buffer may have; and how many upgrades the store has installed, nothing where it is fresh.
+    pub fn into_repositories(self) -> (Vec<Closed<P>>, Vec<P>, u32, Option<usize>)
+        ensures count { vec_len result.0 ≡ parts_in self }
+        ensures empty { vec_len result.1 ≡ 0 }
+        ensures room { vec_len result.0 ≤ vec_capacity result.1 }
+    {
+        let Found {
+            places,
+            spare,
+            mob,
+            store,
+            ..
+        } = self;
+        (places, spare, mob, epochs_in(store))
+    }
+}
+
+/// How many upgrades a store has installed that is open.
+fn epochs_in(store: Store) -> Option<usize> {
+    match store {
+        Store::Fresh => None,
+        Store::Open(open) => {
+            let epochs = open.schemas.upgraded.len();
+            drop(open);
+            Some(epochs)
+        }
+    }
+}
+
+/// Each object of a store brought up to its epoch.
+fn opened(alloc: Global, store: &OpenStore) -> Result<Plain, NoMemory>
+    ensures sorted { IfOk result (λ opened. IsSorted opened.objects) }
+    ensures opened { (images : List (ℕ → List ℕ)) → IsStored images store.now → IfOk result (IsOpened images store.now.schemas) }
+{
+    eager(alloc, &store.stored, &store.schemas, &store.roots)
+}
+
+fn life_of<P: Parts>(place: &Closed<P>) -> u32 {
+    match place {
+        Closed::Known(known) => known.recovered().state.life(),
+        Closed::Parts(_) | Closed::Fresh(_) => 0,
+    }
+}
+
+fn count_of<P: Parts>(place: &Closed<P>) -> u64 {
+    match place {
+        Closed::Known(known) => {
+            let recovered = known.recovered();
+            recovered.log.sequence().max(recovered.state.count())
+        }
+        Closed::Parts(_) | Closed::Fresh(_) => 0,
+    }
+}
+
+/// Parts that weren't read for want of memory.
+fn unread<P>(parts: Vec<P>) -> ClusterFault<P>
+    ensures { result.parts ≡ parts }
+{
+    ClusterFault {
+        parts,
+        why: Unopened::NoMemory,
+    }
+}
+
+/// Reads the repositories, rising, into places for which there is room: all of them, also beside a fresh
+/// repository 0. Behind one that can't be read the others aren't.
+#[tactic(auto, using(crate::proofs::Places::zip_more, crate::proofs::Places::next_one, crate::proofs::Places::none_in, crate::proofs::Holding::puts_start))]
+fn read_all<P: Parts>(
+    alloc: Global,
+    parts: Vec<P>,
+    places: Vec<Closed<P>>,
+    mob: u32,
+    objects: &mut OrefMap<Obj>,
+) -> (Vec<Closed<P>>, Result<(), Unopened>)
+    requires empty { vec_len places ≡ 0 }
+    requires room { vec_len parts ≤ vec_capacity places }
+    ensures count { vec_len result.0 ≡ vec_len parts }
+    ensures seated { AreSeated P.disks parts.items result.0.items }
+    ensures put { (images : List (ℕ → List ℕ)) → ReadAll P.disks parts.items images → OnOk result.1 (PutsAll images objects.old objects.new) }
+{
+    let repos = parts.len();
+    let mut places = places;
+    let mut read = Ok(());
+    for part in parts {
+        let found = read_next(alloc, read, part, places.as_slice(), repos, mob, objects);
+        places.push_reserved(found.0);
+        read = found.1;
+    }
+    (places, read)
+}
+
+/// Reads the repository behind others, where all of them were read.
+fn read_next<P: Parts>(
+    alloc: Global,
+    before: Result<(), Unopened>,
+    part: P,
+    places: &[Closed<P>],
+    repos: usize,
+    mob: u32,
+    objects: &mut OrefMap<Obj>,
+) -> (Closed<P>, Result<(), Unopened>)
+    ensures seated { IsSeated P.disks part result.0 }
+    ensures put { (images : ℕ → List ℕ) → ReadsAs (P.disks part) images → OnOk result.1 (IsOk before × PutsStored images objects.old objects.new) }
+{
+    match before {
+        Ok(()) => read_behind(alloc, part, places, repos, mob, objects),
+        Err(why) => (Closed::Parts(part), Err(why)),
+    }
+}
+
+/// Reads the repository behind those that were read.
+fn read_behind<P: Parts>(
+    alloc: Global,
+    part: P,
+    places: &[Closed<P>],
+    repos: usize,
+    mob: u32,
+    objects: &mut OrefMap<Obj>,
+) -> (Closed<P>, Result<(), Unopened>)
+    ensures seated { IsSeated P.disks part result.0 }
+    ensures put { (images : ℕ → List ℕ) → ReadsAs (P.disks part) images → OnOk result.1 (PutsStored images objects.old objects.new) }
+{
+    let (Ok(repo), Ok(repos)) = (number_at(places.len()), number_at(repos)) else {
+        return (Closed::Parts(part), Err(Unopened::NoMemory));
+    };
+    let mut part = part;
+    match read_repository(alloc, &mut part, repo, repos, mob, objects) {
+        Ok(found) => placed(part, repo, found, places),
+        Err(why) => (Closed::Parts(part), Err(why)),
+    }
+}
+
+/// What was found of a repository, at its place. Where repository 0 is open, each has to be.
+fn placed<P: Parts>(
+    part: P,
+    repo: u8,
+    found: Option<(Recovered, u32)>,
+    places: &[Closed<P>],
+) -> (Closed<P>, Result<(), Unopened>)
+    requires { Finds (P.disks part) found }
+    ensures { (given : P) → Same (P.disks given) (P.disks part) → IsSeated P.disks given result.0 }
+{
+    match found {
+        Some((recovered, behind)) => (Closed::Known(Known::new(part, recovered, behind)), Ok(())),
+        None => (
+            Closed::Fresh(Settled::new(part)),
+            match places.first() {
+                Some(Closed::Known(_)) => Err(Unopened::Damaged {
+                    repo,
+                    disk: 0,
+                    place: 0,
+                }),
+                Some(_) | None => Ok(()),
+            },
+        ),
+    }
+}
+
+/// What the disks of a store hold, where all of them were read.
+fn store_of<P: Parts>(
+    alloc: Global,
+    places: &[Closed<P>],
+    objects: OrefMap<Obj>,
+    read: Result<(), Unopened>,
+) -> Result<Store, Unopened>
+    ensures stored { (parts : List P) (images : List (ℕ → List ℕ)) → AreSeated P.disks parts places.now → ReadAll P.disks parts images → OnOk read (PutsAll images empty objects) → IfOk result (IsStoredIn images) }
+{
+    let (objects, _) = both(objects, read)?;
+    let (objects, reads) = both(objects, reads_of(alloc, places))?;
+    match reads {
+        Some(reads) => open_store(alloc, reads.as_slice(), objects),
+        None => {
+            drop(objects);
+            Ok(Store::Fresh)
+        }
+    }
+}
+
+/// What was read of the repositories of a store that isn't fresh.
+fn reads_of<P: Parts>(
+    alloc: Global,
+    places: &[Closed<P>],
+) -> Result<Option<Vec<Read<'_>>>, NoMemory>
+    ensures kept { IfOk result (λ found. IfSome found (λ reads. AreKept reads.items)) }
+    ensures stand { (parts : List P) (images : List (ℕ → List ℕ)) → AreSeated P.disks parts places.now → ReadAll P.disks parts images → IfOk result (λ found. IfSome found (λ reads. StandFor images (read_states reads.items))) }
+{
+    let mut reads = Vec::new(alloc);
+    for place in places {
+        match place.read() {
+            Some(read) => reads.push(read)?,
+            None => return Ok(None),
+        }
+    }
+    Ok(Some(reads))
+}
+
+/// A store whose repositories are open, where they fit together.
+fn open_store(alloc: Global, reads: &[Read<'_>], paged: OrefMap<Obj>) -> Result<Store, Unopened>
+    requires { AreKept reads.now }
+    ensures { (images : List (ℕ → List ℕ)) → StandFor images (read_states reads.now) → PutsAll images empty paged → IfOk result (IsStoredIn images) }
+{
+    let (paged, roots) = both(paged, roots_of(reads))?;
+    let (roots, checked) = both(roots, check_store(alloc, reads, paged))?;
+    let (schemas, objects) = checked;
+    let Ok(epoch) = u32::try_from(schemas.upgraded.len()) else {
+        drop(schemas);
+        drop(objects);
+        drop(roots);
+        return Err(Unopened::NoMemory);
+    };
+    let stored = View {
+        objects,
+        names: Names::new(alloc),
+        epoch,
+    };
+    Ok(Store::Open(OpenStore {
+        schemas,
+        stored,
+        roots,
+    }))
+}
+
+/// The roots, as repository 0 has them.
+fn roots_of(reads: &[Read<'_>]) -> Result<Roots, NoMemory>
+    ensures { IfOk result (λ roots. roots ≡ roots_of (read_states reads.now)) }
+{
+    match reads.first() {
+        Some(read) => read.recovered.state.roots().copy(),
+        None => Err(NoMemory),
+    }
+}

@@ -1,8 +1,0 @@
-use Rattle.repository_reading.specs.Paged.{PutsStored}
-use Rattle.std.specs.Prelude.{IsOk}
-use Rattle.store_reading.proofs.Holding.{both_ok, ok_is}
-use Rattle.store_reading.proofs.found.read_next.Goals as goal
-
-pub returns-in-Ok-clause-put : goal.returns-in-Ok-clause-put
-returns-in-Ok-clause-put g c = λ images reads.
-    both_ok c.read_behind.result.1 (IsOk c.args.before) (PutsStored images c.args.objects.now c.read_behind.new.objects) (ok_is c.args.before c.in-Ok.field-0 c.in-Ok.is) (c.read_behind.ensures.put images reads)

@@ -1,0 +1,4 @@
+use Rattle.test_repository.proofs.objects.number.Goals as goal
+
+pub load-requires : goal.load-requires
+load-requires g c = record { one_repo = (1, (rw c.new-store.ensures (rw c.in_ok-new.ensures tt)), c.in_ok-writes.ensures) }

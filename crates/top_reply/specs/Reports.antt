@@ -1,0 +1,140 @@
+-- What a report or a summary tells of a run (this project's).
+use Rattle.std.specs.List.{list_all, list_any}
+use Rattle.std.specs.Prelude.{◌≡◌, ◌==◌, ◌&&◌, ℕ, ℤ, Bool, true, false, not, List, [], ◌∷◌, is_some, length}
+use Rattle.class_defs.specs.Epochs.{classes_of}
+use Rattle.class_defs.specs.declared.store.Plain.{Plain}
+use Rattle.class_defs.specs.declared.store.Schemas.{Schemas}
+use Rattle.report_text.specs.Report.{report_text}
+use Rattle.report_text.specs.Shown.{TellsReport}
+use Rattle.report_summary.specs.Summary.{accounts_sum, summary_text}
+use Rattle.script_parse.specs.declared.script.Script.{Script}
+use Rattle.serial_model.specs.History.{IsLegal, after}
+use Rattle.serial_model.specs.Outcomes.{Answers, all_items}
+use Rattle.serial_model.specs.declared.entries.Did.{Did}
+use Rattle.serial_model.specs.declared.entries.What.{What}
+use Rattle.serial_model.specs.declared.outcomes.Cause.{Cause}
+use Rattle.base_reasons.specs.declared.reason.Reason.TheVariants as reasons
+use Rattle.serial_model.specs.declared.outcomes.Cause.TheVariants as cause
+use Rattle.serial_model.specs.declared.outcomes.Ended.{Ended}
+use Rattle.serial_model.specs.declared.outcomes.ItemOutcome.{ItemOutcome}
+use Rattle.serial_model.specs.declared.outcomes.ItemOutcome.TheVariants.{Done, Upgraded, Faulted, Refused, Unknown}
+use Rattle.top_reply.specs.Texts.{TellsUnopened}
+use Rattle.top_reply.specs.declared.form.Form.{Form}
+use Rattle.top_reply.specs.declared.form.Form.TheVariants as form
+use Rattle.top_reply.specs.declared.status.Status.{Status}
+use Rattle.top_reply.specs.declared.status.Status.TheVariants as status
+
+-- whether an item was done or ended in a fault
+abbrev pub is_finished_as : ItemOutcome → Bool
+is_finished_as (Done ts ints) = true
+is_finished_as (Upgraded ts number) = true
+is_finished_as (Faulted ts f) = true
+is_finished_as (Refused cause) = false
+is_finished_as (Unknown tx) = false
+
+abbrev pub is_finished : Ended → Bool
+is_finished e = is_finished_as e.outcome
+
+-- ---- a client that is alone
+
+-- a client has items
+abbrev pub is_busy : List What → Bool
+is_busy [] = false
+is_busy (item ∷ items) = true
+
+-- client 1 alone has items
+abbrev pub is_alone : List (List What) → Bool
+is_alone [] = true
+is_alone (client ∷ others) = not (list_any is_busy others)
+
+-- The script opens a fresh store for one client, which has no other beside it and no event between its steps.
+abbrev pub runs_alone : Script → Bool
+runs_alone script = is_some script.setup && (is_alone script.clients && length script.events == 0)
+
+-- Why an item of such a client may be refused: by a disk that fails or gives other bytes than were written, or at a limit.
+-- Nobody else wrote, upgraded or committed.
+abbrev pub can_come_alone : Cause → Bool
+can_come_alone (cause.Missing oref) = true
+can_come_alone (cause.Down repo) = true
+can_come_alone (cause.Reason (reasons.Full limit)) = true
+can_come_alone (cause.Reason reasons.ClockEnd) = true
+can_come_alone cause.Calls = true
+can_come_alone (cause.Reason (reasons.Stale oref place)) = false
+can_come_alone (cause.Reason (reasons.Earlier tx oref)) = false
+can_come_alone (cause.Reason (reasons.Later tx oref)) = false
+can_come_alone (cause.Reason (reasons.TooOld threshold)) = false
+can_come_alone (cause.Reason (reasons.Epoch n)) = false
+can_come_alone (cause.Reason (reasons.Blocked tx)) = false
+can_come_alone (cause.Reason (reasons.Gone session)) = false
+
+-- how an item of such a client ends: at its first try, where it isn't refused
+abbrev pub ends_at_once_as : ℕ → ItemOutcome → Bool
+ends_at_once_as tries (Done ts ints) = tries == 1
+ends_at_once_as tries (Upgraded ts number) = tries == 1
+ends_at_once_as tries (Faulted ts f) = tries == 1
+ends_at_once_as tries (Refused cause) = can_come_alone cause
+ends_at_once_as tries (Unknown tx) = true
+
+abbrev pub ends_at_once : Ended → Bool
+ends_at_once e = ends_at_once_as e.tries e.outcome
+
+-- ---- a run
+
+-- what the accounts are together in a store, under the classes of its epoch
+abbrev pub sum_in : Schemas → Plain → ℤ
+sum_in schemas store = accounts_sum (classes_of schemas store.epoch) store
+
+-- The text of a run: the report of its outcomes and its history, or their summary, with the sum of the accounts in the store
+-- behind the history.
+abbrev pub run_text : Form → Schemas → Plain → List Ended → List Did → List ℕ
+run_text form.Report schemas store ended history = report_text ended history
+run_text form.Summary schemas store ended history = summary_text ended (sum_in schemas (after schemas history store))
+
+-- A report tells its outcomes and its history: no other ones that are shown have this text. Of a summary nothing is said.
+abbrev pub TellsAs : Form → List Ended → List Did → List ℕ → Type 0
+TellsAs form.Report ended history text = TellsReport ended history text
+TellsAs form.Summary ended history text = Unit {0}
+
+-- The text is that of outcomes and a history. The history is one serial history from the store: its timestamps strictly
+-- rise, each entry gives the answer that its run gives on the store behind those before it, and upgrades transform all
+-- objects at their place. The outcomes are answered by it, each item's once and each client's in its order.
+pub record IsRun (form : Form) (schemas : Schemas) (store : Plain) (script : Script) (finished : Bool) (text : List ℕ) : Type 0 where
+  pub history : List Did
+  pub ended : List Ended
+  pub legal : IsLegal schemas history store
+  pub answers : Answers history (all_items script.clients) ended
+  pub at_once : runs_alone script ≡ true → list_all ends_at_once ended ≡ true
+  pub finished_is : finished ≡ list_all is_finished ended
+  pub written_out : text ≡ run_text form schemas store ended history
+  pub tells : TellsAs form ended history text
+
+-- the status of a report, by whether all items were finished
+abbrev pub status_of : Bool → Status
+status_of true = status.Done
+status_of false = status.Unfinished
+
+-- the status tells whether all items were finished
+abbrev pub IsReported : Form → Schemas → Plain → Script → Status → List ℕ → Type 0
+IsReported form schemas store script status.Done text = IsRun form schemas store script true text
+IsReported form schemas store script status.Unfinished text = IsRun form schemas store script false text
+IsReported form schemas store script status.Words text = ⊥
+IsReported form schemas store script status.Script text = ⊥
+IsReported form schemas store script status.SourceFault text = ⊥
+IsReported form schemas store script status.SinkFault text = ⊥
+IsReported form schemas store script status.DiskFault text = ⊥
+IsReported form schemas store script status.Damaged text = ⊥
+IsReported form schemas store script status.Limit text = ⊥
+IsReported form schemas store script status.NoMemory text = ⊥
+
+-- what the status and its text tell of a store that was to be opened
+abbrev pub TellsOpened : Form → Schemas → Plain → Script → Status → List ℕ → Type 0
+TellsOpened form schemas store script status.Done text = IsRun form schemas store script true text
+TellsOpened form schemas store script status.Unfinished text = IsRun form schemas store script false text
+TellsOpened form schemas store script status.DiskFault text = TellsUnopened status.DiskFault text
+TellsOpened form schemas store script status.Damaged text = ⊥
+TellsOpened form schemas store script status.Words text = ⊥
+TellsOpened form schemas store script status.Script text = ⊥
+TellsOpened form schemas store script status.SourceFault text = ⊥
+TellsOpened form schemas store script status.SinkFault text = ⊥
+TellsOpened form schemas store script status.Limit text = ⊥
+TellsOpened form schemas store script status.NoMemory text = ⊥

@@ -1,0 +1,190 @@
+//! The check of what a run tells, made before anything of it is written.
+
+ghost use Rattle.std.specs.Prelude.{◌≡◌, IfOk, true};
+ghost use Rattle.std.specs.List.{list_all, list_any};
+ghost use Rattle.serial_model.specs.History.{IsLegal, after};
+ghost use Rattle.class_defs.specs.declared.store.Plain.{Plain};
+ghost use Rattle.top_reply.specs.Reports as spec;
+ghost use Rattle.top_reply.specs.Reports.{IsReported, TellsAs};
+ghost use Rattle.thor_value.specs.FiniteMap.{IsSorted};
+
+use crate::form::Form;
+use crate::reply::Reply;
+use crate::status::Status;
+use base_reasons::Reason;
+use class_defs::{Plain, Schemas};
+use report_summary::{accounts_sum, print_summary};
+use report_text::print_report;
+use script_parse::{Items, Script};
+use serial_model::{Cause, Ended, Ends, ItemOutcome, are_made};
+use std::alloc::Global;
+use thor_value::{NoMemory, Text};
+use top_history_check::{CheckedHistory, Lines, checked_history};
+
+/// Whether an item was done or ended in a fault.
+fn is_finished(ended: &Ended) -> bool
+    ensures { result ≡ spec.is_finished ended.now }
+{
+    match ended.outcome {
+        ItemOutcome::Done { .. } | ItemOutcome::Upgraded { .. } | ItemOutcome::Faulted { .. } =>
+            true,
+        ItemOutcome::Refused { .. } | ItemOutcome::Unknown { .. } => false,
+    }
+}
+
+/// Whether all items were done or ended in a fault.
+fn are_finished(ends: &[Ended]) -> bool
+    ensures { result ≡ list_all spec.is_finished ends.now }
+{
+    for ended in ends {
+        if !is_finished(ended) {
+            return false;
+        }
+    }
+    true
+}
+
+/// Whether a client has items.
+fn is_busy(items: &Items) -> bool
+    ensures { result ≡ spec.is_busy items.now }
+{
+    !items.is_empty()
+}
+
+/// Whether one of the clients has items.
+fn are_busy(clients: &[Items]) -> bool
+    ensures { result ≡ list_any spec.is_busy clients.now }
+{
+    for client in clients {
+        if is_busy(client) {
+            return true;
+        }
+    }
+    false
+}
+
+/// Whether client 1 alone has items.
+fn is_alone(clients: &[Items]) -> bool
+    ensures { result ≡ spec.is_alone clients.now }
+{
+    match clients {
+        [] => true,
+        [_first, others @ ..] => !are_busy(others),
+    }
+}
+
+/// Whether a script has a setup, one client with items, and no events.
+fn runs_alone(script: &Script) -> bool
+    ensures { result ≡ spec.runs_alone script.now }
+{
+    script.setup.is_some() && (is_alone(script.clients.as_slice()) && script.events.len() == 0)
+}
+
+/// Whether an item may be refused for this where no other client and no event is there: for a disk or for a limit.
+fn can_come_alone(cause: &Cause) -> bool
+    ensures { result ≡ spec.can_come_alone cause.now }
+{
+    match cause {
+        Cause::Missing { .. }
+        | Cause::Down { .. }
+        | Cause::Reason(Reason::Full { .. } | Reason::ClockEnd)
+        | Cause::Calls => true,
+        Cause::Reason(
+            Reason::Stale { .. }
+            | Reason::Earlier { .. }
+            | Reason::Later { .. }
+            | Reason::TooOld { .. }
+            | Reason::Epoch { .. }
+            | Reason::Blocked { .. }
+            | Reason::Gone { .. },
+        ) => false,
+    }
+}
+
+/// Whether an item ended as one that no other client hinders.
+fn ends_at_once(ended: &Ended) -> bool
+    ensures { result ≡ spec.ends_at_once ended.now }
+{
+    match &ended.outcome {
+        ItemOutcome::Done { .. } | ItemOutcome::Upgraded { .. } | ItemOutcome::Faulted { .. } =>
+            ended.tries == 1,
+        ItemOutcome::Refused { cause } => can_come_alone(cause),
+        ItemOutcome::Unknown { .. } => true,
+    }
+}
+
+/// Whether all items ended so.
+fn end_at_once(ends: &[Ended]) -> bool
+    ensures { result ≡ list_all spec.ends_at_once ends.now }
+{
+    for ended in ends {
+        if !ends_at_once(ended) {
+            return false;
+        }
+    }
+    true
+}
+
+/// Whether the items of a client that is alone ended at once.
+fn is_unhindered(script: &Script, ends: &[Ended]) -> bool
+    ensures { result ≡ true → spec.runs_alone script.now ≡ true → list_all spec.ends_at_once ends.now ≡ true }
+{
+    !runs_alone(script) || end_at_once(ends)
+}
+
+/// The status of a report, by whether all items are finished.
+fn status_of(finished: bool) -> Status
+    ensures { result ≡ spec.status_of finished }
+{
+    if finished {
+        Status::Done
+    } else {
+        Status::Unfinished
+    }
+}
+
+/// The text of a run whose history was checked.
+fn run_text(
+    alloc: Global,
+    form: Form,
+    schemas: &Schemas,
+    ends: &Ends,
+    checked: &CheckedHistory,
+) -> Result<Text, NoMemory>
+    ensures text { (store : Plain) → checked.now.end ≡ after schemas.now checked.now.history store → IfOk result (λ text. text ≡ spec.run_text form schemas.now store ends.now checked.now.history) }
+    ensures tells { (store : Plain) → IsLegal schemas.now checked.now.history store → IfOk result (λ text. TellsAs form ends.now checked.now.history text) }
+{
+    match form {
+        Form::Report => print_report(alloc, ends, &checked.history),
+        Form::Summary => {
+            let sum = accounts_sum(alloc, schemas, &checked.end)?;
+            print_summary(alloc, ends, sum)
+        }
+    }
+}
+
+/// What is told of a run, where its history is a serial one from the store and answers the items. Where it isn't,
+/// nothing is told: the answer is that of want of memory.
+pub fn report(
+    alloc: Global,
+    form: Form,
+    schemas: &Schemas,
+    store: &Plain,
+    script: &Script,
+    lines: Lines,
+    ends: &Ends,
+) -> Result<Reply, NoMemory>
+    requires { IsSorted store.now.objects }
+    ensures { IfOk result (λ reply. IsReported form schemas.now store.now script.now reply.status reply.text) }
+{
+    if !are_made(schemas) || !is_unhindered(script, ends.as_slice()) {
+        return Err(NoMemory);
+    }
+    match checked_history(alloc, schemas, store, &script.clients, lines, ends)? {
+        Some(checked) => Ok(Reply {
+            status: status_of(are_finished(ends.as_slice())),
+            text: run_text(alloc, form, schemas, ends, &checked)?,
+        }),
+        None => Err(NoMemory),
+    }
+}

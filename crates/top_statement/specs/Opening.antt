@@ -1,0 +1,39 @@
+-- With what a run begins (this project's): the schemas of the opened store and the store itself. A fresh store is opened by
+-- the setup of the script; one that was there is opened as it stands, by a script without a setup.
+use Rattle.std.specs.Prelude.{◌≡◌, ℕ, List, [], Option, Some, None, length}
+use Rattle.class_defs.specs.declared.declarations.Declarations.{Declarations}
+use Rattle.class_defs.specs.declared.store.Plain.{Plain}
+use Rattle.class_defs.specs.declared.store.Schemas.{Schemas}
+use Rattle.script_check.specs.Judging.{KeepsRules}
+use Rattle.script_check.specs.Opened.{opened, schema_of}
+use Rattle.script_check.specs.Upgrading.{last_schema}
+use Rattle.script_parse.specs.declared.script.Script.{Script}
+use Rattle.store_opening.specs.Reading.{IsOpened}
+
+-- the schemas of the store that a setup opens
+abbrev pub first_schemas : Declarations → Schemas
+first_schemas setup = record { first = schema_of setup; upgraded = [] }
+
+-- the schemas of the opened store, up to its epoch
+abbrev pub IsBase : Option Declarations → Schemas → Type 0
+IsBase (Some setup) base = base ≡ first_schemas setup
+IsBase None base = Unit {0}
+
+-- the opened store
+abbrev pub IsStore : Option Declarations → Schemas → Plain → Type 0
+IsStore (Some setup) base store = store ≡ opened (schema_of setup)
+IsStore None base store = store.epoch ≡ length base.upgraded
+
+-- which bytes reads of the disks of all repositories give, where they tell them
+abbrev pub DiskBytes : Type 1
+DiskBytes = List (ℕ → List ℕ) → Type 0
+
+-- A store that was there is the one for which the disks stand, with these schemas.
+abbrev pub IsOfDisks : DiskBytes → Option Declarations → Schemas → Plain → Type 0
+IsOfDisks DiskReads (Some setup) base store = Unit {0}
+IsOfDisks DiskReads None base store = (images : List (ℕ → List ℕ)) → DiskReads images → IsOpened images base store
+
+-- the script breaks no rule over so many repositories, on a store with these schemas
+pub record IsAccepted (repos : ℕ) (script : Script) (base : Schemas) : Type 0 where
+  pub base_is : IsBase script.setup base
+  pub keeps : KeepsRules (last_schema base) repos script

@@ -1,8 +1,0 @@
-use Rattle.std.proofs.Common.{◌≡◌}
-use Rattle.validation_queue.specs.Clashes.{first_some}
-use Rattle.validation_window.specs.Refusals.{comes_later}
-use Rattle.trace_reading.proofs.against.first_later.Given as goal
-
--- what is left to look at decides
-abbrev pub invariant-loop-tx : goal.invariant-loop-tx
-invariant-loop-tx l = first_some (comes_later l.request) l.tx-iterator ≡ first_some (comes_later l.request) l.window.members.pairs

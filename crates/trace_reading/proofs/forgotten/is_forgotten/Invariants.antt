@@ -1,8 +1,0 @@
-use Rattle.session_outbox.specs.Calls.{is_forgotten}
-use Rattle.std.proofs.Common.{drop, ◌≡◌}
-use Rattle.trace_reading.specs.Items.{trace_of}
-use Rattle.trace_reading.proofs.forgotten.is_forgotten.Given as goal
-
--- what is left to look at decides
-abbrev pub invariant-loop-item : goal.invariant-loop-item
-invariant-loop-item l = is_forgotten (trace_of (drop l.item-index l.items)) l.tx ≡ is_forgotten (trace_of l.items) l.tx

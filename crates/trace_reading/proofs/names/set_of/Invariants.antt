@@ -1,9 +1,0 @@
-use Rattle.std.proofs.Common.{drop, map, ◌≡◌}
-use Rattle.thor_value.specs.FiniteMap.{overwrite}
-use Rattle.trace_reading.specs.Tables.{names_in}
-use Rattle.validation_window.specs.Refusals.{set_of}
-use Rattle.trace_reading.proofs.names.set_of.Given as goal
-
--- what is left comes in
-abbrev pub invariant-loop-name : goal.invariant-loop-name
-invariant-loop-name l = overwrite (names_in l.set) (map (λ x. (x, tt)) (drop l.name-index l.names)) ≡ set_of l.names

@@ -1,5 +1,0 @@
-use Rattle.std.proofs.Common.{refl}
-use Rattle.trace_reading.proofs.state.State.settle_left.Goals as goal
-
-pub returns : goal.returns
-returns c = λ test. rw (← c.self.view_is) refl

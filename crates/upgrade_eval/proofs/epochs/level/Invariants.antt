@@ -1,7 +1,0 @@
-use Rattle.std.proofs.Common.{◌≡◌}
-use Rattle.upgrade_eval.proofs.LevelFound.{NoneLag}
-use Rattle.upgrade_eval.proofs.epochs.level.Given as goal
-
--- no upgrade so far changes the object
-abbrev pub invariant-loop-before : goal.invariant-loop-before
-invariant-loop-before l = NoneLag l.schemas l.class l.ver l.before

@@ -1,5 +1,0 @@
-use Rattle.upgrade_laws.proofs.KeptByRules.{all_keep}
-use Rattle.upgrade_laws.proofs.accepted.accepted_upgrades_keep_ownership.Goals as goal
-
-pub returns : goal.returns
-returns c = λ s repos items e first all. all_keep s repos items e first all

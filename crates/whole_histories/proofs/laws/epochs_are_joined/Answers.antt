@@ -1,6 +1,0 @@
-use Rattle.whole_histories.proofs.Epochs.{epoch-at-turn}
-use Rattle.whole_histories.proofs.Listing.{listed-at}
-use Rattle.whole_histories.proofs.laws.epochs_are_joined.Goals as goal
-
-pub returns : goal.returns
-returns c = λ S sd at al done e turn r o is. epoch-at-turn S at sd al done turn.0 e (listed-at S sd done turn.0 e turn.1) r o is

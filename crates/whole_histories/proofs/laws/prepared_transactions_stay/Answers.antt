@@ -1,9 +1,0 @@
-use Rattle.whole_histories.proofs.Staying.{met-before, prepared-grown, whole-stays}
-use Rattle.whole_histories.proofs.laws.prepared_transactions_stay.Goals as goal
-
-pub returns : goal.returns
-returns c = record {
-  prepared = λ S r e sd go t w h. prepared-grown S r e sd go t w h;
-  whole = λ S r e sd go t w h. whole-stays S r e sd go t w h;
-  met = λ S r e sd go t w h L met. met-before S r e sd go t w h L met;
-}

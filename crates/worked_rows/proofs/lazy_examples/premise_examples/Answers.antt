@@ -1,6 +1,0 @@
-use Rattle.worked_rows.proofs.MixedOwned.{mixed_kinds, mixed_owned, part_first}
-use Rattle.worked_rows.proofs.TwiceKeeps.{twice_keeps}
-use Rattle.worked_rows.proofs.lazy_examples.premise_examples.Goals as goal
-
-pub returns : goal.returns
-returns c = record { upgrades = twice_keeps; well_owned = mixed_owned; kinds = mixed_kinds; part_first = part_first }
