@@ -10,26 +10,26 @@ use Rattle.thor_value.proofs.NameOrders.{oref_exact}
 use Rattle.thor_value.specs.Names.{oref_cmp}
 use Rattle.thor_value.specs.declared.names.Oref.{Oref}
 use Rattle.thor_value.specs.declared.values.Obj.{Obj}
-use Rattle.client_cache.specs.Copies.{Held, elsewhere, told}
+use Rattle.client_cache.specs.Copies.{Held, elsewhere, copy_by}
 use Rattle.client_cache.specs.Pages.{page_of, same_name, same_page}
 use Rattle.client_cache.specs.declared.page_copies.Slot.{Slot}
 use Rattle.client_cache.proofs.PageLookups.{one-page}
 
 module _ (g : List Slot → ℕ → Option Obj) where
   -- nothing is told of the objects of a repository whose pages have left
-  pub told_elsewhere : (repo : ℕ) (held : Held) (x : Oref) → told g (elsewhere repo held) x ≡ cond (nat_eq x.repo repo) None (told g held x)
+  pub told_elsewhere : (repo : ℕ) (held : Held) (x : Oref) → copy_by g (elsewhere repo held) x ≡ cond (nat_eq x.repo repo) None (copy_by g held x)
   told_elsewhere repo held x =
       rw (lookup-filter-keys (same_page (page_of x)) (λ k. not (nat_eq k.repo repo)) (not (nat_eq x.repo repo)) (λ k t. ap (λ n. not (nat_eq n.repo repo)) (sym (one-page (page_of x) k t))) held)
-      ((elim (nat_eq x.repo repo) as (λ b. option_and_then (λ slots. g slots x.slot) (cond (not b) (lookup (same_page (page_of x)) held) None) ≡ cond b None (told g held x)) [
+      ((elim (nat_eq x.repo repo) as (λ b. option_and_then (λ slots. g slots x.slot) (cond (not b) (lookup (same_page (page_of x)) held) None) ≡ cond b None (copy_by g held x)) [
         | true ↦ refl
         | false ↦ refl
       ]))
 
   -- where nothing is told of an object, nothing is told by some of the pages
-  pub none_of_some : (n : ℕ) (held : Held) (x : Oref) → is_some (told g held x) ≡ false → is_some (told g (take n held) x) ≡ false
+  pub none_of_some : (n : ℕ) (held : Held) (x : Oref) → is_some (copy_by g held x) ≡ false → is_some (copy_by g (take n held) x) ≡ false
   none_of_some zero held x h = refl
   none_of_some (suc n) [] x h = h
-  none_of_some (suc n) (e ∷ es) x h = (elim (same_page (page_of x) e.0) as (λ b. same_page (page_of x) e.0 ≡ b → is_some (told g (take (suc n) (e ∷ es)) x) ≡ false) [
+  none_of_some (suc n) (e ∷ es) x h = (elim (same_page (page_of x) e.0) as (λ b. same_page (page_of x) e.0 ≡ b → is_some (copy_by g (take (suc n) (e ∷ es)) x) ≡ false) [
     | true ↦ λ t. rw t (rw t at h)
     | false ↦ λ t. rw t (none_of_some n es x (rw t at h))
   ]) refl

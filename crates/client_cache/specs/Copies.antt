@@ -18,8 +18,8 @@ abbrev pub Held : Type 0
 Held = List (PageName × List Slot)
 
 -- what is told of an object by the slots of its page, where that is held
-abbrev pub told : (List Slot → ℕ → Option Obj) → Held → Oref → Option Obj
-told g held x = option_and_then (λ slots. g slots x.slot) (lookup (same_page (page_of x)) held)
+abbrev pub copy_by : (List Slot → ℕ → Option Obj) → Held → Oref → Option Obj
+copy_by g held x = option_and_then (λ slots. g slots x.slot) (lookup (same_page (page_of x)) held)
 
 -- whether a page is held
 abbrev pub holds : Held → PageName → Bool
@@ -48,15 +48,15 @@ pages c = keys_of c.held
 
 -- the copy of an object as it was before the try
 abbrev pub kept : Contents → Oref → Option Obj
-kept c x = told kept_in c.held x
+kept c x = copy_by kept_in c.held x
 
 -- what the try has made of it
 abbrev pub changed : Contents → Oref → Option Obj
-changed c x = told written_in c.held x
+changed c x = copy_by written_in c.held x
 
 -- what a look finds: what the try has made of it, else the copy
 abbrev pub seen : Contents → Oref → Option Obj
-seen c x = told seen_in c.held x
+seen c x = copy_by seen_in c.held x
 
 -- whether the try has written it
 abbrev pub has_written : Contents → Oref → Bool

@@ -4,7 +4,7 @@ ghost use Rattle.std.specs.Option.{option_copied, option_map_or};
 ghost use Rattle.std.specs.Prelude.{◌≡◌, ◌<◌, ℕ, MatchOption, take, [], ◌∷◌, false, true, cond, option_map, Some, None, IfOk, IfSome, IsTrue, OnOk, OnErr};
 ghost use Rattle.thor_value.specs.declared.names.Oref.{Oref};
 ghost use Rattle.client_cache.specs.declared.page_name.PageName.{PageName};
-ghost use Rattle.client_cache.specs.Copies.{elsewhere, forward, holds, told};
+ghost use Rattle.client_cache.specs.Copies.{elsewhere, forward, holds, copy_by};
 ghost use Rattle.client_cache.specs.Pages.{page_of, same_name, same_page};
 ghost use Rattle.client_cache.specs.Slots.{dated, is_bare, kept_in, seen_in, written_in};
 
@@ -114,8 +114,8 @@ impl HeldPages {
     pub fn write(&mut self, oref: Oref, obj: Obj)
         requires slot { oref.slot < 12 }
         requires held { holds self.old (page_of oref) ≡ true }
-        ensures kept { (x : Oref) → told kept_in self.new x ≡ told kept_in self.old x }
-        ensures written { (x : Oref) → told written_in self.new x ≡ cond (same_name oref x) (Some obj) (told written_in self.old x) }
+        ensures kept { (x : Oref) → copy_by kept_in self.new x ≡ copy_by kept_in self.old x }
+        ensures written { (x : Oref) → copy_by written_in self.new x ≡ cond (same_name oref x) (Some obj) (copy_by written_in self.old x) }
         ensures order { keys_of self.new ≡ keys_of self.old }
     {
         let Some(slots) = self.pages.peek_mut(&PageName::of(oref)) else {
@@ -126,8 +126,8 @@ impl HeldPages {
 
     /// Drops the copy of an object.
     pub fn forget(&mut self, oref: Oref)
-        ensures kept { (x : Oref) → told kept_in self.new x ≡ cond (same_name oref x) None (told kept_in self.old x) }
-        ensures written { (x : Oref) → told written_in self.new x ≡ told written_in self.old x }
+        ensures kept { (x : Oref) → copy_by kept_in self.new x ≡ cond (same_name oref x) None (copy_by kept_in self.old x) }
+        ensures written { (x : Oref) → copy_by written_in self.new x ≡ copy_by written_in self.old x }
         ensures order { keys_of self.new ≡ keys_of self.old }
     {
         let Some(slots) = self.pages.peek_mut(&PageName::of(oref)) else {
@@ -138,8 +138,8 @@ impl HeldPages {
 
     /// Gives up what the try has made of an object.
     pub fn undo(&mut self, oref: Oref)
-        ensures kept { (x : Oref) → told kept_in self.new x ≡ told kept_in self.old x }
-        ensures written { (x : Oref) → told written_in self.new x ≡ cond (same_name oref x) None (told written_in self.old x) }
+        ensures kept { (x : Oref) → copy_by kept_in self.new x ≡ copy_by kept_in self.old x }
+        ensures written { (x : Oref) → copy_by written_in self.new x ≡ cond (same_name oref x) None (copy_by written_in self.old x) }
         ensures order { keys_of self.new ≡ keys_of self.old }
     {
         let Some(slots) = self.pages.peek_mut(&PageName::of(oref)) else {
@@ -150,8 +150,8 @@ impl HeldPages {
 
     /// Gives up what the try has made of these objects.
     pub fn undo_all(&mut self, orefs: &Orefs)
-        ensures kept { (x : Oref) → told kept_in self.new x ≡ told kept_in self.old x }
-        ensures written { (x : Oref) → told written_in self.new x ≡ cond (list_any (λ y. same_name y x) orefs.now) None (told written_in self.old x) }
+        ensures kept { (x : Oref) → copy_by kept_in self.new x ≡ copy_by kept_in self.old x }
+        ensures written { (x : Oref) → copy_by written_in self.new x ≡ cond (list_any (λ y. same_name y x) orefs.now) None (copy_by written_in self.old x) }
         ensures order { keys_of self.new ≡ keys_of self.old }
     {
         for oref in orefs.as_slice() {
@@ -161,8 +161,8 @@ impl HeldPages {
 
     /// Makes what the try has made of an object its copy.
     pub fn settle(&mut self, oref: Oref)
-        ensures kept { (x : Oref) → told kept_in self.new x ≡ cond (same_name oref x) (told seen_in self.old oref) (told kept_in self.old x) }
-        ensures written { (x : Oref) → told written_in self.new x ≡ cond (same_name oref x) None (told written_in self.old x) }
+        ensures kept { (x : Oref) → copy_by kept_in self.new x ≡ cond (same_name oref x) (copy_by seen_in self.old oref) (copy_by kept_in self.old x) }
+        ensures written { (x : Oref) → copy_by written_in self.new x ≡ cond (same_name oref x) None (copy_by written_in self.old x) }
         ensures order { keys_of self.new ≡ keys_of self.old }
     {
         let Some(slots) = self.pages.peek_mut(&PageName::of(oref)) else {
@@ -174,9 +174,9 @@ impl HeldPages {
     /// Gives what the try has made of an object this version, and answers a copy of it; nothing where the try hasn't
     /// written it. Where it has this version already, nothing is written.
     pub fn date(&mut self, oref: Oref, ver: u32) -> Result<Option<Obj>, NoMemory>
-        ensures copy { IfOk result (λ copy. copy ≡ option_map (dated ver) (told written_in self.old oref)) }
-        ensures kept { (x : Oref) → told kept_in self.new x ≡ told kept_in self.old x }
-        ensures written { (x : Oref) → told written_in self.new x ≡ cond (same_name oref x) (option_map (dated ver) (told written_in self.old oref)) (told written_in self.old x) }
+        ensures copy { IfOk result (λ copy. copy ≡ option_map (dated ver) (copy_by written_in self.old oref)) }
+        ensures kept { (x : Oref) → copy_by kept_in self.new x ≡ copy_by kept_in self.old x }
+        ensures written { (x : Oref) → copy_by written_in self.new x ≡ cond (same_name oref x) (option_map (dated ver) (copy_by written_in self.old oref)) (copy_by written_in self.old x) }
         ensures order { keys_of self.new ≡ keys_of self.old }
     {
         match self.written_as(oref, ver) {
@@ -187,7 +187,7 @@ impl HeldPages {
 
     // What the try has made of an object, where it has this version.
     fn written_as(&self, oref: Oref, ver: u32) -> Option<&Obj>
-        ensures { IfSome (option_copied result) (λ obj. (told written_in self.now oref ≡ Some obj) × (obj.ver ≡ ver)) }
+        ensures { IfSome (option_copied result) (λ obj. (copy_by written_in self.now oref ≡ Some obj) × (obj.ver ≡ ver)) }
     {
         match self.get(PageName::of(oref)) {
             Some(slots) => slots.written_as(oref.slot, ver),
@@ -197,9 +197,9 @@ impl HeldPages {
 
     // Gives what the try has made of an object this version, whichever it has, and answers a copy of it.
     fn date_anew(&mut self, oref: Oref, ver: u32) -> Result<Option<Obj>, NoMemory>
-        ensures copy { IfOk result (λ copy. copy ≡ option_map (dated ver) (told written_in self.old oref)) }
-        ensures kept { (x : Oref) → told kept_in self.new x ≡ told kept_in self.old x }
-        ensures written { (x : Oref) → told written_in self.new x ≡ cond (same_name oref x) (option_map (dated ver) (told written_in self.old oref)) (told written_in self.old x) }
+        ensures copy { IfOk result (λ copy. copy ≡ option_map (dated ver) (copy_by written_in self.old oref)) }
+        ensures kept { (x : Oref) → copy_by kept_in self.new x ≡ copy_by kept_in self.old x }
+        ensures written { (x : Oref) → copy_by written_in self.new x ≡ cond (same_name oref x) (option_map (dated ver) (copy_by written_in self.old oref)) (copy_by written_in self.old x) }
         ensures order { keys_of self.new ≡ keys_of self.old }
     {
         let Some(slots) = self.pages.peek_mut(&PageName::of(oref)) else {
@@ -212,8 +212,8 @@ impl HeldPages {
     /// The page becomes the most recently used one. After `NoMemory` nothing has changed.
     pub fn place(&mut self, page: PageName, copies: Slots) -> Result<(), NoMemory>
         requires { (s : ℕ) → written_in copies s ≡ None }
-        ensures kept { OnOk result ((x : Oref) → told kept_in self.new x ≡ cond (same_page page (page_of x)) (kept_in copies x.slot) (told kept_in self.old x)) }
-        ensures written { OnOk result ((x : Oref) → told written_in self.new x ≡ told written_in self.old x) }
+        ensures kept { OnOk result ((x : Oref) → copy_by kept_in self.new x ≡ cond (same_page page (page_of x)) (kept_in copies x.slot) (copy_by kept_in self.old x)) }
+        ensures written { OnOk result ((x : Oref) → copy_by written_in self.new x ≡ copy_by written_in self.old x) }
         ensures order { OnOk result (keys_of self.new ≡ forward page (keys_of self.old)) }
         ensures err { OnErr result (self.new ≡ self.old) }
     {
@@ -236,8 +236,8 @@ impl HeldPages {
     // The same for a page that is held, and stays where it is among them.
     fn replace(&mut self, page: PageName, copies: Slots)
         requires { holds self.old page ≡ true }
-        ensures kept { (x : Oref) → told kept_in self.new x ≡ cond (same_page page (page_of x)) (kept_in copies x.slot) (told kept_in self.old x) }
-        ensures written { (x : Oref) → told written_in self.new x ≡ told written_in self.old x }
+        ensures kept { (x : Oref) → copy_by kept_in self.new x ≡ cond (same_page page (page_of x)) (kept_in copies x.slot) (copy_by kept_in self.old x) }
+        ensures written { (x : Oref) → copy_by written_in self.new x ≡ copy_by written_in self.old x }
         ensures order { keys_of self.new ≡ keys_of self.old }
     {
         let Some(slots) = self.pages.peek_mut(&page) else {
@@ -271,8 +271,8 @@ impl HeldPages {
 
     /// Drops a page, where it is held and has neither a copy nor what the try has made of one.
     pub fn drop_bare(&mut self, page: PageName)
-        ensures kept { (x : Oref) → told kept_in self.new x ≡ told kept_in self.old x }
-        ensures written { (x : Oref) → told written_in self.new x ≡ told written_in self.old x }
+        ensures kept { (x : Oref) → copy_by kept_in self.new x ≡ copy_by kept_in self.old x }
+        ensures written { (x : Oref) → copy_by written_in self.new x ≡ copy_by written_in self.old x }
     {
         let _count = self.pages.len();
         if self.is_bare(page) {

@@ -14,16 +14,16 @@ use Rattle.thor_value.specs.declared.values.Obj.{Obj}
 use Rattle.repo_refusals.specs.declared.refusal.Refusal.{Refusal}
 
 -- the place behind the entry at a place
-abbrev pub behind : ℕ → ℕ
-behind place = min (place + 1) (2 ^ 64 - 1)
+abbrev pub next_place : ℕ → ℕ
+next_place place = min (place + 1) (2 ^ 64 - 1)
 
 -- The link behind a message. What a page shows ends below its place; what names objects, or an upgrade, is the entry
 -- at its place.
 abbrev pub took : Message → Link → Link
 took (Page page bytes place) link = answered (acknowledged place link)
 took (Grant page place) link = answered (acknowledged place link)
-took (Invalid names place) link = acknowledged (behind place) link
-took (Upgrade number text place) link = acknowledged (behind place) link
+took (Invalid names place) link = acknowledged (next_place place) link
+took (Upgrade number text place) link = acknowledged (next_place place) link
 
 -- the links behind a call that takes a message: they change by a message that came, and by nothing else
 abbrev pub links_behind : Result (Option Message) Refusal → ℕ → List Link → List Link

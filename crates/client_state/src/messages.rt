@@ -3,7 +3,7 @@
 ghost use Rattle.client_state.specs.Calling.{CopiesStay};
 ghost use Rattle.client_state.specs.Learning.{KeepsBounds};
 ghost use Rattle.client_state.specs.Links.{at_repo};
-ghost use Rattle.client_state.specs.Taking.{Without, WrittenWithout, behind, links_behind, took};
+ghost use Rattle.client_state.specs.Taking.{Without, WrittenWithout, next_place, links_behind, took};
 ghost use Rattle.client_state.specs.Writing.{WritesStay};
 ghost use Rattle.client_port.specs.Works.{Does, ReceiveWork};
 ghost use Rattle.std.specs.Prelude.{true, ◌≡◌};
@@ -17,7 +17,7 @@ use thor_value::Orefs;
 
 /// The place behind the entry at a place.
 fn behind(place: u64) -> u64
-    ensures { result ≡ behind place }
+    ensures { result ≡ next_place place }
 {
     place.saturating_add(1)
 }

@@ -13,7 +13,7 @@ use Rattle.log_codec.specs.Format.{value_of}
 use Rattle.log_codec.specs.Grammar.{body_format}
 use Rattle.log_codec.specs.declared.body.Body.{Body}
 use Rattle.log_codec.specs.declared.state.State.{State}
-use Rattle.commit_log.specs.Recovered.{after, behind, can_follow, chosen, counts, is_whole, next, replayed, sequence_end, stands, state_in, whole}
+use Rattle.commit_log.specs.Recovered.{after, after_body, can_follow, chosen, counts, is_whole, next, replayed, sequence_end, stands, state_in, whole}
 use Rattle.disk_trait.specs.AllDisks.{LeavesAll, MayLeaveAll, TellsAll}
 use Rattle.commit_log.specs.Holds.{Under, Holding, Holds, SaysOneOf, beside}
 use Rattle.disk_trait.proofs.Several.{all_of_one, all_settled, all_none}
@@ -62,7 +62,7 @@ where_within false x y z s leads is = cc
 replayed_more : (head : List ℕ) (bodies : List (List ℕ)) (body : List ℕ) (s : State) (b : Body) → value_of body_format body ≡ Some b → replayed head bodies ≡ Some s → replayed head (bodies ++ body ∷ []) ≡ next s b
 unfolding replayed
 replayed_more head bodies body s b spelled state =
-    fold-append behind (option_and_then whole (value_of state_format head)) bodies (body ∷ []) ∙ (ap (λ (o : Option State). behind o body) state ∙ ap (λ (x : Option Body). option_and_then (next s) x) spelled)
+    fold-append after_body (option_and_then whole (value_of state_format head)) bodies (body ∷ []) ∙ (ap (λ (o : Option State). after_body o body) state ∙ ap (λ (x : Option Body). option_and_then (next s) x) spelled)
 
 -- behind one record more the log stands for the state that the record leads to, where it can come next
 pub state_more : (o : Opened) (body : List ℕ) (s : State) (b : Body) → state_in o ≡ Some s → value_of body_format body ≡ Some b → state_in (with_body o body) ≡ next s b

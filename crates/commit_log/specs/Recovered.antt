@@ -149,8 +149,8 @@ abbrev pub next : State → Body → Option State
 next s body = cond (can_follow s body) (Some (after s body)) None
 
 -- the state behind one record more; none where the record's body is none of the format, or can't come next
-abbrev pub behind : Option State → List ℕ → Option State
-behind before body = option_and_then (λ s. option_and_then (next s) (value_of body_format body)) before
+abbrev pub after_body : Option State → List ℕ → Option State
+after_body before body = option_and_then (λ s. option_and_then (next s) (value_of body_format body)) before
 
 -- a state that a log can begin with
 abbrev pub whole : State → Option State
@@ -162,7 +162,7 @@ sequence_end = 2 ^ 62
 
 -- the state of a log's checkpoint and its records
 unfoldable pub replayed : List ℕ → List (List ℕ) → Option State
-replayed head bodies = fold behind (option_and_then whole (value_of state_format head)) bodies
+replayed head bodies = fold after_body (option_and_then whole (value_of state_format head)) bodies
 
 -- what an open log stands for
 abbrev pub state_in : Opened → Option State

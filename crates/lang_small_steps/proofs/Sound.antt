@@ -11,7 +11,7 @@ use Rattle.class_defs.specs.Run.{meaning}
 use Rattle.class_defs.specs.Statements.{block_of, holds, in_order, repeat, statement, statement_at, turn, unless_returned}
 use Rattle.class_defs.specs.Steps.{World, Action, after, ◌>>=◌, ◌>>◌, pure, step, change, number}
 use Rattle.class_defs.specs.Types.{method_of, type_named, type_of}
-use Rattle.lang_small_steps.specs.Resume.{Left, giving, given, taken, ended, value_in, block_in, shorten, inside, outside, print, negated, behind, resume, does, rest_of, next, give, start, begin, open_block, open_body, open_as, enters, ready, collect, go_on, turned, pop, move}
+use Rattle.lang_small_steps.specs.Resume.{Left, giving, given, taken, ended, value_in, block_in, shorten, inside, outside, print, negated, resumed_frame, resume, does, rest_of, next, give, start, begin, open_block, open_body, open_as, enters, ready, collect, go_on, turned, pop, move}
 use Rattle.class_defs.specs.declared.classes.Method.{Method}
 use Rattle.class_defs.specs.declared.expressions.Expr.{Expr, out-Expr}
 use Rattle.class_defs.specs.declared.expressions.Expr.TheOpen.{Expr-F}
@@ -83,42 +83,42 @@ module _ (w : World) where
   start_sound n (Expr-F.Variable name) fs = refl
   start_sound n (Expr-F.New class at) fs = refl
   start_sound n (Expr-F.Parens inner line) fs = refl
-  start_sound n (Expr-F.Negate operand line) fs = makes (value_in w n operand) (λ v. pure (negated v)) (behind w frame.Negate) (resume w fs) (λ v. refl)
+  start_sound n (Expr-F.Negate operand line) fs = makes (value_in w n operand) (λ v. pure (negated v)) (resumed_frame w frame.Negate) (resume w fs) (λ v. refl)
   start_sound n (Expr-F.Binary o l r line) fs =
-      makes (value_in w n l) (λ a. value_in w n r >>= (λ b. pure (combined o a b))) (behind w (frame.Right n o r)) (resume w fs)
+      makes (value_in w n l) (λ a. value_in w n r >>= (λ b. pure (combined o a b))) (resumed_frame w (frame.Right n o r)) (resume w fs)
       (λ a. assoc (value_in w n r) (λ b. pure (combined o a b)) ret)
   start_sound n (Expr-F.Call receiver method arguments) fs = λ i m.
       let t : ExprType = type_of (scope_at w.schema m) receiver in
       makes (value_in w n receiver) (λ r. values_from w (value_in w n) (block_in w n) [] arguments >>= (λ vs. call w (block_in w n) t r method.text vs))
-      (behind w (frame.Callee n t method.text arguments)) (resume w fs) (λ r. refl) i m
+      (resumed_frame w (frame.Callee n t method.text arguments)) (resume w fs) (λ r. refl) i m
 
   turn_sound : (n t : ℕ) (c : Expr) (b : List Stmt) (fs : List Frame)
       → (repeat w (value_in w n) (block_in w n) (suc t) c b >>= resume w fs)
       ≡ ((step >> next (doing.Evaluate n c) (frame.Test n t c b ∷ fs)) >>= rest_of w)
   unfolding repeat
   turn_sound n t c b fs =
-      stepped (value_in w n c) (λ v. turn w (value_in w n) (block_in w n) v b (repeat w (value_in w n) (block_in w n) t c b)) (behind w (frame.Test n t c b)) (resume w fs)
+      stepped (value_in w n c) (λ v. turn w (value_in w n) (block_in w n) v b (repeat w (value_in w n) (block_in w n) t c b)) (resumed_frame w (frame.Test n t c b)) (resume w fs)
       (next (doing.Evaluate n c) (frame.Test n t c b ∷ fs)) refl (λ v. refl)
 
   begin_sound : (n : ℕ) (o : Stmt-F Stmt) (fs : List Frame)
       → (statement_at w (value_in w n) (block_in w n) o >>= resume w fs) ≡ ((step >> begin w n o fs) >>= rest_of w)
   begin_sound n (Stmt-F.Var t name line e) fs =
-      stepped (value_in w n e) (λ v. behind w (frame.Declare (type_named w.schema.classes t) name.text) (Returned v)) (behind w (frame.Declare (type_named w.schema.classes t) name.text)) (resume w fs) (begin w n (Stmt-F.Var t name line e) fs) refl (λ v. refl)
+      stepped (value_in w n e) (λ v. resumed_frame w (frame.Declare (type_named w.schema.classes t) name.text) (Returned v)) (resumed_frame w (frame.Declare (type_named w.schema.classes t) name.text)) (resume w fs) (begin w n (Stmt-F.Var t name line e) fs) refl (λ v. refl)
   begin_sound n (Stmt-F.Assign name line e) fs =
-      stepped (value_in w n e) (λ v. behind w (frame.Assign name.text) (Returned v)) (behind w (frame.Assign name.text)) (resume w fs) (begin w n (Stmt-F.Assign name line e) fs) refl (λ v. refl)
+      stepped (value_in w n e) (λ v. resumed_frame w (frame.Assign name.text) (Returned v)) (resumed_frame w (frame.Assign name.text)) (resume w fs) (begin w n (Stmt-F.Assign name line e) fs) refl (λ v. refl)
   begin_sound n (Stmt-F.FieldAssign field line e) fs =
-      stepped (value_in w n e) (λ v. behind w (frame.FieldAssign field.text) (Returned v)) (behind w (frame.FieldAssign field.text)) (resume w fs) (begin w n (Stmt-F.FieldAssign field line e) fs) refl (λ v. refl)
+      stepped (value_in w n e) (λ v. resumed_frame w (frame.FieldAssign field.text) (Returned v)) (resumed_frame w (frame.FieldAssign field.text)) (resume w fs) (begin w n (Stmt-F.FieldAssign field line e) fs) refl (λ v. refl)
   begin_sound n (Stmt-F.Return e) fs =
-      stepped (value_in w n e) (λ v. behind w frame.Return (Returned v)) (behind w frame.Return) (resume w fs) (begin w n (Stmt-F.Return e) fs) refl (λ v. refl)
+      stepped (value_in w n e) (λ v. resumed_frame w frame.Return (Returned v)) (resumed_frame w frame.Return) (resume w fs) (begin w n (Stmt-F.Return e) fs) refl (λ v. refl)
   begin_sound n (Stmt-F.If e b) fs =
-      stepped (value_in w n e) (λ v. behind w (frame.Branch n b) (Returned v)) (behind w (frame.Branch n b)) (resume w fs) (begin w n (Stmt-F.If e b) fs) refl (λ v. refl)
+      stepped (value_in w n e) (λ v. resumed_frame w (frame.Branch n b) (Returned v)) (resumed_frame w (frame.Branch n b)) (resume w fs) (begin w n (Stmt-F.If e b) fs) refl (λ v. refl)
   begin_sound n (Stmt-F.IfElse e b d) fs =
-      stepped (value_in w n e) (λ v. behind w (frame.Branches n b d) (Returned v)) (behind w (frame.Branches n b d)) (resume w fs) (begin w n (Stmt-F.IfElse e b d) fs) refl (λ v. refl)
+      stepped (value_in w n e) (λ v. resumed_frame w (frame.Branches n b d) (Returned v)) (resumed_frame w (frame.Branches n b d)) (resume w fs) (begin w n (Stmt-F.IfElse e b d) fs) refl (λ v. refl)
   begin_sound n (Stmt-F.While c b) fs = turn_sound n 100000 c b fs
   begin_sound n (Stmt-F.Print e) fs =
-      stepped (value_in w n e) (λ v. behind w frame.Print (Returned v)) (behind w frame.Print) (resume w fs) (begin w n (Stmt-F.Print e) fs) refl (λ v. refl)
+      stepped (value_in w n e) (λ v. resumed_frame w frame.Print (Returned v)) (resumed_frame w frame.Print) (resume w fs) (begin w n (Stmt-F.Print e) fs) refl (λ v. refl)
   begin_sound n (Stmt-F.Evaluate e) fs =
-      stepped (value_in w n e) (λ v. behind w frame.Discard (Returned v)) (behind w frame.Discard) (resume w fs) (begin w n (Stmt-F.Evaluate e) fs) refl (λ v. refl)
+      stepped (value_in w n e) (λ v. resumed_frame w frame.Discard (Returned v)) (resumed_frame w frame.Discard) (resume w fs) (begin w n (Stmt-F.Evaluate e) fs) refl (λ v. refl)
 
   -- a block, and what is behind it
   block_sound : (n : ℕ) (ss : List Stmt) (fs : List Frame) → (block_in w n ss >>= resume w fs) ≡ (open_block n ss fs >>= rest_of w)
@@ -141,7 +141,7 @@ module _ (w : World) where
           let t : ExprType = type_named w.schema.classes method.result in
           let inner : Action Flow = block_in w n method.body in
           let entered : Machine = inside w this method vs m in
-          let end : Flow → Action Flow = behind w (frame.BodyEnd m.depth m.this m.locals t) in
+          let end : Flow → Action Flow = resumed_frame w (frame.BodyEnd m.depth m.this m.locals t) in
           ap (λ (q : Action Flow). (q >>= resume w fs) entered) (assoc inner last ret)
           ∙ ap (λ (q : Action Flow). q entered) (assoc inner (λ flow. last flow >>= ret) (resume w fs))
           ∙ ap (λ (q : Action Flow). q entered) (under inner (λ flow. (last flow >>= ret) >>= resume w fs) (λ flow. end flow >>= resume w fs)
@@ -194,7 +194,7 @@ module _ (w : World) where
       let more : Value → Action (List Value) = λ v. values_from w (value_in w n) (block_in w n) (vs ++ v ∷ []) es in
       let done : List Value → Action Value = λ us. call w (block_in w n) t r name us in
       ap (λ (q : Action Value). giving q >>= resume w fs) (assoc p more done)
-      ∙ makes p (λ v. more v >>= done) (behind w (frame.Arguments n t r name vs es)) (resume w fs) (λ v. refl)
+      ∙ makes p (λ v. more v >>= done) (resumed_frame w (frame.Arguments n t r name vs es)) (resume w fs) (λ v. refl)
 
   either_sound : (b : Bool) (p q : Action Flow) (x y : Action Left) (k : Flow → Action Flow)
       → (p >>= k) ≡ (x >>= rest_of w) → (q >>= k) ≡ (y >>= rest_of w) → ((if b then p else q) >>= k) ≡ ((if b then x else y) >>= rest_of w)
@@ -214,9 +214,9 @@ module _ (w : World) where
   again_sound n zero c b Next fs = refl
   again_sound n (suc t) c b Next fs = turn_sound n t c b fs
 
-  pop_sound : (f : Frame) (g : Flow) (fs : List Frame) → (behind w f g >>= resume w fs) ≡ (pop w f g fs >>= rest_of w)
+  pop_sound : (f : Frame) (g : Flow) (fs : List Frame) → (resumed_frame w f g >>= resume w fs) ≡ (pop w f g fs >>= rest_of w)
   pop_sound frame.Negate g fs = refl
-  pop_sound (frame.Right n o e) g fs = waits (value_in w n e) (λ b. pure (Returned (combined o (given g) b))) (behind w (frame.Combine o (given g))) (resume w fs) (λ v. refl)
+  pop_sound (frame.Right n o e) g fs = waits (value_in w n e) (λ b. pure (Returned (combined o (given g) b))) (resumed_frame w (frame.Combine o (given g))) (resume w fs) (λ v. refl)
   pop_sound (frame.Combine o a) g fs = refl
   pop_sound (frame.Callee n t name es) g fs = collect_sound n t (given g) name [] es fs
   pop_sound (frame.Arguments n t r name done es) g fs = collect_sound n t r name (taken done g) es fs

@@ -76,29 +76,29 @@ abbrev pub negated : Value → Value
 negated v = value.Int (int_wrapping_sub w64 (pos 0) (number v))
 
 -- what a frame does with what it is given
-abbrev pub behind : World → Frame → Flow → Action Flow
-behind w frame.Negate g = pure (Returned (negated (given g)))
-behind w (frame.Right n o e) g = value_in w n e >>= (λ b. pure (Returned (combined o (given g) b)))
-behind w (frame.Combine o a) g = pure (Returned (combined o a (given g)))
-behind w (frame.Callee n t name es) g = giving (values_from w (value_in w n) (block_in w n) [] es >>= (λ vs. call w (block_in w n) t (given g) name vs))
-behind w (frame.Arguments n t r name done es) g = giving (values_from w (value_in w n) (block_in w n) (taken done g) es >>= (λ vs. call w (block_in w n) t r name vs))
-behind w (frame.BodyEnd d this ls t) g = change (outside d this ls) >> pure (Returned (ended t g))
-behind w (frame.Declare t name) g = change (declare t name (given g)) >> pure Next
-behind w (frame.Assign name) g = change (assign_local name (given g)) >> pure Next
-behind w (frame.FieldAssign name) g = change (assign_field w name (given g)) >> pure Next
-behind w frame.Return g = pure (Returned (given g))
-behind w (frame.Branch n b) g = branch w (value_in w n) (block_in w n) (given g) (block_in w n b) (pure Next)
-behind w (frame.Branches n b c) g = branch w (value_in w n) (block_in w n) (given g) (block_in w n b) (block_in w n c)
-behind w frame.Print g = change (print (given g)) >> pure Next
-behind w frame.Discard g = pure Next
-behind w (frame.Rest n ss) g = unless_returned g (in_order (meaning w n).execute ss)
-behind w (frame.BlockEnd k) g = change (shorten k) >> pure g
-behind w (frame.Test n t c b) g = turn w (value_in w n) (block_in w n) (given g) b (repeat w (value_in w n) (block_in w n) t c b)
-behind w (frame.Again n t c b) g = unless_returned g (repeat w (value_in w n) (block_in w n) t c b)
+abbrev pub resumed_frame : World → Frame → Flow → Action Flow
+resumed_frame w frame.Negate g = pure (Returned (negated (given g)))
+resumed_frame w (frame.Right n o e) g = value_in w n e >>= (λ b. pure (Returned (combined o (given g) b)))
+resumed_frame w (frame.Combine o a) g = pure (Returned (combined o a (given g)))
+resumed_frame w (frame.Callee n t name es) g = giving (values_from w (value_in w n) (block_in w n) [] es >>= (λ vs. call w (block_in w n) t (given g) name vs))
+resumed_frame w (frame.Arguments n t r name done es) g = giving (values_from w (value_in w n) (block_in w n) (taken done g) es >>= (λ vs. call w (block_in w n) t r name vs))
+resumed_frame w (frame.BodyEnd d this ls t) g = change (outside d this ls) >> pure (Returned (ended t g))
+resumed_frame w (frame.Declare t name) g = change (declare t name (given g)) >> pure Next
+resumed_frame w (frame.Assign name) g = change (assign_local name (given g)) >> pure Next
+resumed_frame w (frame.FieldAssign name) g = change (assign_field w name (given g)) >> pure Next
+resumed_frame w frame.Return g = pure (Returned (given g))
+resumed_frame w (frame.Branch n b) g = branch w (value_in w n) (block_in w n) (given g) (block_in w n b) (pure Next)
+resumed_frame w (frame.Branches n b c) g = branch w (value_in w n) (block_in w n) (given g) (block_in w n b) (block_in w n c)
+resumed_frame w frame.Print g = change (print (given g)) >> pure Next
+resumed_frame w frame.Discard g = pure Next
+resumed_frame w (frame.Rest n ss) g = unless_returned g (in_order (meaning w n).execute ss)
+resumed_frame w (frame.BlockEnd k) g = change (shorten k) >> pure g
+resumed_frame w (frame.Test n t c b) g = turn w (value_in w n) (block_in w n) (given g) b (repeat w (value_in w n) (block_in w n) t c b)
+resumed_frame w (frame.Again n t c b) g = unless_returned g (repeat w (value_in w n) (block_in w n) t c b)
 
 abbrev pub resume : World → List Frame → Flow → Action Flow
 resume w [] g = pure g
-resume w (f ∷ fs) g = behind w f g >>= resume w fs
+resume w (f ∷ fs) g = resumed_frame w f g >>= resume w fs
 
 abbrev pub does : World → Doing → Action Flow
 does w (doing.Evaluate n e) = giving (value_in w n e)

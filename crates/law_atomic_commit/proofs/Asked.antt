@@ -1,7 +1,7 @@
 -- What a coordinator answers about a transaction is told rightly.
 use Rattle.law_atomic_commit.proofs.Committing.{AloneIn, CommittedIn, among-lookup, and-both, decided-committed, kept-decided, last_in, made, or-cases, singles-committed, still-kept}
 use Rattle.law_atomic_commit.proofs.Parts.{some-none, there}
-use Rattle.law_atomic_commit.specs.Asking.{ForgottenAreFinished, IsFollowed, IsGivenUp, SinglesWereBefore, answer_by, state_of, told}
+use Rattle.law_atomic_commit.specs.Asking.{ForgottenAreFinished, IsFollowed, IsGivenUp, SinglesWereBefore, answer_by, state_of, coordinator_answer}
 use Rattle.law_atomic_commit.specs.Growing.{MayFinish}
 use Rattle.law_atomic_commit.specs.Several.{Alike, AreSound, HasCommitted, IsAtomic, Repositories, histories, part}
 use Rattle.log_entries.specs.declared.entry.Entry.{Entry}
@@ -116,7 +116,7 @@ module _ (R : Repositories) (sd : AreSound (histories R)) where
   own t w is = sym (sd.numbered t.repo (there (histories R) sd t.repo t w is))
 
   -- what is committed has committed, or did so in an earlier run
-  pub committed-told : (t : Ts) → told R t ≡ Settled true → ((w : Known) × HasCommitted (histories R) t w) ⊎ (is_last_alone (R.base t.repo) [] t ≡ true)
+  pub committed-told : (t : Ts) → coordinator_answer R t ≡ Settled true → ((w : Known) × HasCommitted (histories R) t w) ⊎ (is_last_alone (R.base t.repo) [] t ≡ true)
   committed-told t h =
       let b = R.base t.repo in
       let T = R.trace t.repo in
@@ -133,7 +133,7 @@ module _ (R : Repositories) (sd : AreSound (histories R)) where
       stands k = (k.0, record { there = k.1; commits = k.2 })
 
   -- what has committed and isn't forgotten is told so: where it has other participants, and where it is the last alone
-  pub remembered : (t : Ts) (w : Known) → HasCommitted (histories R) t w → is_forgotten (R.trace t.repo) t ≡ false → (w.request.others ≢ []) ⊎ (is_last_alone (R.base t.repo) (R.trace t.repo) t ≡ true) → told R t ≡ Settled true
+  pub remembered : (t : Ts) (w : Known) → HasCommitted (histories R) t w → is_forgotten (R.trace t.repo) t ≡ false → (w.request.others ≢ []) ⊎ (is_last_alone (R.base t.repo) (R.trace t.repo) t ≡ true) → coordinator_answer R t ≡ Settled true
   remembered t w h kept why =
       let b = R.base t.repo in
       let T = R.trace t.repo in
@@ -149,7 +149,7 @@ module _ (R : Repositories) (sd : AreSound (histories R)) where
       ]
 
   -- what is told to be aborted is given up
-  pub aborted-told : (t : Ts) → told R t ≡ Settled false → IsGivenUp R t
+  pub aborted-told : (t : Ts) → coordinator_answer R t ≡ Settled false → IsGivenUp R t
   aborted-told t h =
       let b = R.base t.repo in
       let T = R.trace t.repo in
@@ -187,7 +187,7 @@ module _ (R : Repositories) (sd : AreSound (histories R)) where
 
   module _ (at : IsAtomic (histories R)) where
     -- what is told to be undecided is so wherever it stands
-    pub open-told : (t : Ts) → told R t ≡ Undecided → (n : ℕ) (o : Known) → part (histories R) n t ≡ Some o → o.fate ≡ Open
+    pub open-told : (t : Ts) → coordinator_answer R t ≡ Undecided → (n : ℕ) (o : Known) → part (histories R) n t ≡ Some o → o.fate ≡ Open
     open-told t h n o is =
         let k = undecided-known (part (histories R) t.repo t) (and-both (is_undecided (part (histories R) t.repo t)) (nat_eq t.repo (R.base t.repo).repo) (said-open _ _ h)).0 in
         by k.0 k.1 k.2 o.fate refl
@@ -209,7 +209,7 @@ module _ (R : Repositories) (sd : AreSound (histories R)) where
           or-false false k = k
 
       -- it may be finished as it is told
-      pub may-commit : SinglesWereBefore R → told R t ≡ Settled true → MayFinish (histories R) t true
+      pub may-commit : SinglesWereBefore R → coordinator_answer R t ≡ Settled true → MayFinish (histories R) t true
       may-commit before h = elim (committed-told t h) [
         | inl k ↦ k
         | inr single ↦
@@ -228,7 +228,7 @@ module _ (R : Repositories) (sd : AreSound (histories R)) where
               let above = life-above b (take w.place H) (sound_take b w.place H (sd.each t.repo)) begun in
               absurd (omega (arith, living, above, l))
 
-      pub may-abort : Alike (histories R) → ForgottenAreFinished R → told R t ≡ Settled false → MayFinish (histories R) t false
+      pub may-abort : Alike (histories R) → ForgottenAreFinished R → coordinator_answer R t ≡ Settled false → MayFinish (histories R) t false
       may-abort al forgotten h = by (aborted-told t h)
         where
           by : IsGivenUp R t → MayFinish (histories R) t false

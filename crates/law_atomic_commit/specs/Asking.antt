@@ -20,8 +20,8 @@ answer_by Committed = Settled true
 answer_by table.Aborted = Settled false
 
 -- how the coordinator of t answers about it
-abbrev pub told : Repositories → Ts → Asked
-told R t = asked (R.base t.repo) (R.trace t.repo) t
+abbrev pub coordinator_answer : Repositories → Ts → Asked
+coordinator_answer R t = asked (R.base t.repo) (R.trace t.repo) t
 
 -- the state of the coordinator of t
 abbrev pub state_of : Repositories → Ts → State

@@ -1,6 +1,6 @@
 //! What is proved of a coordinator that is asked about a transaction.
 
-ghost use Rattle.law_atomic_commit.specs.Asking.{ForgottenAreFinished, IsFinished, IsGivenUp, SinglesWereBefore, answer_by, told};
+ghost use Rattle.law_atomic_commit.specs.Asking.{ForgottenAreFinished, IsFinished, IsGivenUp, SinglesWereBefore, answer_by, coordinator_answer};
 ghost use Rattle.law_atomic_commit.specs.Growing.{Continues, MayFinish};
 ghost use Rattle.law_atomic_commit.specs.Several.{Alike, AreSound, HasCommitted, IsAtomic, Repositories, histories, part, with_item};
 ghost use Rattle.log_entries.specs.declared.entry.Entry.{Entry};
@@ -19,20 +19,20 @@ ghost use Rattle.two_phase.specs.Contents.{Contents, keeps, open_at, standing};
 /// client; what has committed otherwise it says is committed. So whoever has the transaction undecided at another
 /// repository may finish it as it is told.
 pub fn what_is_asked_is_told_rightly()
-    ensures undecided { (R : Repositories) → AreSound (histories R) → IsAtomic (histories R) → (t : Ts) → told R t ≡ Undecided →
+    ensures undecided { (R : Repositories) → AreSound (histories R) → IsAtomic (histories R) → (t : Ts) → coordinator_answer R t ≡ Undecided →
         (n : ℕ) (o : Known) → part (histories R) n t ≡ Some o → o.fate ≡ Open }
-    ensures committed { (R : Repositories) → AreSound (histories R) → (t : Ts) → told R t ≡ Settled true →
+    ensures committed { (R : Repositories) → AreSound (histories R) → (t : Ts) → coordinator_answer R t ≡ Settled true →
         ((w : Known) × HasCommitted (histories R) t w) ⊎ (is_last_alone (R.base t.repo) [] t ≡ true) }
-    ensures aborted { (R : Repositories) → AreSound (histories R) → (t : Ts) → told R t ≡ Settled false → IsGivenUp R t }
+    ensures aborted { (R : Repositories) → AreSound (histories R) → (t : Ts) → coordinator_answer R t ≡ Settled false → IsGivenUp R t }
     ensures remembered { (R : Repositories) → AreSound (histories R) → (t : Ts) (w : Known) → HasCommitted (histories R) t w →
         is_forgotten (R.trace t.repo) t ≡ false →
-        (w.request.others ≢ []) ⊎ (is_last_alone (R.base t.repo) (R.trace t.repo) t ≡ true) → told R t ≡ Settled true }
+        (w.request.others ≢ []) ⊎ (is_last_alone (R.base t.repo) (R.trace t.repo) t ≡ true) → coordinator_answer R t ≡ Settled true }
     ensures commits { (R : Repositories) → AreSound (histories R) → IsAtomic (histories R) → SinglesWereBefore R →
         (n : ℕ) (t : Ts) (o : Known) → n ≢ t.repo → part (histories R) n t ≡ Some o → o.fate ≡ Open →
-        told R t ≡ Settled true → MayFinish (histories R) t true }
+        coordinator_answer R t ≡ Settled true → MayFinish (histories R) t true }
     ensures aborts { (R : Repositories) → AreSound (histories R) → IsAtomic (histories R) → Alike (histories R) → ForgottenAreFinished R →
         (n : ℕ) (t : Ts) (o : Known) → n ≢ t.repo → part (histories R) n t ≡ Some o → o.fate ≡ Open →
-        told R t ≡ Settled false → MayFinish (histories R) t false }
+        coordinator_answer R t ≡ Settled false → MayFinish (histories R) t false }
 {}
 
 /// A table of transactions in two phases answers about what its repository coordinates as the trace has it, where what

@@ -3,7 +3,7 @@
 
 ghost use Rattle.law_atomic_commit.specs.AcrossExamples.{abroad, at, box, crossing, dropped, hasty, parted, unheard, z};
 ghost use Rattle.law_atomic_commit.specs.AskedExamples.{coordinated};
-ghost use Rattle.law_atomic_commit.specs.Asking.{told};
+ghost use Rattle.law_atomic_commit.specs.Asking.{coordinator_answer};
 ghost use Rattle.law_atomic_commit.specs.AtomicTest.{is_agreed, is_everywhere, is_given_up, is_known_there};
 ghost use Rattle.law_atomic_commit.specs.Several.{committed, histories};
 ghost use Rattle.spec_history.specs.Checking.{is_sound};
@@ -60,11 +60,11 @@ pub fn needs_all_participants()
 pub fn answers_of_a_coordinator()
     ensures sound { (is_sound (coordinated.base 0) ((histories coordinated).history 0) && is_sound (coordinated.base 1) ((histories coordinated).history 1)) ≡ true }
     ensures atomic { (is_known_there (histories coordinated) && is_everywhere (histories coordinated) && is_agreed (histories coordinated) && is_given_up (histories coordinated)) ≡ true }
-    ensures forgotten { told coordinated (at 1) ≡ Settled false }
-    ensures aborted { told coordinated (at 2) ≡ Settled false }
-    ensures kept { told coordinated (at 3) ≡ Settled true }
-    ensures followed { told coordinated (at 4) ≡ Settled false }
-    ensures alone { told coordinated (at 5) ≡ Settled true }
-    ensures undecided { told coordinated (at 6) ≡ Undecided }
-    ensures unseen { told coordinated (at 7) ≡ Settled false }
+    ensures forgotten { coordinator_answer coordinated (at 1) ≡ Settled false }
+    ensures aborted { coordinator_answer coordinated (at 2) ≡ Settled false }
+    ensures kept { coordinator_answer coordinated (at 3) ≡ Settled true }
+    ensures followed { coordinator_answer coordinated (at 4) ≡ Settled false }
+    ensures alone { coordinator_answer coordinated (at 5) ≡ Settled true }
+    ensures undecided { coordinator_answer coordinated (at 6) ≡ Undecided }
+    ensures unseen { coordinator_answer coordinated (at 7) ≡ Settled false }
 {}

@@ -5,7 +5,7 @@ use Rattle.law_cache_coherence.proofs.Growing.{agrees_before, grown}
 use Rattle.law_cache_coherence.proofs.Linked.{become, outlives_while, tells_took}
 use Rattle.law_cache_coherence.proofs.Staying.{clients_stay, is_own, lives_stands, when_live}
 use Rattle.law_cache_coherence.proofs.Working as works
-use Rattle.law_cache_coherence.specs.Fitting.{Agrees, Copies, FitsAt, HoldsNone, Kept, NoneToFinish, SameCopies, awaits_behind, stands}
+use Rattle.law_cache_coherence.specs.Fitting.{Agrees, Copies, FitsAt, HoldsNone, Kept, NoneToFinish, SameCopies, awaits_behind, is_unended}
 use Rattle.law_cache_coherence.specs.Links.{Becomes, BringsContent, FitsOrNone}
 use Rattle.law_cache_coherence.specs.Seen.{IsSeenRight, LinkAt, LinkIn}
 use Rattle.client_state.specs.Calling.{Connects, CopiesBehind, CopiesLost, CopiesRefused, CopiesStay, Draws, Fetches, Grants, is_session_of, links_asked, links_drawn, links_joined, links_refused}
@@ -74,8 +74,8 @@ module _ (old new : View) (n : ℕ) (committed : Ts → Bool) (same : new.opened
   pub none_aborted_now : NoneAborted (old.opened.base n) (entries (new.seen n)) committed
   none_aborted_now = subst (λ (o : Opened). NoneAborted (o.base n) (entries (new.seen n)) committed) same (seen.agrees 0).kept
 
-  agrees_standing : (s : ℕ) → new.unsettled n ≡ Calm → stands (session (old.opened.base n) (new.seen n) s) ≡ true → Agrees (old.opened.base n) (entries (new.seen n)) s committed
-  agrees_standing s = subst (λ (o : Opened). new.unsettled n ≡ Calm → stands (session (o.base n) (new.seen n) s) ≡ true → Agrees (o.base n) (entries (new.seen n)) s committed) same (λ calm on. record { kept = (seen.agrees s).kept; led = (seen.agrees s).led calm on })
+  agrees_standing : (s : ℕ) → new.unsettled n ≡ Calm → is_unended (session (old.opened.base n) (new.seen n) s) ≡ true → Agrees (old.opened.base n) (entries (new.seen n)) s committed
+  agrees_standing s = subst (λ (o : Opened). new.unsettled n ≡ Calm → is_unended (session (o.base n) (new.seen n) s) ≡ true → Agrees (o.base n) (entries (new.seen n)) s committed) same (λ calm on. record { kept = (seen.agrees s).kept; led = (seen.agrees s).led calm on })
 
   pub agrees_now : (s : ℕ) → new.unsettled n ≡ Calm → lives (session (old.opened.base n) (new.seen n) s) ≡ true → Agrees (old.opened.base n) (entries (new.seen n)) s committed
   agrees_now s calm live = agrees_standing s calm (lives_stands (session (old.opened.base n) (new.seen n) s) live)
@@ -176,7 +176,7 @@ module _ (old new : View) (r : ℕ) (committed : Ts → Bool) (at : List Item) (
   split f = ap entries f.1 ∙ entries-append at f.0
 
   -- what is kept fits the trace at the call
-  pub met_standing : Front at after → (kept' : Kept) → FitsAt c b (old.unsettled r) (old.seen r) committed kept' → u ≡ Calm → stands (session b after kept'.session) ≡ true → FitsAt c b met at committed kept'
+  pub met_standing : Front at after → (kept' : Kept) → FitsAt c b (old.unsettled r) (old.seen r) committed kept' → u ≡ Calm → is_unended (session b after kept'.session) ≡ true → FitsAt c b met at committed kept'
   met_standing f k h calm on =
       let here : sound b (entries at ++ entries f.0) = subst (sound b) (split f) sd in
       grown c b committed k (old.unsettled r) met (old.seen r) at called.reached (exact-beginning b at f.0 (subst (exact b) f.1 (exact_now old new r committed called.same seen))) (sound-beginning b (entries at) (entries f.0) here)

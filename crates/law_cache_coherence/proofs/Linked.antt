@@ -6,7 +6,7 @@ use Rattle.law_cache_coherence.specs.Fitting.{Agrees, Copies, Kept, SameCopies, 
 use Rattle.law_cache_coherence.specs.Links.{Becomes, BringsContent, LinkFits, kept_by}
 use Rattle.client_state.specs.Learning.{without_session}
 use Rattle.client_state.specs.Links.{is_reply}
-use Rattle.client_state.specs.Taking.{behind, took}
+use Rattle.client_state.specs.Taking.{next_place, took}
 use Rattle.client_state.specs.declared.link.Link.TheVariants.{Apart, Joined, Unsettled}
 use Rattle.client_state.specs.declared.link.Link.{Link}
 use Rattle.client_state.specs.declared.link.Waits.TheVariants.{Epoch, Idle, Past, Reply}
@@ -39,7 +39,7 @@ use Rattle.thor_value.specs.declared.values.Obj.{Obj}
 
 -- ---- links
 
-below_top : (n : ℕ) → n + 1 < 2 ^ 64 → behind n ≡ n + 1
+below_top : (n : ℕ) → n + 1 < 2 ^ 64 → next_place n ≡ n + 1
 below_top n h = omega arith
 
 pub tells_took : (m : Message) (s upto : ℕ) (waits : Waits) (copies : Copies) → (is_news (notice_of m) ≡ true → place_of (notice_of m) + 1 < 2 ^ 64)

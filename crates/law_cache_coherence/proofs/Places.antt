@@ -34,7 +34,7 @@ use Rattle.thor_value.specs.declared.names.Oref.{Oref}
 use Rattle.thor_value.specs.declared.names.Ts.{Ts}
 use Rattle.validation_queue.specs.Clashes.{first_some, is_before}
 use Rattle.validation_queue.specs.Contents.{room_for}
-use Rattle.repo_refusals.specs.Refusals.{bar, behind, blocks, bytes_of, comes_earlier, comes_later, first_refusal, full, full_of_undecided, full_of_writes, least_name, reads_from, set_of, too_old, writes_over}
+use Rattle.repo_refusals.specs.Refusals.{bar, other_epoch, blocks, bytes_of, comes_earlier, comes_later, first_refusal, full, full_of_undecided, full_of_writes, least_name, reads_from, set_of, too_old, writes_over}
 use Rattle.repo_refusals.specs.Window.{Window, first_decided, window}
 use Rattle.repo_refusals.specs.declared.refusal.Refusal.TheVariants as refused
 use Rattle.repo_refusals.specs.declared.refusal.Refusal.{Refusal}
@@ -108,11 +108,11 @@ only_stale b S W st q x k h = blocked (one_of _ _ _ h)
     at_bar (inl e) = no_bar x k (is_before (bar W q) q.tx) (bar W q) e
     at_bar (inr e) = at_set (one_of _ _ _ e)
 
-    at_epoch : (behind S q ≡ Stale x k) ⊎ (option_or (too_old W q) (option_or st (option_or (first_some (comes_earlier q) W.members.pairs) (option_or (first_some (comes_later q) W.members.pairs) (full b W q)))) ≡ Stale x k) → st ≡ Stale x k
+    at_epoch : (other_epoch S q ≡ Stale x k) ⊎ (option_or (too_old W q) (option_or st (option_or (first_some (comes_earlier q) W.members.pairs) (option_or (first_some (comes_later q) W.members.pairs) (full b W q)))) ≡ Stale x k) → st ≡ Stale x k
     at_epoch (inl e) = no_epoch x k _ _ e
     at_epoch (inr e) = at_bar (one_of _ _ _ e)
 
-    blocked : (first_some (blocks q) W.members.pairs ≡ Stale x k) ⊎ (option_or (behind S q) (option_or (too_old W q) (option_or st (option_or (first_some (comes_earlier q) W.members.pairs) (option_or (first_some (comes_later q) W.members.pairs) (full b W q))))) ≡ Stale x k) → st ≡ Stale x k
+    blocked : (first_some (blocks q) W.members.pairs ≡ Stale x k) ⊎ (option_or (other_epoch S q) (option_or (too_old W q) (option_or st (option_or (first_some (comes_earlier q) W.members.pairs) (option_or (first_some (comes_later q) W.members.pairs) (full b W q))))) ≡ Stale x k) → st ≡ Stale x k
     blocked (inl e) = let f = found (blocks q) W.members.pairs _ e in no_block x k (not f.0.1.decided && (is_upgrade q || is_upgrade f.0.1.request)) f.0.0 f.1
     blocked (inr e) = at_epoch (one_of _ _ _ e)
 
@@ -354,7 +354,7 @@ module _ (n : ℕ) {A : Type 0} where
 none_lost : {A : Type 0} (b : Base) (S : State) (W : Window) (f : Oref → Option Refusal) (names : List Oref) (q : Request) (n : ℕ) → ((y : Oref) → f y ≡ Some (refused.Reason (reasons.Gone n)) → A) → first_refusal S W (first_some f names) (full b W q) q ≡ Some (refused.Reason (reasons.Gone n)) → A
 none_lost {A} b S W f names q n no_stale h = elim (one_of (first_some (blocks q) W.members.pairs) _ _ h) [
   | inl e ↦ let k = found (blocks q) W.members.pairs _ e in not_blocked n (not k.0.1.decided && (is_upgrade q || is_upgrade k.0.1.request)) k.0.0 k.1
-  | inr g ↦ elim (one_of (behind S q) _ _ g) [
+  | inr g ↦ elim (one_of (other_epoch S q) _ _ g) [
     | inl e ↦ not_epoch n _ _ e
     | inr g1 ↦ elim (one_of (too_old W q) _ _ g1) [
       | inl e ↦ not_old n (is_before (bar W q) q.tx) (bar W q) e

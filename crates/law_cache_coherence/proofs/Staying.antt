@@ -1,7 +1,7 @@
 -- A client's session is there behind more items, and what is kept there fits where it does while the session is live and nothing is
 -- unsettled.
 use Rattle.law_cache_coherence.proofs.Telling.{client_stays, of_client}
-use Rattle.law_cache_coherence.specs.Fitting.{FitsAt, KeepsUp, Kept, stands}
+use Rattle.law_cache_coherence.specs.Fitting.{FitsAt, KeepsUp, Kept, is_unended}
 use Rattle.spec_history.specs.History.{Base, State}
 use Rattle.client_port.specs.Views.{Calm, Unsettled}
 use Rattle.spec_trace.proofs.Exactness.{exact-beginning, exact-owed}
@@ -18,7 +18,7 @@ use Rattle.std.specs.Prelude.{None, Option, Some, not}
 use Rattle.thor_value.specs.declared.names.Ts.{Ts}
 
 -- a live session hasn't ended
-pub lives_stands : (o : Option Session) → lives o ≡ true → stands o ≡ true
+pub lives_stands : (o : Option Session) → lives o ≡ true → is_unended o ≡ true
 lives_stands None e = cc
 lives_stands (Some v) e = by v.stage e
   where
@@ -28,7 +28,7 @@ lives_stands (Some v) e = by v.stage e
     by Ended e = cc
 
 -- one that was live hasn't ended behind an item that ends none of its client
-pub moved_stands : (b : Base) (s : ℕ) (S : State) (i : Item) (v : Session) → session_lives v ≡ true → lives_on v.client i ≡ true → stands (Some (move b s S i v)) ≡ true
+pub moved_stands : (b : Base) (s : ℕ) (S : State) (i : Item) (v : Session) → session_lives v ≡ true → lives_on v.client i ≡ true → is_unended (Some (move b s S i v)) ≡ true
 moved_stands b s S i v live on = ap (λ (t : Bool). not (session_ended (cond t (or_retired b (moved b s S v i)) (rested v i)))) live ∙ by (is_silent b.silence (moved b s S v i))
   where
     plain : (t : Bool) → t ≡ true → not (is_ended (cond t Live Ended)) ≡ true

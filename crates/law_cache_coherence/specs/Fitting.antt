@@ -42,15 +42,15 @@ pub record Agrees (b : Base) (H : List Entry) (s : ℕ) (committed : Ts → Bool
   pub led : (t : Ts) (o : Known) → known_by b H t ≡ Some o → o.request.session ≡ s → IsCommitted o.fate → committed t ≡ true
 
 -- whether there is a session that hasn't ended
-abbrev pub stands : Option Session → Bool
-stands None = false
-stands (Some v) = not (session_ended v)
+abbrev pub is_unended : Option Session → Bool
+is_unended None = false
+is_unended (Some v) = not (session_ended v)
 
 -- It agrees so with the trace T, where the second is asked only of a session that hasn't ended, while nothing is unsettled: a
 -- decision that came while its call stopped isn't counted before the client is told.
 pub record AgreesStanding (b : Base) (u : Unsettled) (T : List Item) (s : ℕ) (committed : Ts → Bool) : Type 0 where
   pub kept : NoneAborted b (entries T) committed
-  pub led : u ≡ Calm → stands (session b T s) ≡ true → (t : Ts) (o : Known) → known_by b (entries T) t ≡ Some o → o.request.session ≡ s → IsCommitted o.fate → committed t ≡ true
+  pub led : u ≡ Calm → is_unended (session b T s) ≡ true → (t : Ts) (o : Known) → known_by b (entries T) t ≡ Some o → o.request.session ≡ s → IsCommitted o.fate → committed t ≡ true
 
 -- ---- copies
 

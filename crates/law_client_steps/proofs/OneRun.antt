@@ -19,7 +19,7 @@ use Rattle.log_entries.specs.declared.entry.Entry.TheVariants.{Life, One}
 use Rattle.law_client_steps.proofs.OneAmong.{among}
 use Rattle.law_client_steps.proofs.OneStep.{begins}
 use Rattle.law_client_steps.proofs.Trying.{sees_kept, sees_written}
-use Rattle.law_client_steps.specs.OneExample.{HoldsOnTheWay, HoldsThis, asking, behind, behind_it, made, restarted, seeing, stopped, stopping, whole}
+use Rattle.law_client_steps.specs.OneExample.{HoldsOnTheWay, HoldsThis, asking, position_after, behind_it, made, restarted, seeing, stopped, stopping, whole}
 use Rattle.law_client_steps.specs.OneRepository.{FitsOne, HasOneRepository, Leads}
 use Rattle.law_client_steps.specs.Positions.{Stepped, Waited}
 use Rattle.law_client_steps.specs.SingleParts.{LeadsSingly}
@@ -247,7 +247,7 @@ module _ (first joined drawn waits taken last : Held) (h : HoldsOnTheWay first j
       by true = record { gap = M (the.Connected 2 2) ∷ []; gains = (Calm, ((λ e. cc), refl), tt); ends = refl }
       by false = still only []
 
-  pub run : Leads (behind 1 first) (behind 2 joined ∷ behind 3 drawn ∷ behind 4 waits ∷ behind 5 taken ∷ behind 6 last ∷ []) (behind 7 last)
+  pub run : Leads (position_after 1 first) (position_after 2 joined ∷ position_after 3 drawn ∷ position_after 4 waits ∷ position_after 5 taken ∷ position_after 6 last ∷ []) (position_after 7 last)
   unfolding connects draws asks takes commits
   run = (
     Stepped connects refl tt (one_at (take 2 whole) (drop 2 whole) refl (omega arith)),
@@ -266,7 +266,7 @@ module _ (first joined drawn waits taken last : Held) (h : HoldsOnTheWay first j
     ),
   )
 
-  pub run_singly : LeadsSingly (behind 1 first) (behind 2 joined ∷ behind 3 drawn ∷ behind 4 waits ∷ behind 5 taken ∷ behind 6 last ∷ []) (behind 7 last)
+  pub run_singly : LeadsSingly (position_after 1 first) (position_after 2 joined ∷ position_after 3 drawn ∷ position_after 4 waits ∷ position_after 5 taken ∷ position_after 6 last ∷ []) (position_after 7 last)
   unfolding connects draws asks takes commits
   run_singly = (
     Stepped connects refl tt (among (take 2 whole) (one_at (take 2 whole) (drop 2 whole) refl (omega arith))),
@@ -314,12 +314,12 @@ module _ (first joined drawn waits taken last : Held) (h : HoldsOnTheWay first j
       by true = record { gap = E (One made) ∷ E (Life 2) ∷ []; gains = (Came, (refl, refl), (Calm, refl, tt)); ends = refl }
       by false = still only []
 
-  pub run_stopped : Leads (behind 5 taken) (stopped taken ∷ behind_it taken asking ∷ []) (behind_it last NonePending)
+  pub run_stopped : Leads (position_after 5 taken) (stopped taken ∷ behind_it taken asking ∷ []) (behind_it last NonePending)
   unfolding stops told
   run_stopped = (Stepped stops (inr (refl, tt, written_in)) tt one_stopping, (Waited refl refl refl comes one_restarted, Stepped told ((there, refl), refl) tt one_restarted))
 
-  pub starts : FitsOne (behind 1 first)
-  starts = begins (behind 1 first) (one_at (take 1 whole) (drop 1 whole) refl (omega arith)) h.begins.client (λ n link is. apart n link (ap (λ (ls : List Link). slice_get ls n) (sym h.begins.links) ∙ is)) h.begins.copies_are refl
+  pub starts : FitsOne (position_after 1 first)
+  starts = begins (position_after 1 first) (one_at (take 1 whole) (drop 1 whole) refl (omega arith)) h.begins.client (λ n link is. apart n link (ap (λ (ls : List Link). slice_get ls n) (sym h.begins.links) ∙ is)) h.begins.copies_are refl
     where
       apart : (n : ℕ) (link : Link) → slice_get (Apart ∷ []) n ≡ Some link → link ≡ Apart
       apart zero link is = sym (same_Some Apart link is)

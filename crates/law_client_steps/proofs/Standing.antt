@@ -3,7 +3,7 @@ use Rattle.client_cache.specs.Copies.{kept}
 use Rattle.law_cache_coherence.proofs.Lending.{Front, answered_front, met_standing, one_more, sound_now}
 use Rattle.law_cache_coherence.proofs.Resting.{rests}
 use Rattle.law_cache_coherence.proofs.Staying.{moved_stands}
-use Rattle.law_cache_coherence.specs.Fitting.{FitsAt, Kept, stands}
+use Rattle.law_cache_coherence.specs.Fitting.{FitsAt, Kept, is_unended}
 use Rattle.law_cache_coherence.specs.Seen.{IsSeenRight, LinkAt, LinkIn}
 use Rattle.client_state.specs.Calling.{upto_in}
 use Rattle.client_state.specs.Links.{is_reply}
@@ -54,18 +54,18 @@ module _ (old new : View) (at : At) (q : Request) (held : Held) (committed : Ts 
   Stands T = get (state b (entries T)).objects x ≡ Some o
 
   -- the session hasn't ended behind the entry
-  still_there : (T : List Item) (e : Entry) → is_life e ≡ false → new.seen at.repo ≡ T ++ E e ∷ [] → verdict b T at.session q ≡ None → stands (session b (new.seen at.repo) at.session) ≡ true
-  still_there T e plain behind ok = ap (λ (S : List Item). stands (session b S at.session)) behind ∙ by (session b T at.session) refl ok
+  still_there : (T : List Item) (e : Entry) → is_life e ≡ false → new.seen at.repo ≡ T ++ E e ∷ [] → verdict b T at.session q ≡ None → is_unended (session b (new.seen at.repo) at.session) ≡ true
+  still_there T e plain behind ok = ap (λ (S : List Item). is_unended (session b S at.session)) behind ∙ by (session b T at.session) refl ok
     where
       on : (v : Session) → lives_on v.client (E e) ≡ true
       on v = ap (λ (t : Bool). cond t false true) plain
 
-      by : (o : Option Session) → session b T at.session ≡ o → verdict_by b (entries T) at.session q o ≡ None → stands (session b (T ++ E e ∷ []) at.session) ≡ true
+      by : (o : Option Session) → session b T at.session ≡ o → verdict_by b (entries T) at.session q o ≡ None → is_unended (session b (T ++ E e ∷ []) at.session) ≡ true
       by None is v = cc
       by (Some v) is accepts =
-          ap stands (session-end b T (E e) at.session ∙ ap (λ (u : Option Session). meet b at.session (state b (entries T)) u (E e)) is) ∙ moved_stands b at.session (state b (entries T)) (E e) v (accepted_lives b T at.session q v accepts) (on v)
+          ap is_unended (session-end b T (E e) at.session ∙ ap (λ (u : Option Session). meet b at.session (state b (entries T)) u (E e)) is) ∙ moved_stands b at.session (state b (entries T)) (E e) v (accepted_lives b T at.session q v accepts) (on v)
 
-  accepted : (T : List Item) (met : Unsettled) → Called old new at.repo T met → Front T (new.seen at.repo) → met ≡ Calm → new.unsettled at.repo ≡ Calm → stands (session b (new.seen at.repo) at.session) ≡ true → verdict b T at.session q ≡ None → known_by b (entries T) q.tx ≡ None → Stands T
+  accepted : (T : List Item) (met : Unsettled) → Called old new at.repo T met → Front T (new.seen at.repo) → met ≡ Calm → new.unsettled at.repo ≡ Calm → is_unended (session b (new.seen at.repo) at.session) ≡ true → verdict b T at.session q ≡ None → known_by b (entries T) q.tx ≡ None → Stands T
   accepted T met called front calm settled on ok once =
       let h : HasSession at (slice_get held.links.items at.repo) = has_session at (slice_get held.links.items at.repo) there in
       let link : LinkIn old at.repo committed (Joined at.session h.upto h.waits) (kept held.cache.cache) = subst (λ (l : Option Link). LinkAt old at.repo committed l (kept held.cache.cache)) h.is (fits.links.each at.repo within) in

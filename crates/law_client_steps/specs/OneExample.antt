@@ -40,8 +40,8 @@ seeing T = record {
 }
 
 -- the position behind the first items, where nothing is undecided
-abbrev pub behind : ℕ → Held → Position
-behind n held = record { port = seeing (take n whole); held = held; pending = NonePending }
+abbrev pub position_after : ℕ → Held → Position
+position_after n held = record { port = seeing (take n whole); held = held; pending = NonePending }
 
 -- Client 1 has this link with the repository, and these copies.
 pub record HoldsThis (link : Link) (copies : Copies) (held : Held) : Type 0 where

@@ -6,7 +6,7 @@ ghost use Rattle.client_state.specs.declared.held.Held.{Held};
 ghost use Rattle.client_state.specs.declared.link.Link.TheVariants.{Apart, Joined};
 ghost use Rattle.client_state.specs.declared.link.Link.{Link};
 ghost use Rattle.client_state.specs.declared.link.Waits.{Waits};
-ghost use Rattle.law_client_steps.specs.OneExample.{HoldsOnTheWay, asking, behind, behind_it, first_page, seeing, stopped, whole};
+ghost use Rattle.law_client_steps.specs.OneExample.{HoldsOnTheWay, asking, position_after, behind_it, first_page, seeing, stopped, whole};
 ghost use Rattle.law_client_steps.specs.OneRepository.{FitsOne, HasOneRepository, IsRightOrTold, Leads};
 ghost use Rattle.law_client_steps.specs.Positions.{Position};
 ghost use Rattle.law_client_steps.specs.Owed.{PageOwed};
@@ -36,12 +36,12 @@ pub fn clients_of_one_repository_fit()
 /// holds on the way is given by what is said of it. The same where the commit stops: its entry comes, the repository is restarted, and
 /// the client is told by a question that it has committed. And a page whose bytes spell its two objects as they stood at the beginning.
 pub fn a_run_over_one_repository()
-    ensures begins { (first joined drawn waits taken last : Held) → HoldsOnTheWay first joined drawn waits taken last → FitsOne (behind 1 first) }
+    ensures begins { (first joined drawn waits taken last : Held) → HoldsOnTheWay first joined drawn waits taken last → FitsOne (position_after 1 first) }
     ensures leads { (first joined drawn waits taken last : Held) → HoldsOnTheWay first joined drawn waits taken last →
-        Leads (behind 1 first) (behind 2 joined ∷ behind 3 drawn ∷ behind 4 waits ∷ behind 5 taken ∷ behind 6 last ∷ []) (behind 7 last) }
+        Leads (position_after 1 first) (position_after 2 joined ∷ position_after 3 drawn ∷ position_after 4 waits ∷ position_after 5 taken ∷ position_after 6 last ∷ []) (position_after 7 last) }
     ensures singly { (first joined drawn waits taken last : Held) → HoldsOnTheWay first joined drawn waits taken last →
-        LeadsSingly (behind 1 first) (behind 2 joined ∷ behind 3 drawn ∷ behind 4 waits ∷ behind 5 taken ∷ behind 6 last ∷ []) (behind 7 last) }
+        LeadsSingly (position_after 1 first) (position_after 2 joined ∷ position_after 3 drawn ∷ position_after 4 waits ∷ position_after 5 taken ∷ position_after 6 last ∷ []) (position_after 7 last) }
     ensures stops { (first joined drawn waits taken last : Held) → HoldsOnTheWay first joined drawn waits taken last →
-        Leads (behind 5 taken) (stopped taken ∷ behind_it taken asking ∷ []) (behind_it last NonePending) }
+        Leads (position_after 5 taken) (stopped taken ∷ behind_it taken asking ∷ []) (behind_it last NonePending) }
     ensures page { PageOwed (seeing (take 1 whole)) 0 0 (page_bytes first_page) 1 }
 {}

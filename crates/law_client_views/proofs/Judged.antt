@@ -13,7 +13,7 @@ use Rattle.thor_value.specs.FiniteMap.{keys}
 use Rattle.thor_value.specs.declared.names.Oref.{Oref}
 use Rattle.validation_queue.specs.Clashes.{first_some}
 use Rattle.validation_queue.specs.Contents.{room_for}
-use Rattle.repo_refusals.specs.Refusals.{bar, behind, blocks, bytes_of, comes_earlier, comes_later, first_refusal, full, full_of_undecided, full_of_writes, least_name, reads_from, set_of, too_old, writes_over}
+use Rattle.repo_refusals.specs.Refusals.{bar, other_epoch, blocks, bytes_of, comes_earlier, comes_later, first_refusal, full, full_of_undecided, full_of_writes, least_name, reads_from, set_of, too_old, writes_over}
 use Rattle.repo_refusals.specs.Window.{Window, window}
 use Rattle.base_reasons.specs.declared.reason.Reason.TheVariants as reasons
 use Rattle.repo_refusals.specs.declared.refusal.Refusal.TheVariants as refused
@@ -56,7 +56,7 @@ stale_marks b H s v q = first_of (λ x. option_and_then (stale_from q.upto x) (i
 first_marks : (b : Base) (S : State) (W : Window) (o : Option Refusal) (q : Request) → Marks o → Marks (first_refusal S W o (full b W q) q)
 first_marks b S W o q h =
     either (first_some (blocks q) W.members.pairs) _ (first_of (blocks q) W.members.pairs (λ e. where_so _ (refused.Reason (reasons.Blocked e.0)) tt))
-    (either (behind S q) _ (unless_so (nat_eq q.epoch (epoch_of S)) (refused.Reason (reasons.Epoch (epoch_of S))) tt)
+    (either (other_epoch S q) _ (unless_so (nat_eq q.epoch (epoch_of S)) (refused.Reason (reasons.Epoch (epoch_of S))) tt)
     (either (too_old W q) _ (unless_so _ (refused.Reason (reasons.TooOld (bar W q))) tt)
     (either o _ h
     (either (first_some (comes_earlier q) W.members.pairs) _ (first_of (comes_earlier q) W.members.pairs (λ e. mapped_where _ (λ x. refused.Reason (reasons.Earlier e.0 x)) (least_name q (reads_from q e.1.request)) (λ x. tt)))

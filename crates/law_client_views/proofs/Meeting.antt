@@ -8,7 +8,7 @@ use Rattle.session_outbox.specs.declared.answers.Welcome.{Welcome}
 use Rattle.session_outbox.specs.declared.message.Message.{Message}
 use Rattle.law_client_views.proofs.Judged.{verdict_marks}
 use Rattle.law_client_views.specs.Plain as plain
-use Rattle.law_client_views.specs.Plain.{Stepped, left_by, message_of, next_stamp, received, received_by, refuse, requested, told}
+use Rattle.law_client_views.specs.Plain.{Stepped, left_by, message_of, next_stamp, received, received_by, refuse, requested, answer_of_asked}
 use Rattle.client_port.specs.Views.{Calm}
 use Rattle.client_port.specs.Works.{AskWork, Answers, CommitWork, ConnectWork, DecideWork, Decides, DrawWork, FetchWork, FinishWork, ForgetWork, GrantWork, IsMarked, PrepareWork, ReceiveWork, RequestRefused, alone_entry, commits_by, is_prepared_by}
 use Rattle.spec_trace.specs.Notices.{lives, notice_of}
@@ -205,6 +205,6 @@ forgets b T t = (refl, refl)
 pub asks : (b : Base) (T : List Item) (t : Ts) → AskWork t (plain.ask b T t).0 b T (plain.ask b T t).1 Calm
 asks b T t = (by (asked b T t), (refl, refl))
   where
-    by : (a : Asked) → Answers t (told t a) a
+    by : (a : Asked) → Answers t (answer_of_asked t a) a
     by Undecided = refl
     by (Settled c) = (refl, refl)

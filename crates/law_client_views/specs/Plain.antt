@@ -105,9 +105,9 @@ finish b T t c = cond (is_undecided (known_by b (entries T) t)) (Ok (Some (lengt
 abbrev pub forget : List Item → Ts → Stepped (Unit {0})
 forget T t = (Ok tt, T ++ M (the.Forgot t) ∷ [])
 
-abbrev pub told : Ts → Asked → answer.Asked
-told t Undecided = answers.Undecided
-told t (Settled c) = answers.Settled (record { tx = t; commit = c })
+abbrev pub answer_of_asked : Ts → Asked → answer.Asked
+answer_of_asked t Undecided = answers.Undecided
+answer_of_asked t (Settled c) = answers.Settled (record { tx = t; commit = c })
 
 abbrev pub ask : Base → List Item → Ts → Stepped answer.Asked
-ask b T t = (Ok (told t (asked b T t)), T)
+ask b T t = (Ok (answer_of_asked t (asked b T t)), T)

@@ -27,8 +27,8 @@ abbrev pub next : Joined → Request → Joined
 next L q = record { objects = overwrite L.objects q.writes; texts = L.texts ++ text_of q.kind }
 
 -- what there is behind these transactions
-abbrev pub behind : Joined → List Commit → Joined
-behind L es = fold (λ N e. next N e.1) L es
+abbrev pub after_commits : Joined → List Commit → Joined
+after_commits L es = fold (λ N e. next N e.1) L es
 
 -- It has all that t met at its participants: what it read, and the installed upgrades.
 pub record HasMet (S : Several) (t : Ts) (L : Joined) : Type 0 where

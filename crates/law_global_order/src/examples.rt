@@ -9,7 +9,7 @@ ghost use Rattle.std.specs.Map.{keys_of};
 ghost use Rattle.std.specs.Prelude.{Some, [], ◌&&◌, ◌≡◌, ◌∷◌, false, option_map, slice_get, take, true};
 ghost use Rattle.thor_value.specs.FiniteMap.{get, keys};
 ghost use Rattle.law_global_order.specs.Examples.{blind, box_in, halved, text, upgraded, upgraded_in_part};
-ghost use Rattle.law_global_order.specs.Serial.{behind};
+ghost use Rattle.law_global_order.specs.Serial.{after_commits};
 ghost use Rattle.law_global_order.specs.Turns.{texts_after};
 ghost use Rattle.law_global_order.specs.Whole.{commits, finished, stored};
 

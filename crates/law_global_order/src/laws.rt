@@ -7,7 +7,7 @@ ghost use Rattle.log_entries.specs.declared.request.Request.{Request};
 ghost use Rattle.spec_history.specs.History.{Known};
 ghost use Rattle.std.specs.Prelude.{Bool, List, ℕ, ◌≡◌};
 ghost use Rattle.thor_value.specs.declared.names.Ts.{Ts};
-ghost use Rattle.law_global_order.specs.Serial.{AllRest, BeganWith, HasMet, IsSerial, Joined, Joins, bases, behind};
+ghost use Rattle.law_global_order.specs.Serial.{AllRest, BeganWith, HasMet, IsSerial, Joined, Joins, bases, after_commits};
 ghost use Rattle.law_global_order.specs.Turns.{EpochAtTurn, FreshAtTurn, IsPrepared, JoinedAtEnd, JoinedAtTurn, TextsAtEnd, UpgradesAgree, WritersAgree, texts_after};
 ghost use Rattle.law_global_order.specs.Whole.{AreTheCommits, Commit, commits, stored, whole};
 
@@ -59,8 +59,8 @@ pub fn several_are_serial()
     ensures serial { (S : Several) (does : Joined → Request → Bool) (L : Joined) → AreSound S → IsAtomic S → Alike S →
         AllRest S does → Joins S.repos (bases S) L.objects → BeganWith S L.texts → IsSerial does L (commits S).pairs }
     ensures objects { (S : Several) (L : Joined) → AreSound S → Alike S → Joins S.repos (bases S) L.objects →
-        Joins S.repos (stored S (commits S).pairs) (behind L (commits S).pairs).objects }
-    ensures texts { (L : Joined) (es : List Commit) → (behind L es).texts ≡ texts_after L.texts es }
+        Joins S.repos (stored S (commits S).pairs) (after_commits L (commits S).pairs).objects }
+    ensures texts { (L : Joined) (es : List Commit) → (after_commits L es).texts ≡ texts_after L.texts es }
 {}
 
 /// From when each participant has prepared a transaction, what it read and wrote as a whole stays, and so does what it met:

@@ -34,7 +34,7 @@ use Rattle.base_reasons.specs.declared.reason.Reason.{Reason}
 use Rattle.repo_refusals.proofs.Clashing.{names_read, refusal_alike}
 use Rattle.repo_refusals.specs.Queue as queued
 use Rattle.repo_refusals.specs.Queue.{is_too_old, old_of, queue_of, refusal_by}
-use Rattle.repo_refusals.specs.Refusals.{behind, bytes_of, first_refusal, full, full_of_writes}
+use Rattle.repo_refusals.specs.Refusals.{other_epoch, bytes_of, first_refusal, full, full_of_writes}
 use Rattle.repo_refusals.specs.Window.{window}
 use Rattle.repo_refusals.specs.declared.refusal.Refusal.TheVariants as refused
 use Rattle.repo_refusals.specs.declared.refusal.Refusal.{Refusal}
@@ -118,9 +118,9 @@ module _ (b : Base) (r : Recorded) (h : Held) (M : Memory) (s : ℕ) (q : Reques
   refusal-here v is live =
       let Q : Contents = queue_of (window b H) in
       refusal_alike b (state b H) (window b H) q (stale b H s v q) in_order
-      ∙ (ap (λ o. refusal_by Q q (behind (state b H) q) o (full_of_writes b q)) (stale-here v is live)
-      ∙ (ap (λ x. option_or (option_map (λ t. refused.Reason (reasons.Blocked t)) (first_blocking Q x)) (option_or (behind (state b H) q) (option_or (option_and_then old_of (clash Q (queued.transaction_of q))) (option_or (option_map stale_at (sets.stale M.sessions.sets s q.ros q.upto)) (option_or (option_map refused.Reason (clash Q (queued.transaction_of q))) (full_of_writes b q)))))) (sym (same-kind q.kind))
-      ∙ (ap (λ t. option_or (option_map (λ t. refused.Reason (reasons.Blocked t)) (first_blocking Q (is_upgrade_kind q.kind))) (option_or (behind (state b H) q) (option_or (option_and_then old_of (clash Q t)) (option_or (option_map stale_at (sets.stale M.sessions.sets s q.ros q.upto)) (option_or (option_map refused.Reason (clash Q t)) (full_of_writes b q)))))) (sym (same-transaction q))
+      ∙ (ap (λ o. refusal_by Q q (other_epoch (state b H) q) o (full_of_writes b q)) (stale-here v is live)
+      ∙ (ap (λ x. option_or (option_map (λ t. refused.Reason (reasons.Blocked t)) (first_blocking Q x)) (option_or (other_epoch (state b H) q) (option_or (option_and_then old_of (clash Q (queued.transaction_of q))) (option_or (option_map stale_at (sets.stale M.sessions.sets s q.ros q.upto)) (option_or (option_map refused.Reason (clash Q (queued.transaction_of q))) (full_of_writes b q)))))) (sym (same-kind q.kind))
+      ∙ (ap (λ t. option_or (option_map (λ t. refused.Reason (reasons.Blocked t)) (first_blocking Q (is_upgrade_kind q.kind))) (option_or (other_epoch (state b H) q) (option_or (option_and_then old_of (clash Q t)) (option_or (option_map stale_at (sets.stale M.sessions.sets s q.ros q.upto)) (option_or (option_map refused.Reason (clash Q t)) (full_of_writes b q)))))) (sym (same-transaction q))
       ∙ (same-order (option_map (λ t. refused.Reason (reasons.Blocked t)) (first_blocking Q (is_upgrade_kind q.kind))) (nat_eq q.epoch (epoch_of (state b H))) (refused.Reason (reasons.Epoch (epoch_of (state b H)))) (clash Q (transaction_of q)) (sets.stale M.sessions.sets s q.ros q.upto) (full_of_writes b q)
       ∙ (ap (λ (G : List Entry). refusal_with (epoch_of (state b G)) Q) history
       ∙ ap (refusal_with (epoch_of (state_of b r))) (sym queue-here))))))

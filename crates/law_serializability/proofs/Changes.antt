@@ -23,7 +23,7 @@ use Rattle.thor_value.specs.declared.names.Ts.{Ts}
 use Rattle.thor_value.specs.declared.values.Obj.{Obj}
 use Rattle.thor_value.specs.declared.values.Who.{Who}
 use Rattle.law_global_order.proofs.Lists.{AllAfter, Es, In, Rising}
-use Rattle.law_global_order.specs.Serial.{Joined, behind, next}
+use Rattle.law_global_order.specs.Serial.{Joined, after_commits, next}
 use Rattle.law_global_order.specs.Whole.{Commit, whole, writes_in}
 
 -- ---- upgrades write nothing
@@ -56,7 +56,7 @@ module _ (items : Who → What) (roots : List Root) where
   pub stored_next : (L : Joined) (e : Commit) → (is_upgrade e.1 ≡ true → e.1.writes ≡ []) → changed_by (stored_map roots L) (change_of items e) ≡ stored_map roots (next L e.1)
   stored_next L e none = next_is L e e.1.kind refl none
 
-  pub stored_behind : (L : Joined) (es : Es) → ((e : Commit) → In e es → is_upgrade e.1 ≡ true → e.1.writes ≡ []) → changed_by_all (stored_map roots L) (map (change_of items) es) ≡ stored_map roots (behind L es)
+  pub stored_behind : (L : Joined) (es : Es) → ((e : Commit) → In e es → is_upgrade e.1 ≡ true → e.1.writes ≡ []) → changed_by_all (stored_map roots L) (map (change_of items) es) ≡ stored_map roots (after_commits L es)
   stored_behind L [] none = refl
   stored_behind L (e ∷ es) none =
       ap (λ N. changed_by_all N (map (change_of items) es)) (stored_next L e (none e (inl refl)))

@@ -34,7 +34,7 @@ use Rattle.law_global_order.proofs.Chain.{AreWhole, after, whole-at}
 use Rattle.law_global_order.proofs.Lists.{Es, Lists, in-all}
 use Rattle.law_global_order.proofs.Serial.{behind-objects}
 use Rattle.law_global_order.proofs.Turns.{in-range, wrote-there}
-use Rattle.law_global_order.specs.Serial.{Joined, behind}
+use Rattle.law_global_order.specs.Serial.{Joined, after_commits}
 use Rattle.law_global_order.specs.Whole.{Commit, whole, writes_in}
 
 -- ---- where objects lie
@@ -72,12 +72,12 @@ epoch_within s (suc k) schema is = by (slice_get s.upgraded k) refl is
 module _ (s : Schemas) (items : Who → What) (roots : List Root) (S : Several) (sd : AreSound S) (at : IsAtomic S) (al : Alike S) (L : Joined) (opening : IsOpening S L)
     (checked : AreChecked s items roots S.repos) (here : AreHere S L)
     (done rest : Es) (t : Ts) (w : Known) (c : Lists S (done ++ (t, whole S t w.request) ∷ rest)) (h : HasCommitted S t w)
-    (rests : TxRests s items S t w.request) (all : AllKeepClasses s (length s.upgraded)) (fits : MapFits s (stored_map roots (behind L done))) where
+    (rests : TxRests s items S t w.request) (all : AllKeepClasses s (length s.upgraded)) (fits : MapFits s (stored_map roots (after_commits L done))) where
   abbrev q : Request
   q = w.request
 
   abbrev N : Stored
-  N = stored_map roots (behind L done)
+  N = stored_map roots (after_commits L done)
 
   abbrev run_it : (r : RanOn) × (run_on s (eager s N) rests.tx q.fresh ≡ Some r) × RanAs S t q r
   run_it = ran s items roots S sd at al L opening done rest t w c h rests

@@ -17,7 +17,7 @@ use Rattle.law_global_order.proofs.EndTexts.{texts_at_end}
 use Rattle.law_global_order.proofs.Listing.{listed}
 use Rattle.law_global_order.proofs.Lists.{Es}
 use Rattle.law_global_order.proofs.Serial.{behind-objects, behind-texts, joins-behind}
-use Rattle.law_global_order.specs.Serial.{Joined, behind}
+use Rattle.law_global_order.specs.Serial.{Joined, after_commits}
 use Rattle.law_global_order.specs.Turns.{texts_after}
 use Rattle.law_global_order.specs.Whole.{Objects, commits}
 
@@ -37,7 +37,7 @@ within-alike repos m n hm hn same x = by (get m x) refl (get n x) refl
 
 module _ (S : Several) (sd : AreSound S) (at : IsAtomic S) (al : Alike S) (L : Joined) (opening : IsOpening S L) (here : AreHere S L) (some : 0 < S.repos) (N : Joined) (end : IsReopening S N) where
   last : Joined
-  last = behind L (commits S).pairs
+  last = after_commits L (commits S).pairs
 
   last-here : (x : Oref) (o : Obj) → get last.objects x ≡ Some o → x.repo < S.repos
   unfolding last
@@ -62,6 +62,6 @@ module _ (S : Several) (sd : AreSound S) (at : IsAtomic S) (al : Alike S) (L : J
       ∙ ap (λ ts. texts_after ts (commits S).pairs) (opening.texts 0 some)
       ∙ sym (behind-texts L (commits S).pairs)
 
-  pub reopened : N ≡ behind L (commits S).pairs
+  pub reopened : N ≡ after_commits L (commits S).pairs
   unfolding last
   reopened = ap (λ m. record { objects = m; texts = N.texts }) objects ∙ ap (λ ts. record { objects = last.objects; texts = ts }) texts

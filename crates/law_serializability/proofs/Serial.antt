@@ -26,12 +26,12 @@ use Rattle.thor_value.specs.declared.names.Ts.{Ts}
 use Rattle.thor_value.specs.declared.values.Who.{Who}
 use Rattle.law_global_order.proofs.Lists.{Es, Lists, here}
 use Rattle.law_global_order.proofs.Serial.{behind-end}
-use Rattle.law_global_order.specs.Serial.{Joined, behind}
+use Rattle.law_global_order.specs.Serial.{Joined, after_commits}
 use Rattle.law_global_order.specs.Whole.{Commit, whole}
 
 module _ (s : Schemas) (items : Who → What) (roots : List Root) (S : Several) (sd : AreSound S) (at : IsAtomic S) (al : Alike S) (L : Joined) (opening : IsOpening S L) where
   abbrev map_at : Es → Stored
-  map_at done = stored_map roots (behind L done)
+  map_at done = stored_map roots (after_commits L done)
 
   bare_commit : (e : Commit) (w : Known) → HasCommitted S e.0 w → e.1 ≡ whole S e.0 w.request → is_upgrade e.1 ≡ true → e.1.writes ≡ []
   bare_commit e w h is up = ap (λ (q : Request). q.writes) is ∙ upgrades_write_nothing S sd al e.0 w h (ap is_upgrade (sym is) ∙ up)
@@ -40,12 +40,12 @@ module _ (s : Schemas) (items : Who → What) (roots : List Root) (S : Several) 
   turn_next : (done rest : Es) (e : Commit) → Lists S (done ++ e ∷ rest) → changed_by (map_at done) (change_of items e) ≡ map_at (done ++ e ∷ [])
   turn_next done rest e c =
       let k = c.stand e (here done rest e) in
-      stored_next items roots (behind L done) e (bare_commit e k.0 k.1 k.2) ∙ ap (stored_map roots) (sym (behind-end L done e))
+      stored_next items roots (after_commits L done) e (bare_commit e k.0 k.1 k.2) ∙ ap (stored_map roots) (sym (behind-end L done e))
 
   go_on : (done rest : Es) (e : Commit) → Lists S (done ++ e ∷ rest) → Lists S ((done ++ e ∷ []) ++ rest)
   go_on done rest e c = subst (Lists S) (sym (append_assoc done (e ∷ []) rest)) c
 
-  all_behind : (es : Es) → Lists S es → changed_by_all (stored_map roots L) (map (change_of items) es) ≡ stored_map roots (behind L es)
+  all_behind : (es : Es) → Lists S es → changed_by_all (stored_map roots L) (map (change_of items) es) ≡ stored_map roots (after_commits L es)
   all_behind es c = stored_behind items roots L es (λ e i. let k = c.stand e i in bare_commit e k.0 k.1 k.2)
 
   -- ---- without upgrades
@@ -68,7 +68,7 @@ module _ (s : Schemas) (items : Who → What) (roots : List Root) (S : Several) 
 
     pub serial_first : L.texts ≡ [] → (es : Es) → Lists S es
         → IsLegal s (entries_of (map (change_of items) es)) (eager s (stored_map roots L))
-        × (after s (entries_of (map (change_of items) es)) (eager s (stored_map roots L)) ≡ eager s (stored_map roots (behind L es)))
+        × (after s (entries_of (map (change_of items) es)) (eager s (stored_map roots L)) ≡ eager s (stored_map roots (after_commits L es)))
     serial_first none es c =
         let all : LeadAll s (stored_map roots L) (map (change_of items) es) = all-lead-first s (stored_map roots L) (map (change_of items) es) (ap length none) opening.sorted (runs_from [] es c) in
         (record { rising = entries_rise items es c.rise; each = all.legal }, all.behind ∙ ap (eager s) (all_behind es c))
@@ -113,8 +113,8 @@ module _ (s : Schemas) (items : Who → What) (roots : List Root) (S : Several) 
 
     pub serial_all : OpeningFits s roots L → (es : Es) → Lists S es
         → IsLegal s (entries_of (map (change_of items) es)) (eager s (stored_map roots L))
-        × (after s (entries_of (map (change_of items) es)) (eager s (stored_map roots L)) ≡ eager s (stored_map roots (behind L es)))
-        × MapFits s (stored_map roots (behind L es))
+        × (after s (entries_of (map (change_of items) es)) (eager s (stored_map roots L)) ≡ eager s (stored_map roots (after_commits L es)))
+        × MapFits s (stored_map roots (after_commits L es))
     serial_all first es c =
         let all = all-lead s first.keeps (stored_map roots L) (map (change_of items) es) first.installed opening.sorted first.fits (stand_from [] es c) in
         let lead : LeadAll s (stored_map roots L) (map (change_of items) es) = all.0 in

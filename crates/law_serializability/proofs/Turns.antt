@@ -37,7 +37,7 @@ use Rattle.law_global_order.proofs.Fresh.{fresh-at-turn}
 use Rattle.law_global_order.proofs.Lists.{Es, Lists}
 use Rattle.law_global_order.proofs.Serial.{joins-behind, met}
 use Rattle.law_global_order.proofs.Turns.{in-range, wrote-there}
-use Rattle.law_global_order.specs.Serial.{HasMet, Joined, behind}
+use Rattle.law_global_order.specs.Serial.{HasMet, Joined, after_commits}
 use Rattle.law_global_order.specs.Whole.{Commit, whole, writes_in}
 
 some_ran : (o : Option RanOn) (P : RanOn → Type 0) → IsSomeAnd o P → (r : RanOn) × (o ≡ Some r) × P r
@@ -78,9 +78,9 @@ module _ (s : Schemas) (items : Who → What) (roots : List Root) (S : Several) 
 
   -- the stored map at its turn
   abbrev N : Stored
-  N = stored_map roots (behind L done)
+  N = stored_map roots (after_commits L done)
 
-  pub has_met : HasMet S t (behind L done)
+  pub has_met : HasMet S t (after_commits L done)
   has_met = met S sd at al L opening.objects opening.texts done rest commit c
 
   pub epoch_is : q.epoch ≡ N.epoch

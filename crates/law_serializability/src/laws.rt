@@ -18,7 +18,7 @@ ghost use Rattle.std.specs.Prelude.{List, [], ℕ, ◌<◌, ◌≡◌};
 ghost use Rattle.law_lazy_history.specs.Standing.{MapFits};
 ghost use Rattle.thor_value.specs.declared.names.Ts.{Ts};
 ghost use Rattle.thor_value.specs.declared.values.Who.{Who};
-ghost use Rattle.law_global_order.specs.Serial.{Joined, Joins, behind};
+ghost use Rattle.law_global_order.specs.Serial.{Joined, Joins, after_commits};
 ghost use Rattle.law_global_order.specs.Turns.{IsPrepared};
 ghost use Rattle.law_global_order.specs.Whole.{commits, stored};
 
@@ -32,9 +32,9 @@ pub fn histories_without_upgrades_are_serial()
         → IsLegal s (whole_history items S) (eager s (stored_map roots L)) }
     ensures behind { (s : Schemas) → (items : Who → What) → (roots : List Root) → (S : Several) → (L : Joined)
         → AreSound S → IsAtomic S → Alike S → EachIsTx s items S → IsOpening S L → L.texts ≡ []
-        → after s (whole_history items S) (eager s (stored_map roots L)) ≡ eager s (stored_map roots (behind L (commits S).pairs)) }
+        → after s (whole_history items S) (eager s (stored_map roots L)) ≡ eager s (stored_map roots (after_commits L (commits S).pairs)) }
     ensures objects { (S : Several) → (L : Joined) → AreSound S → Alike S → IsOpening S L
-        → Joins S.repos (stored S (commits S).pairs) (behind L (commits S).pairs).objects }
+        → Joins S.repos (stored S (commits S).pairs) (after_commits L (commits S).pairs).objects }
 {}
 
 /// The serial law. Sound local histories, atomic over repositories, whose transactions rest on what they read, are one
@@ -49,11 +49,11 @@ pub fn histories_are_serial()
     ensures behind { (s : Schemas) → (items : Who → What) → (roots : List Root) → (S : Several) → (L : Joined)
         → AreSound S → IsAtomic S → Alike S → EachRests s items roots S
         → IsOpening S L → AreHere S L → OpeningFits s roots L → AreChecked s items roots S.repos
-        → after s (whole_history items S) (eager s (stored_map roots L)) ≡ eager s (stored_map roots (behind L (commits S).pairs)) }
+        → after s (whole_history items S) (eager s (stored_map roots L)) ≡ eager s (stored_map roots (after_commits L (commits S).pairs)) }
     ensures fits { (s : Schemas) → (items : Who → What) → (roots : List Root) → (S : Several) → (L : Joined)
         → AreSound S → IsAtomic S → Alike S → EachRests s items roots S
         → IsOpening S L → AreHere S L → OpeningFits s roots L → AreChecked s items roots S.repos
-        → MapFits s (stored_map roots (behind L (commits S).pairs)) }
+        → MapFits s (stored_map roots (after_commits L (commits S).pairs)) }
 {}
 
 /// The next opening. What the repositories have together, once each has finished what has committed, is what the
@@ -61,7 +61,7 @@ pub fn histories_are_serial()
 /// with it begins where this one ended.
 pub fn the_next_opening_goes_on()
     ensures joined { (S : Several) → (L N : Joined) → AreSound S → IsAtomic S → Alike S
-        → IsOpening S L → AreHere S L → 0 < S.repos → IsReopening S N → N ≡ behind L (commits S).pairs }
+        → IsOpening S L → AreHere S L → 0 < S.repos → IsReopening S N → N ≡ after_commits L (commits S).pairs }
     ensures store { (s : Schemas) → (items : Who → What) → (roots : List Root) → (S : Several) → (L N : Joined)
         → AreSound S → IsAtomic S → Alike S → EachRests s items roots S
         → IsOpening S L → AreHere S L → OpeningFits s roots L → AreChecked s items roots S.repos

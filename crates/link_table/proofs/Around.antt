@@ -1,6 +1,6 @@
 -- What stands beside a key in a list of keys, where one more comes last and where one leaves.
 use Rattle.link_table.specs.Nodes.{is_key}
-use Rattle.link_table.specs.Pairs.{behind, first}
+use Rattle.link_table.specs.Pairs.{next_after, first}
 use Rattle.link_table.specs.Tables.{before_from, ends_of, first_key, if_there, joined, last_key, without}
 use Rattle.std.proofs.Common.{ap, refl, sym, ◌∙◌}
 use Rattle.std.specs.List.{AllByRecursion, IsDistinct, last_or, list_any}
@@ -42,11 +42,11 @@ pub none_last : (x : ℕ) (o : Option ℕ) (ks : List ℕ) → is_key o x ≡ fa
 none_last x o [] e h = e
 none_last x o (y ∷ ys) e h = none_last x (Some y) ys h.0 h.1
 
-pub none_behind : (x j : ℕ) (ks : List ℕ) → Misses x ks → is_key (behind ks j) x ≡ false
+pub none_behind : (x j : ℕ) (ks : List ℕ) → Misses x ks → is_key (next_after ks j) x ≡ false
 none_behind x j [] h = refl
 none_behind x j (y ∷ ys) h = by (nat_eq y j) (none_behind x j ys h.1)
   where
-    by : (t : Bool) → is_key (behind ys j) x ≡ false → is_key (cond t (first ys) (behind ys j)) x ≡ false
+    by : (t : Bool) → is_key (next_after ys j) x ≡ false → is_key (cond t (first ys) (next_after ys j)) x ≡ false
     by true more = none_first x ys h.1
     by false more = more
 
@@ -66,10 +66,10 @@ no_last x ks h = none_last x None ks refl h
 
 -- ---- one more key, which comes last
 
-pub behind_new : (ks : List ℕ) (n : ℕ) → Misses n ks → behind (ks ++ n ∷ []) n ≡ None
+pub behind_new : (ks : List ℕ) (n : ℕ) → Misses n ks → next_after (ks ++ n ∷ []) n ≡ None
 behind_new [] n h = by (nat_eq n n)
   where
-    by : (t : Bool) → cond t (first []) (behind [] n) ≡ None
+    by : (t : Bool) → cond t (first []) (next_after [] n) ≡ None
     by true = refl
     by false = refl
 behind_new (x ∷ xs) n h = rw h.0 (behind_new xs n h.1)
@@ -88,7 +88,7 @@ before_old_from o (x ∷ xs) n k e = ap (cond (nat_eq x k) o) (before_old_from (
 pub before_old : (ks : List ℕ) (n k : ℕ) → nat_eq n k ≡ false → before_from None (ks ++ n ∷ []) k ≡ before_from None ks k
 before_old ks n k e = before_old_from None ks n k e
 
-behind_old_from : (o : Option ℕ) (ks : List ℕ) (n k : ℕ) → IsDistinct nat_eq ks → nat_eq n k ≡ false → is_key o k ≡ false → behind (ks ++ n ∷ []) k ≡ cond (is_key (last_or o ks) k) (Some n) (behind ks k)
+behind_old_from : (o : Option ℕ) (ks : List ℕ) (n k : ℕ) → IsDistinct nat_eq ks → nat_eq n k ≡ false → is_key o k ≡ false → next_after (ks ++ n ∷ []) k ≡ cond (is_key (last_or o ks) k) (Some n) (next_after ks k)
 unfolding IsDistinct
 behind_old_from o [] n k d e f = rw (e, f) refl
 behind_old_from o (x ∷ xs) n k d e f = by (nat_eq x k) refl (behind_old_from (Some x) xs n k d.1 e)
@@ -101,12 +101,12 @@ behind_old_from o (x ∷ xs) n k d e f = by (nat_eq x k) refl (behind_old_from (
         rw l refl
 
     by : (t : Bool) → nat_eq x k ≡ t
-        → (nat_eq x k ≡ false → behind (xs ++ n ∷ []) k ≡ cond (is_key (last_or (Some x) xs) k) (Some n) (behind xs k))
-        → cond t (first (xs ++ n ∷ [])) (behind (xs ++ n ∷ []) k) ≡ cond (is_key (last_or (Some x) xs) k) (Some n) (cond t (first xs) (behind xs k))
+        → (nat_eq x k ≡ false → next_after (xs ++ n ∷ []) k ≡ cond (is_key (last_or (Some x) xs) k) (Some n) (next_after xs k))
+        → cond t (first (xs ++ n ∷ [])) (next_after (xs ++ n ∷ []) k) ≡ cond (is_key (last_or (Some x) xs) k) (Some n) (cond t (first xs) (next_after xs k))
     by true g more = here xs d.0 g
     by false g more = more g
 
-pub behind_old : (ks : List ℕ) (n k : ℕ) → IsDistinct nat_eq ks → nat_eq n k ≡ false → behind (ks ++ n ∷ []) k ≡ cond (is_key (last_or None ks) k) (Some n) (behind ks k)
+pub behind_old : (ks : List ℕ) (n k : ℕ) → IsDistinct nat_eq ks → nat_eq n k ≡ false → next_after (ks ++ n ∷ []) k ≡ cond (is_key (last_or None ks) k) (Some n) (next_after ks k)
 behind_old ks n k d e = behind_old_from None ks n k d e refl
 
 -- ---- the ends
@@ -141,16 +141,16 @@ pub without_none : (ks : List ℕ) (n : ℕ) → Misses n ks → without ks n �
 without_none [] n h = refl
 without_none (x ∷ xs) n h = rw h.0 (ap (λ (ys : List ℕ). x ∷ ys) (without_none xs n h.1))
 
-behind_rest_from : (o : Option ℕ) (ks : List ℕ) (n k : ℕ) → IsDistinct nat_eq ks → nat_eq n k ≡ false → is_key o k ≡ false → behind (without ks n) k ≡ cond (is_key (before_from o ks n) k) (behind ks n) (behind ks k)
+behind_rest_from : (o : Option ℕ) (ks : List ℕ) (n k : ℕ) → IsDistinct nat_eq ks → nat_eq n k ≡ false → is_key o k ≡ false → next_after (without ks n) k ≡ cond (is_key (before_from o ks n) k) (next_after ks n) (next_after ks k)
 unfolding IsDistinct
 behind_rest_from o [] n k d e f = refl
 behind_rest_from o (x ∷ xs) n k d e f = by (nat_eq x n) (nat_eq x k) refl refl (behind_rest_from (Some x) xs n k d.1 e)
   where
-    next_but : (ys : List ℕ) → IsDistinct nat_eq ys → AllByRecursion (λ y. nat_eq x y ≡ false) ys → nat_eq x k ≡ true → first (without ys n) ≡ cond (is_key (before_from (Some x) ys n) k) (behind ys n) (first ys)
+    next_but : (ys : List ℕ) → IsDistinct nat_eq ys → AllByRecursion (λ y. nat_eq x y ≡ false) ys → nat_eq x k ≡ true → first (without ys n) ≡ cond (is_key (before_from (Some x) ys n) k) (next_after ys n) (first ys)
     next_but [] b a g = refl
     next_but (y ∷ ys) b a g = at (nat_eq y n) refl
       where
-        at : (t : Bool) → nat_eq y n ≡ t → first (cond (not t) (y ∷ without ys n) (without ys n)) ≡ cond (is_key (cond t (Some x) (before_from (Some y) ys n)) k) (cond t (first ys) (behind ys n)) (Some y)
+        at : (t : Bool) → nat_eq y n ≡ t → first (cond (not t) (y ∷ without ys n) (without ys n)) ≡ cond (is_key (cond t (Some x) (before_from (Some y) ys n)) k) (cond t (first ys) (next_after ys n)) (Some y)
         at true h = rw g (ap first (without_none ys n (apart y n ys b.0 h)))
         at false h =
             let m : Misses k (y ∷ ys) = apart x k (y ∷ ys) a g in
@@ -158,17 +158,17 @@ behind_rest_from o (x ∷ xs) n k d e f = by (nat_eq x n) (nat_eq x k) refl refl
             rw l refl
 
     by : (s t : Bool) → nat_eq x n ≡ s → nat_eq x k ≡ t
-        → (nat_eq x k ≡ false → behind (without xs n) k ≡ cond (is_key (before_from (Some x) xs n) k) (behind xs n) (behind xs k))
-        → behind (cond (not s) (x ∷ without xs n) (without xs n)) k ≡ cond (is_key (cond s o (before_from (Some x) xs n)) k) (cond s (first xs) (behind xs n)) (cond t (first xs) (behind xs k))
+        → (nat_eq x k ≡ false → next_after (without xs n) k ≡ cond (is_key (before_from (Some x) xs n) k) (next_after xs n) (next_after xs k))
+        → next_after (cond (not s) (x ∷ without xs n) (without xs n)) k ≡ cond (is_key (cond s o (before_from (Some x) xs n)) k) (cond s (first xs) (next_after xs n)) (cond t (first xs) (next_after xs k))
     by true true g h more = let a : x ≡ n = eqb-true x n g in let b : nat_eq n k ≡ true = rw a at h in cc
-    by true false g h more = rw f (ap (λ (ys : List ℕ). behind ys k) (without_none xs n (apart x n xs d.0 g)))
+    by true false g h more = rw f (ap (λ (ys : List ℕ). next_after ys k) (without_none xs n (apart x n xs d.0 g)))
     by false true g h more = rw h (next_but xs d.1 d.0 h)
     by false false g h more = rw h (more h)
 
-pub behind_rest : (ks : List ℕ) (n k : ℕ) → IsDistinct nat_eq ks → nat_eq n k ≡ false → behind (without ks n) k ≡ cond (is_key (before_from None ks n) k) (behind ks n) (behind ks k)
+pub behind_rest : (ks : List ℕ) (n k : ℕ) → IsDistinct nat_eq ks → nat_eq n k ≡ false → next_after (without ks n) k ≡ cond (is_key (before_from None ks n) k) (next_after ks n) (next_after ks k)
 behind_rest ks n k d e = behind_rest_from None ks n k d e refl
 
-before_rest_from : (o : Option ℕ) (ks : List ℕ) (n k : ℕ) → IsDistinct nat_eq ks → nat_eq n k ≡ false → before_from o (without ks n) k ≡ cond (is_key (behind ks n) k) (before_from o ks n) (before_from o ks k)
+before_rest_from : (o : Option ℕ) (ks : List ℕ) (n k : ℕ) → IsDistinct nat_eq ks → nat_eq n k ≡ false → before_from o (without ks n) k ≡ cond (is_key (next_after ks n) k) (before_from o ks n) (before_from o ks k)
 unfolding IsDistinct
 before_rest_from o [] n k d e = refl
 before_rest_from o (x ∷ xs) n k d e = by (nat_eq x n) (nat_eq x k) refl refl (before_rest_from (Some x) xs n k d.1 e)
@@ -182,14 +182,14 @@ before_rest_from o (x ∷ xs) n k d e = by (nat_eq x n) (nat_eq x k) refl refl (
         at false = refl
 
     by : (s t : Bool) → nat_eq x n ≡ s → nat_eq x k ≡ t
-        → before_from (Some x) (without xs n) k ≡ cond (is_key (behind xs n) k) (before_from (Some x) xs n) (before_from (Some x) xs k)
-        → before_from o (cond (not s) (x ∷ without xs n) (without xs n)) k ≡ cond (is_key (cond s (first xs) (behind xs n)) k) (cond s o (before_from (Some x) xs n)) (cond t o (before_from (Some x) xs k))
+        → before_from (Some x) (without xs n) k ≡ cond (is_key (next_after xs n) k) (before_from (Some x) xs n) (before_from (Some x) xs k)
+        → before_from o (cond (not s) (x ∷ without xs n) (without xs n)) k ≡ cond (is_key (cond s (first xs) (next_after xs n)) k) (cond s o (before_from (Some x) xs n)) (cond t o (before_from (Some x) xs k))
     by true true g h more = let a : x ≡ n = eqb-true x n g in let b : nat_eq n k ≡ true = rw a at h in cc
     by true false g h more = rw (without_none xs n (apart x n xs d.0 g)) (second xs)
-    by false true g h more = let l : is_key (behind xs n) k ≡ false = none_behind k n xs (apart x k xs d.0 h) in rw (h, l) refl
+    by false true g h more = let l : is_key (next_after xs n) k ≡ false = none_behind k n xs (apart x k xs d.0 h) in rw (h, l) refl
     by false false g h more = rw h more
 
-pub before_rest : (ks : List ℕ) (n k : ℕ) → IsDistinct nat_eq ks → nat_eq n k ≡ false → before_from None (without ks n) k ≡ cond (is_key (behind ks n) k) (before_from None ks n) (before_from None ks k)
+pub before_rest : (ks : List ℕ) (n k : ℕ) → IsDistinct nat_eq ks → nat_eq n k ≡ false → before_from None (without ks n) k ≡ cond (is_key (next_after ks n) k) (before_from None ks n) (before_from None ks k)
 before_rest ks n k d e = before_rest_from None ks n k d e
 
 -- ---- the ends without it
@@ -202,16 +202,16 @@ there x n (y ∷ ys) a b h = by (nat_eq y n) h (there y n ys a b)
     by true g more = refl
     by false g more = more g
 
-pub first_rest : (ks : List ℕ) (n : ℕ) → IsDistinct nat_eq ks → has_key n ks ≡ true → first (without ks n) ≡ if_there (before_from None ks n) (first ks) (behind ks n)
+pub first_rest : (ks : List ℕ) (n : ℕ) → IsDistinct nat_eq ks → has_key n ks ≡ true → first (without ks n) ≡ if_there (before_from None ks n) (first ks) (next_after ks n)
 unfolding IsDistinct
 first_rest [] n d h = cc
 first_rest (x ∷ xs) n d h = by (nat_eq x n) refl h
   where
-    by : (t : Bool) → nat_eq x n ≡ t → (t || has_key n xs) ≡ true → first (cond (not t) (x ∷ without xs n) (without xs n)) ≡ if_there (cond t None (before_from (Some x) xs n)) (Some x) (cond t (first xs) (behind xs n))
+    by : (t : Bool) → nat_eq x n ≡ t → (t || has_key n xs) ≡ true → first (cond (not t) (x ∷ without xs n) (without xs n)) ≡ if_there (cond t None (before_from (Some x) xs n)) (Some x) (cond t (first xs) (next_after xs n))
     by true g h = ap first (without_none xs n (apart x n xs d.0 g))
-    by false g h = sym (there x n xs (Some x) (behind xs n) h)
+    by false g h = sym (there x n xs (Some x) (next_after xs n) h)
 
-last_rest_from : (o : Option ℕ) (ks : List ℕ) (n : ℕ) → IsDistinct nat_eq ks → has_key n ks ≡ true → last_or o (without ks n) ≡ if_there (behind ks n) (last_or o ks) (before_from o ks n)
+last_rest_from : (o : Option ℕ) (ks : List ℕ) (n : ℕ) → IsDistinct nat_eq ks → has_key n ks ≡ true → last_or o (without ks n) ≡ if_there (next_after ks n) (last_or o ks) (before_from o ks n)
 unfolding IsDistinct
 last_rest_from o [] n d h = cc
 last_rest_from o (x ∷ xs) n d h = by (nat_eq x n) refl h (last_rest_from (Some x) xs n d.1)
@@ -221,10 +221,10 @@ last_rest_from o (x ∷ xs) n d h = by (nat_eq x n) refl h (last_rest_from (Some
     second (y ∷ ys) = refl
 
     by : (t : Bool) → nat_eq x n ≡ t → (t || has_key n xs) ≡ true
-        → (has_key n xs ≡ true → last_or (Some x) (without xs n) ≡ if_there (behind xs n) (last_or (Some x) xs) (before_from (Some x) xs n))
-        → last_or o (cond (not t) (x ∷ without xs n) (without xs n)) ≡ if_there (cond t (first xs) (behind xs n)) (last_or (Some x) xs) (cond t o (before_from (Some x) xs n))
+        → (has_key n xs ≡ true → last_or (Some x) (without xs n) ≡ if_there (next_after xs n) (last_or (Some x) xs) (before_from (Some x) xs n))
+        → last_or o (cond (not t) (x ∷ without xs n) (without xs n)) ≡ if_there (cond t (first xs) (next_after xs n)) (last_or (Some x) xs) (cond t o (before_from (Some x) xs n))
     by true g h more = ap (last_or o) (without_none xs n (apart x n xs d.0 g)) ∙ second xs
     by false g h more = more h
 
-pub last_rest : (ks : List ℕ) (n : ℕ) → IsDistinct nat_eq ks → has_key n ks ≡ true → last_or None (without ks n) ≡ if_there (behind ks n) (last_or None ks) (before_from None ks n)
+pub last_rest : (ks : List ℕ) (n : ℕ) → IsDistinct nat_eq ks → has_key n ks ≡ true → last_or None (without ks n) ≡ if_there (next_after ks n) (last_or None ks) (before_from None ks n)
 last_rest ks n d h = last_rest_from None ks n d h

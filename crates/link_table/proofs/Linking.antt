@@ -2,7 +2,7 @@
 use Rattle.link_table.proofs.Around.{Misses, before_new, before_old, behind_new, behind_old, flip, joined_ends, last_of_ends, no_last}
 use Rattle.link_table.proofs.Members.{distinct_members, distinct_push, elsewhere, entry_new, entry_push, members_push, missed_by, misses, together}
 use Rattle.link_table.specs.Nodes.{is_key, neighbors, with_after}
-use Rattle.link_table.specs.Pairs.{behind}
+use Rattle.link_table.specs.Pairs.{next_after}
 use Rattle.link_table.specs.Tables.{Entries, Keeps, Puts, State, around, at_end, before_from, ends_at, ends_of, entry_at, followed, joined, last_key, members, new_node, pair_of, place, same_pair, stands_with, with_last}
 use Rattle.link_table.specs.declared.node.Chain.TheVariants.{All, Left, Right}
 use Rattle.link_table.specs.declared.node.Chain.{Chain}
@@ -211,10 +211,10 @@ module _ (S T : State) (l r : ℕ) (E : Entries) (h : Keeps S E) (p : Puts S T l
       by t e =
           let k_apart : nat_eq n k ≡ false = flip k n (apart_from k v g) in
           let a : before_from None (members c v E ++ n ∷ []) k ≡ before_from None (members c v E) k = before_old (members c v E) n k k_apart in
-          let b : behind (members c v E ++ n ∷ []) k ≡ cond t (Some n) (behind (members c v E) k) = behind_old (members c v E) n k (distinct_members c v E h.apart) k_apart ∙ ap (λ (s : Bool). cond s (Some n) (behind (members c v E) k)) e in
+          let b : next_after (members c v E ++ n ∷ []) k ≡ cond t (Some n) (next_after (members c v E) k) = behind_old (members c v E) n k (distinct_members c v E h.apart) k_apart ∙ ap (λ (s : Bool). cond s (Some n) (next_after (members c v E) k)) e in
           rw (a, b) (each t)
         where
-          each : (t : Bool) → cond t (Some (record { before = before_from None (members c v E) k; after = Some n })) (Some (around (members c v E) k)) ≡ Some (record { before = before_from None (members c v E) k; after = cond t (Some n) (behind (members c v E) k) })
+          each : (t : Bool) → cond t (Some (record { before = before_from None (members c v E) k; after = Some n })) (Some (around (members c v E) k)) ≡ Some (record { before = before_from None (members c v E) k; after = cond t (Some n) (next_after (members c v E) k) })
           each true = refl
           each false = refl
   joined_by c k v g false f =

@@ -2,7 +2,7 @@
 use Rattle.link_table.proofs.Around.{Misses, flip}
 use Rattle.link_table.proofs.Linking.{one_pair}
 use Rattle.link_table.proofs.Members.{all_from, drop_key}
-use Rattle.link_table.specs.Pairs.{behind, first, is_linked, is_pair, unlink}
+use Rattle.link_table.specs.Pairs.{next_after, first, is_linked, is_pair, unlink}
 use Rattle.link_table.specs.Tables.{Entries, entry_at}
 use Rattle.std.proofs.Common.{ap, refl, sym, ◌∙◌}
 use Rattle.std.proofs.lemmas.Bool.{eq-eqb, eqb-true, or_right}
@@ -126,14 +126,14 @@ module _ (side : ℕ × ℕ → ℕ) (f : ℕ → Option (ℕ × ℕ)) where
       by true h more = let a : e.1 ≡ p = cc in rw (ap side a) at m.0
       by false h more = more h
 
-  pub behind_side : (G : Entries) → Shown f G → IsDistinct nat_eq (keys_of G) → IsDistinct nat_eq (sides side f G) → (k : ℕ) (p : ℕ × ℕ) → entry_at G k ≡ Some p → behind (sides side f G) (side p) ≡ side_at side f (behind (keys_of G) k)
+  pub behind_side : (G : Entries) → Shown f G → IsDistinct nat_eq (keys_of G) → IsDistinct nat_eq (sides side f G) → (k : ℕ) (p : ℕ × ℕ) → entry_at G k ≡ Some p → next_after (sides side f G) (side p) ≡ side_at side f (next_after (keys_of G) k)
   unfolding IsDistinct
   behind_side [] h d s k p g = refl
   behind_side (e ∷ es) h d s k p g = by (nat_eq k e.0) refl g (behind_side es h.1 d.1 s.1 k p)
     where
       by : (t : Bool) → nat_eq k e.0 ≡ t → cond t (Some e.1) (entry_at es k) ≡ Some p
-          → (entry_at es k ≡ Some p → behind (sides side f es) (side p) ≡ side_at side f (behind (keys_of es) k))
-          → cond (nat_eq (side e.1) (side p)) (first (sides side f es)) (behind (sides side f es) (side p)) ≡ side_at side f (cond (nat_eq e.0 k) (first (keys_of es)) (behind (keys_of es) k))
+          → (entry_at es k ≡ Some p → next_after (sides side f es) (side p) ≡ side_at side f (next_after (keys_of es) k))
+          → cond (nat_eq (side e.1) (side p)) (first (sides side f es)) (next_after (sides side f es) (side p)) ≡ side_at side f (cond (nat_eq e.0 k) (first (keys_of es)) (next_after (keys_of es) k))
       by true a b more =
           let c : e.1 ≡ p = cc in
           let i : nat_eq (side e.1) (side p) ≡ true = eq-eqb (side e.1) (side p) (ap side c) in
@@ -141,7 +141,7 @@ module _ (side : ℕ × ℕ → ℕ) (f : ℕ → Option (ℕ × ℕ)) where
           rw (i, j) (first_side side f es h.1)
       by false a b more = other (nat_eq (side e.1) (side p)) refl
         where
-          other : (t : Bool) → nat_eq (side e.1) (side p) ≡ t → cond t (first (sides side f es)) (behind (sides side f es) (side p)) ≡ side_at side f (cond (nat_eq e.0 k) (first (keys_of es)) (behind (keys_of es) k))
+          other : (t : Bool) → nat_eq (side e.1) (side p) ≡ t → cond t (first (sides side f es)) (next_after (sides side f es) (side p)) ≡ side_at side f (cond (nat_eq e.0 k) (first (keys_of es)) (next_after (keys_of es) k))
           other true c =
               let i : nat_eq (side p) (side e.1) ≡ true = eq-eqb (side p) (side e.1) (sym (eqb-true (side e.1) (side p) c)) in
               let j : nat_eq (side p) (side p) ≡ false = never es k p b (missing (side e.1) (sides side f es) s.0 (side p) i) in

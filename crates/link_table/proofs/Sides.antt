@@ -5,7 +5,7 @@ use Rattle.link_table.proofs.Members.{distinct_members}
 use Rattle.link_table.proofs.Relation.{Found, Shown, behind_side, first_side, listed, shown, side_at}
 use Rattle.link_table.proofs.Walks.{all_members}
 use Rattle.link_table.specs.Nodes.{neighbors}
-use Rattle.link_table.specs.Pairs.{behind, first}
+use Rattle.link_table.specs.Pairs.{next_after, first}
 use Rattle.link_table.specs.Tables.{Entries, Keeps, State, around, behind_at, ends_at, entry_at, first_key, members, pair_at, pair_of, stands_with}
 use Rattle.link_table.specs.declared.node.Chain.TheVariants.{All, Left, Right}
 use Rattle.link_table.specs.declared.node.Chain.{Chain}
@@ -143,7 +143,7 @@ module _ (S : State) (E : Entries) (h : Keeps S E) where
         let a : first_key (ends_at S c p) ≡ first (members c p E) = ap first_key (h.ends c p) ∙ first_of_ends (members c p E) in
         rw a (first_side side pair (listing c p E) (shown_in pair c p E visible) ∙ seen (first (members c p E)))
 
-    pub walk_behind : (p : ℕ × ℕ) → behind (walked p) (side p) ≡ option_map side (pair_at S (behind_at S c p))
+    pub walk_behind : (p : ℕ × ℕ) → next_after (walked p) (side p) ≡ option_map side (pair_at S (behind_at S c p))
     walk_behind p = by (S.keys p) refl
       where
         absent : S.keys p ≡ None → Misses (side p) (walked p)
@@ -164,21 +164,21 @@ module _ (S : State) (E : Entries) (h : Keeps S E) where
                 each true i more = (differ i (nat_eq (side e.1) (side p)) refl, more)
                 each false i more = more
 
-        nothing : (xs : List ℕ) (x : ℕ) → Misses x xs → behind xs x ≡ None
+        nothing : (xs : List ℕ) (x : ℕ) → Misses x xs → next_after xs x ≡ None
         nothing [] x m = refl
         nothing (y ∷ ys) x m = rw m.0 (nothing ys x m.1)
 
-        at : (k : ℕ) → S.keys p ≡ Some k → (o : Option Node) → S.nodes k ≡ o → behind (walked p) (side p) ≡ option_map side (pair_at S (option_and_then (λ (n : Node). (neighbors c n).after) o))
+        at : (k : ℕ) → S.keys p ≡ Some k → (o : Option Node) → S.nodes k ≡ o → next_after (walked p) (side p) ≡ option_map side (pair_at S (option_and_then (λ (n : Node). (neighbors c n).after) o))
         at k f None i = let a : option_map pair_of (S.nodes k) ≡ Some p = h.pairs k ∙ h.found p k f in let b : option_map pair_of None ≡ Some p = rw i at a in cc
         at k f (Some n) i =
             let g : entry_at E k ≡ Some p = h.found p k f in
             let a : option_map (neighbors c) (S.nodes k) ≡ Some (around (members c p E) k) = h.places c k p g in
             let b : option_map (neighbors c) (Some n) ≡ Some (around (members c p E) k) = rw i at a in
             let j : neighbors c n ≡ around (members c p E) k = cc in
-            let l : (neighbors c n).after ≡ behind (members c p E) k = ap (λ (m : Neighbors). m.after) j in
+            let l : (neighbors c n).after ≡ next_after (members c p E) k = ap (λ (m : Neighbors). m.after) j in
             let m : entry_at (listing c p E) k ≡ Some p = entry_in c p p E k h.apart g (stands_itself c p) in
-            rw l (behind_side side pair (listing c p E) (shown_in pair c p E visible) (distinct_members c p E h.apart) (distinct_walk p) k p m ∙ seen (behind (members c p E) k))
+            rw l (behind_side side pair (listing c p E) (shown_in pair c p E visible) (distinct_members c p E h.apart) (distinct_walk p) k p m ∙ seen (next_after (members c p E) k))
 
-        by : (o : Option ℕ) → S.keys p ≡ o → behind (walked p) (side p) ≡ option_map side (pair_at S (option_and_then (λ k. option_and_then (λ n. (neighbors c n).after) (S.nodes k)) o))
+        by : (o : Option ℕ) → S.keys p ≡ o → next_after (walked p) (side p) ≡ option_map side (pair_at S (option_and_then (λ k. option_and_then (λ n. (neighbors c n).after) (S.nodes k)) o))
         by None f = nothing (walked p) (side p) (absent f)
         by (Some k) f = at k f (S.nodes k) refl

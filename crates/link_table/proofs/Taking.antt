@@ -3,7 +3,7 @@ use Rattle.link_table.proofs.Around.{Misses, before_rest, behind_rest, first_of_
 use Rattle.link_table.proofs.Linking.{one_pair, same_itself, stands_not_back}
 use Rattle.link_table.proofs.Members.{distinct_members, distinct_rest, drop_key, elsewhere, entry_gone, entry_rest, length_rest, members_rest, stands_there, together}
 use Rattle.link_table.specs.Nodes.{is_key, neighbors, taken_out, with_after, with_before}
-use Rattle.link_table.specs.Pairs.{behind, first}
+use Rattle.link_table.specs.Pairs.{next_after, first}
 use Rattle.link_table.specs.Tables.{Entries, Keeps, State, Takes, around, before_from, ends_at, ends_of, entry_at, if_there, left_over, members, pair_of, place, same_pair, stands_with, with_gap, without}
 use Rattle.link_table.specs.declared.node.Chain.TheVariants.{All, Left, Right}
 use Rattle.link_table.specs.declared.node.Chain.{Chain}
@@ -97,7 +97,7 @@ pair_stays d gone k o = by (is_key gone.before k) (is_key gone.after k) o
     by true true (Some m) = ap Some (pair_before d gone.before (with_after d gone.after m) ∙ pair_after d gone.after m)
 
 -- the ends of a list without a key
-ends_rest : (ks : List ℕ) (a : Neighbors) (n : ℕ) → a ≡ around ks n → first (without ks n) ≡ if_there (before_from None ks n) (first ks) (behind ks n) → last_or None (without ks n) ≡ if_there (behind ks n) (last_or None ks) (before_from None ks n) → left_over (ends_of ks) a ≡ ends_of (without ks n)
+ends_rest : (ks : List ℕ) (a : Neighbors) (n : ℕ) → a ≡ around ks n → first (without ks n) ≡ if_there (before_from None ks n) (first ks) (next_after ks n) → last_or None (without ks n) ≡ if_there (next_after ks n) (last_or None ks) (before_from None ks n) → left_over (ends_of ks) a ≡ ends_of (without ks n)
 ends_rest ks a n is f l = rw (is, f, l, first_of_ends ks, last_of_ends ks) refl
 
 -- ---- the whole
@@ -206,12 +206,12 @@ module _ (S T : State) (n : ℕ) (node : Node) (E : Entries) (h : Keeps S E) (th
   mended c k v g f true e =
       let a : members c q E ≡ members c v E = together c v q E e in
       let d = distinct_members c v E h.apart in
-      let i : before_from None (without (members c v E) n) k ≡ cond (is_key (behind (members c v E) n) k) (before_from None (members c v E) n) (before_from None (members c v E) k) = before_rest (members c v E) n k d (flip k n f) in
-      let j : behind (without (members c v E) n) k ≡ cond (is_key (before_from None (members c v E) n) k) (behind (members c v E) n) (behind (members c v E) k) = behind_rest (members c v E) n k d (flip k n f) in
-      rw (a, i, j) (each (is_key (before_from None (members c v E) n) k) (is_key (behind (members c v E) n) k))
+      let i : before_from None (without (members c v E) n) k ≡ cond (is_key (next_after (members c v E) n) k) (before_from None (members c v E) n) (before_from None (members c v E) k) = before_rest (members c v E) n k d (flip k n f) in
+      let j : next_after (without (members c v E) n) k ≡ cond (is_key (before_from None (members c v E) n) k) (next_after (members c v E) n) (next_after (members c v E) k) = behind_rest (members c v E) n k d (flip k n f) in
+      rw (a, i, j) (each (is_key (before_from None (members c v E) n) k) (is_key (next_after (members c v E) n) k))
     where
-      each : (s t : Bool) → cond t (option_map (with_last (before_from None (members c v E) n)) (cond s (option_map (with_next (behind (members c v E) n)) (Some (around (members c v E) k))) (Some (around (members c v E) k)))) (cond s (option_map (with_next (behind (members c v E) n)) (Some (around (members c v E) k))) (Some (around (members c v E) k)))
-          ≡ Some (record { before = cond t (before_from None (members c v E) n) (before_from None (members c v E) k); after = cond s (behind (members c v E) n) (behind (members c v E) k) })
+      each : (s t : Bool) → cond t (option_map (with_last (before_from None (members c v E) n)) (cond s (option_map (with_next (next_after (members c v E) n)) (Some (around (members c v E) k))) (Some (around (members c v E) k)))) (cond s (option_map (with_next (next_after (members c v E) n)) (Some (around (members c v E) k))) (Some (around (members c v E) k)))
+          ≡ Some (record { before = cond t (before_from None (members c v E) n) (before_from None (members c v E) k); after = cond s (next_after (members c v E) n) (next_after (members c v E) k) })
       each true true = refl
       each true false = refl
       each false true = refl
@@ -219,7 +219,7 @@ module _ (S T : State) (n : ℕ) (node : Node) (E : Entries) (h : Keeps S E) (th
   mended c k v g f false e =
       let m : Misses k (members c q E) = elsewhere c q v E k h.apart g (stands_not_back c v q e) in
       let a : is_key (before_from None (members c q E) n) k ≡ false = no_before k n (members c q E) m in
-      let b : is_key (behind (members c q E) n) k ≡ false = none_behind k n (members c q E) m in
+      let b : is_key (next_after (members c q E) n) k ≡ false = none_behind k n (members c q E) m in
       let i : without (members c v E) n ≡ members c v E = without_none (members c v E) n (elsewhere c v q E n h.apart entry e) in
       rw (a, b, i) refl
 

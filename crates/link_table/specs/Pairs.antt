@@ -37,11 +37,11 @@ first [] = None
 first (x ∷ xs) = Some x
 
 -- what stands behind x in a list, where x is there and isn't the last
-abbrev pub behind : List ℕ → ℕ → Option ℕ
-behind [] x = None
-behind (y ∷ ys) x = cond (nat_eq y x) (first ys) (behind ys x)
+abbrev pub next_after : List ℕ → ℕ → Option ℕ
+next_after [] x = None
+next_after (y ∷ ys) x = cond (nat_eq y x) (first ys) (next_after ys x)
 
 -- one step of a walk: the first, or what stands behind the one that came last
 abbrev pub next : List ℕ → Option ℕ → Option ℕ
 next xs None = first xs
-next xs (Some x) = behind xs x
+next xs (Some x) = next_after xs x

@@ -1,7 +1,7 @@
 -- How a table lays out its pairs: each is a node of a slab, which names its neighbors in three lists.
 -- No public clause cites this module.
 use Rattle.link_table.specs.Nodes.{is_key, neighbors, taken_out, with_after}
-use Rattle.link_table.specs.Pairs.{behind, first}
+use Rattle.link_table.specs.Pairs.{next_after, first}
 use Rattle.link_table.specs.declared.ends.Ends.{Ends}
 use Rattle.link_table.specs.declared.node.Chain.TheVariants.{All, Left, Right}
 use Rattle.link_table.specs.declared.node.Chain.{Chain}
@@ -49,7 +49,7 @@ before_from o [] k = None
 before_from o (x ∷ xs) k = cond (nat_eq x k) o (before_from (Some x) xs k)
 
 abbrev pub around : List ℕ → ℕ → Neighbors
-around ks k = record { before = before_from None ks k; after = behind ks k }
+around ks k = record { before = before_from None ks k; after = next_after ks k }
 
 -- the list without a key
 abbrev pub without : List ℕ → ℕ → List ℕ

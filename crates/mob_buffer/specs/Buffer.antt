@@ -53,9 +53,9 @@ IsNextSlot objects page low (Some slot) = (low ≤ slot) × (slot < 12) × (has_
 IsNextSlot objects page low None = (s : ℕ) → low ≤ s → has_slot objects page s ≡ false
 
 -- the least slot behind another, or the least of all
-abbrev pub behind : Option ℕ → ℕ
-behind (Some slot) = slot + 1
-behind None = 0
+abbrev pub slot_after : Option ℕ → ℕ
+slot_after (Some slot) = slot + 1
+slot_after None = 0
 
 -- an object of this repository, with a name and values that a store can have
 pub record IsOf (repo : ℕ) (q : Oref × Obj) : Type 0 where

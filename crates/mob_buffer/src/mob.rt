@@ -2,7 +2,7 @@ ghost use Rattle.std.specs.Prelude.{◌≡◌, ◌<◌, ◌≤◌, ◌^◌, ◌-
 ghost use Rattle.std.specs.Map.Iter.{ShowsInOrder, deref_pair};
 ghost use Rattle.object_codec.specs.Spelling.{ObjFits};
 ghost use Rattle.thor_value.specs.Spelling.{OrefFits};
-ghost use Rattle.mob_buffer.specs.Buffer.{AreDistinct, AreOf, AreOneRepo, CanStand, IsNextSlot, behind, bytes_of, object_of, with_all, with_object, without_page};
+ghost use Rattle.mob_buffer.specs.Buffer.{AreDistinct, AreOf, AreOneRepo, CanStand, IsNextSlot, slot_after, bytes_of, object_of, with_all, with_object, without_page};
 ghost use Rattle.std.specs.List.{AllByRecursion};
 ghost use Rattle.mob_buffer.specs.declared.fault.MobFull.TheVariants.{Full};
 
@@ -179,7 +179,7 @@ impl Mob {
 
     /// The next slot of a page that has an object, slots rising: the least, or the least behind another.
     pub fn of_page(&self, page: u32, after: Option<u8>) -> Option<u8>
-        ensures next { IsNextSlot self.now.objects page (behind after) result }
+        ensures next { IsNextSlot self.now.objects page (slot_after after) result }
     {
         let low = match after {
             Some(slot) => slot.saturating_add(1),

@@ -11,7 +11,7 @@ ghost use Rattle.model_reading.specs.Against.{against, invalid_by, live_refusal,
 ghost use Rattle.model_reading.specs.Opening.{base_of};
 ghost use Rattle.model_reading.specs.Tables.{names_in};
 ghost use Rattle.validation_queue.specs.Clashes.{first_some};
-ghost use Rattle.repo_refusals.specs.Refusals.{bar, behind, blocks, comes_earlier, comes_later, full, names_of, too_old};
+ghost use Rattle.repo_refusals.specs.Refusals.{bar, other_epoch, blocks, comes_earlier, comes_later, full, names_of, too_old};
 
 use crate::bytes::spelled_bytes;
 use crate::finding;
@@ -101,7 +101,7 @@ fn first_blocking(window: &Window, request: &Request) -> Option<Refusal>
 
 /// Whether the request's client hasn't seen just the upgrades that are installed.
 fn behind(state: &State, request: &Request) -> Result<Option<Refusal>, NoMemory>
-    ensures { IfOk result (λ r. r ≡ behind state.now request.now) }
+    ensures { IfOk result (λ r. r ≡ other_epoch state.now request.now) }
 {
     let n = state.epoch()?;
     if request.epoch == n {

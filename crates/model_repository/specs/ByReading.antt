@@ -9,7 +9,7 @@ use Rattle.session_outbox.specs.declared.answers.Verdict.{Verdict}
 use Rattle.session_outbox.specs.declared.answers.Welcome.{Welcome}
 use Rattle.session_outbox.specs.declared.message.Message.{Message}
 use Rattle.client_port.specs.Works.{is_prepared_by}
-use Rattle.law_client_views.specs.Plain.{Stepped, received, refuse, told}
+use Rattle.law_client_views.specs.Plain.{Stepped, received, refuse, answer_of_asked}
 use Rattle.base_reasons.specs.declared.reason.Reason.TheVariants as reasons
 use Rattle.spec_trace.specs.Calls.{Settled, Undecided, drawn_time, is_forgotten}
 use Rattle.spec_trace.specs.Exact.{most_pages}
@@ -90,4 +90,4 @@ abbrev pub finish_by : Base → Reading → List Item → Ts → Bool → Steppe
 finish_by b R T t c = cond (is_undecided (known_in b R.state t)) (Ok (Some R.state.length), T ++ E (Finished t c) ∷ []) (Ok None, T)
 
 abbrev pub ask_by : Base → Reading → List Item → Ts → Stepped answer.Asked
-ask_by b R T t = (Ok (told t (cond (is_undecided (known_in b R.state t) && nat_eq t.repo b.repo) Undecided (Settled (commits_by_reading R T t)))), T)
+ask_by b R T t = (Ok (answer_of_asked t (cond (is_undecided (known_in b R.state t) && nat_eq t.repo b.repo) Undecided (Settled (commits_by_reading R T t)))), T)

@@ -53,7 +53,7 @@ use Rattle.paused_eval.proofs.Hands.{same_hands}
 use Rattle.paused_eval.proofs.Standing.{named, named_is, stops}
 use Rattle.paused_eval.specs.Begins.{first_part, waiting_frame}
 use Rattle.paused_eval.specs.Copies.{Keeps}
-use Rattle.paused_eval.specs.Direct.{Direct, Directly, Directs, IsLater, IsLeft, Outcome, Resumes, Waits, on, again, behind, block, call, collect, directly, done, effect, enter, enter_as, faulted, in_order, met, node, part, ready, returned, statement, statement_at, stepped, tests, turn, turn_by, unless, value_at, waiting}
+use Rattle.paused_eval.specs.Direct.{Direct, Directly, Directs, IsLater, IsLeft, Outcome, Resumes, Waits, on, again, goes_on_after, block, call, collect, directly, done, effect, enter, enter_as, faulted, in_order, met, node, part, ready, returned, statement, statement_at, stepped, tests, turn, turn_by, unless, value_at, waiting}
 use Rattle.paused_eval.specs.Standing.{Runs, Went, outcome_of}
 use Rattle.paused_eval.specs.declared.unwound.Unwound.{Unwound}
 use Rattle.paused_eval.specs.declared.unwound.Unwound.TheVariants.{Faulted, Later, NoMemory}
@@ -89,11 +89,11 @@ touch_stays w owners x m n t e =
 
 -- ---- in the words of the code
 
-pub left_waiting : {A B : Type 0} (p : Outcome A) (u v : Unwound) (f : Frame) (k : A → Direct B) (n : Machine) → Directs (Err u) n p → Waits f u v → Directs (Err v) n (behind p.0 p.1 f k)
-left_waiting p (Later d gs) (Later e hs) f k n h i = ap (λ (q : Outcome _). behind q.0 q.1 f k) h ∙ ap (λ (x : Unwound). (Err x, n)) (sym i)
+pub left_waiting : {A B : Type 0} (p : Outcome A) (u v : Unwound) (f : Frame) (k : A → Direct B) (n : Machine) → Directs (Err u) n p → Waits f u v → Directs (Err v) n (goes_on_after p.0 p.1 f k)
+left_waiting p (Later d gs) (Later e hs) f k n h i = ap (λ (q : Outcome _). goes_on_after q.0 q.1 f k) h ∙ ap (λ (x : Unwound). (Err x, n)) (sym i)
 left_waiting p (Later d gs) (Faulted e) f k n h i = cc
 left_waiting p (Faulted t) (Later e hs) f k n h i = cc
-left_waiting p (Faulted t) (Faulted e) f k n h i = ap (λ (q : Outcome _). behind q.0 q.1 f k) h ∙ ap (λ (x : Unwound). (Err x, n)) (sym i)
+left_waiting p (Faulted t) (Faulted e) f k n h i = ap (λ (q : Outcome _). goes_on_after q.0 q.1 f k) h ∙ ap (λ (x : Unwound). (Err x, n)) (sym i)
 left_waiting p NoMemory (Later e hs) f k n h i = cc
 left_waiting p NoMemory (Faulted e) f k n h i = cc
 left_waiting p u NoMemory f k n h i = tt
@@ -175,15 +175,15 @@ tests-more w n d t c b m some h = let i : t ≡ suc (t - 1) = omega (arith, some
 pub ruleset at_turn = (tests-none, tests-over, tests-more)
 
 -- what a part came to, and what is behind it
-done_ok : {A B : Type 0} (r : Result A Unwound) (o : Machine) (f : Frame) (k : A → Direct B) (a : A) (p : Machine) → behind r o f done ≡ (Ok a, p) → behind r o f k ≡ k a p
-done_ok {A} (Ok b) o f k a p h = ap (λ (q : Outcome A). behind q.0 q.1 f k) h
+done_ok : {A B : Type 0} (r : Result A Unwound) (o : Machine) (f : Frame) (k : A → Direct B) (a : A) (p : Machine) → goes_on_after r o f done ≡ (Ok a, p) → goes_on_after r o f k ≡ k a p
+done_ok {A} (Ok b) o f k a p h = ap (λ (q : Outcome A). goes_on_after q.0 q.1 f k) h
 done_ok {A} {B} (Err u) o f k a p h = apart (◌≡◌ {A = Outcome B} (Err (waiting f u), o) (k a p)) (waiting f u) a o p h
 
 abbrev relabelled : {A B : Type 0} → Result A Unwound → Result B Unwound
 relabelled (Ok a) = Err NoMemory
 relabelled (Err u) = Err u
 
-done_err : {A B : Type 0} (r : Result A Unwound) (o : Machine) (f : Frame) (k : A → Direct B) (u : Unwound) (p : Machine) → behind r o f done ≡ (Err u, p) → behind r o f k ≡ (Err u, p)
+done_err : {A B : Type 0} (r : Result A Unwound) (o : Machine) (f : Frame) (k : A → Direct B) (u : Unwound) (p : Machine) → goes_on_after r o f done ≡ (Err u, p) → goes_on_after r o f k ≡ (Err u, p)
 done_err {A} {B} (Ok b) o f k u p h = apart (k b o ≡ (Err u, p)) u b p o (sym h)
 done_err {A} (Err x) o f k u p h = ap (λ (q : Outcome A). (relabelled q.0, q.1)) h
 
@@ -263,7 +263,7 @@ module _ (w : World) (Q : Left → Machine → Type 0) (Z : Fault → Machine �
   same g = g
 
   parted : {A B : Type 0} (fa : A → Flow) (fb : B → Flow) (r : Result A Unwound) (o : Machine) (f : Frame) (k : A → Direct B) (fs : List Frame) → After fa r o (f ∷ fs)
-      → ((a : A) (p : Machine) → Q (left (doing.Give (fa a)) (f ∷ fs)) p → After fb (k a p).0 (k a p).1 fs) → After fb (behind r o f k).0 (behind r o f k).1 fs
+      → ((a : A) (p : Machine) → Q (left (doing.Give (fa a)) (f ∷ fs)) p → After fb (k a p).0 (k a p).1 fs) → After fb (goes_on_after r o f k).0 (goes_on_after r o f k).1 fs
   parted fa fb (Ok a) o f k fs q h = h a o q
   parted fa fb (Err (Later d gs)) o f k fs q h = subst (λ (hs : List Frame). Q (left d hs) o) (sym (append_assoc gs (f ∷ []) fs)) q
   parted fa fb (Err (Faulted e)) o f k fs q h = q

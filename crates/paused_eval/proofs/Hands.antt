@@ -24,7 +24,7 @@ use Rattle.class_defs.specs.Objects.{first_of}
 use Rattle.class_defs.specs.Stored.{bare}
 use Rattle.class_defs.specs.declared.store.Object.{Object}
 use Rattle.class_defs.specs.declared.store.Schema.{Schema}
-use Rattle.client_cache.specs.Copies.{Contents, Held, changed, has_written, holds, kept, nothing, seen, told}
+use Rattle.client_cache.specs.Copies.{Contents, Held, changed, has_written, holds, kept, nothing, seen, copy_by}
 use Rattle.client_cache.specs.Pages.{page_of, same_name, same_page}
 use Rattle.client_cache.specs.Slots.{kept_in, seen_in}
 use Rattle.client_cache.specs.Slots as slots
@@ -145,35 +145,35 @@ nothing_written limit = none_written (nothing limit) refl (λ x. refl)
 abbrev told_at : Oref → Option (List Slot) → Option Obj
 told_at x o = option_and_then (λ l. slots.written_in l x.slot) o
 
-changed_before : (n : ℕ) (held : Held) (x : Oref) → told slots.written_in held x ≡ None → told slots.written_in (take n held) x ≡ None
+changed_before : (n : ℕ) (held : Held) (x : Oref) → copy_by slots.written_in held x ≡ None → copy_by slots.written_in (take n held) x ≡ None
 changed_before zero held x h = refl
 changed_before (suc n) [] x h = refl
 changed_before (suc n) (e ∷ held) x h = by (same_page (page_of x) e.0) h (changed_before n held x)
   where
-    by : (b : Bool) → told_at x (cond b (Some e.1) (lookup (same_page (page_of x)) held)) ≡ None → (told slots.written_in held x ≡ None → told slots.written_in (take n held) x ≡ None)
+    by : (b : Bool) → told_at x (cond b (Some e.1) (lookup (same_page (page_of x)) held)) ≡ None → (copy_by slots.written_in held x ≡ None → copy_by slots.written_in (take n held) x ≡ None)
         → told_at x (cond b (Some e.1) (lookup (same_page (page_of x)) (take n held))) ≡ None
     by true h rest = h
     by false h rest = rest h
 
 pub fewer_written : (n : ℕ) (c d : Contents) → d.held ≡ take n c.held → ((x : Oref) → changed c x ≡ None) → (x : Oref) → changed d x ≡ None
-fewer_written n c d e h = λ x. ap (λ (held : Held). told slots.written_in held x) e ∙ changed_before n c.held x (h x)
+fewer_written n c d e h = λ x. ap (λ (held : Held). copy_by slots.written_in held x) e ∙ changed_before n c.held x (h x)
 
 pub fewer_tied : (n : ℕ) (c d : Contents) → d.held ≡ take n c.held → c.written ≡ [] → d.written ≡ c.written → ((x : Oref) → changed c x ≡ None) → Tied d
 fewer_tied n c d e none same h = none_written d (same ∙ none) (fewer_written n c d e h)
 
-told_before : (n : ℕ) (held : Held) (x : Oref) → (told slots.kept_in (take n held) x ≡ told slots.kept_in held x) ⊎ (told slots.kept_in (take n held) x ≡ None)
+told_before : (n : ℕ) (held : Held) (x : Oref) → (copy_by slots.kept_in (take n held) x ≡ copy_by slots.kept_in held x) ⊎ (copy_by slots.kept_in (take n held) x ≡ None)
 told_before zero held x = inr refl
 told_before (suc n) [] x = inl refl
-told_before (suc n) (e ∷ es) x = (elim (same_page (page_of x) e.0) as (λ b. same_page (page_of x) e.0 ≡ b → (told slots.kept_in (take (suc n) (e ∷ es)) x ≡ told slots.kept_in (e ∷ es) x) ⊎ (told slots.kept_in (take (suc n) (e ∷ es)) x ≡ None)) [
+told_before (suc n) (e ∷ es) x = (elim (same_page (page_of x) e.0) as (λ b. same_page (page_of x) e.0 ≡ b → (copy_by slots.kept_in (take (suc n) (e ∷ es)) x ≡ copy_by slots.kept_in (e ∷ es) x) ⊎ (copy_by slots.kept_in (take (suc n) (e ∷ es)) x ≡ None)) [
   | true ↦ λ t. rw t (inl refl)
   | false ↦ λ t. rw t (told_before n es x)
 ]) refl
 
 -- copies that stayed, with fewer pages
 pub fewer_kept : (n : ℕ) (a c d : Contents) → Keeps a c → d.held ≡ take n c.held → AreAmong (kept a) (kept d)
-fewer_kept n a c d same e x = subst (λ (held : Held). (told slots.kept_in held x ≡ kept a x) ⊎ (told slots.kept_in held x ≡ None)) (sym e) (by (told_before n c.held x))
+fewer_kept n a c d same e x = subst (λ (held : Held). (copy_by slots.kept_in held x ≡ kept a x) ⊎ (copy_by slots.kept_in held x ≡ None)) (sym e) (by (told_before n c.held x))
   where
-    by : (told slots.kept_in (take n c.held) x ≡ kept c x) ⊎ (told slots.kept_in (take n c.held) x ≡ None) → (told slots.kept_in (take n c.held) x ≡ kept a x) ⊎ (told slots.kept_in (take n c.held) x ≡ None)
+    by : (copy_by slots.kept_in (take n c.held) x ≡ kept c x) ⊎ (copy_by slots.kept_in (take n c.held) x ≡ None) → (copy_by slots.kept_in (take n c.held) x ≡ kept a x) ⊎ (copy_by slots.kept_in (take n c.held) x ≡ None)
     by (inl p) = inl (p ∙ same x)
     by (inr p) = inr p
 

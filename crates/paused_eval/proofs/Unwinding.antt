@@ -22,7 +22,7 @@ use Rattle.lang_small_steps.specs.declared.nodes.ExprNode.{ExprNode}
 use Rattle.paused_eval.proofs.Directly.{body, left_waiting, next_turn, same_world, test_left}
 use Rattle.paused_eval.specs.Begins.{first_part, waiting_frame}
 use Rattle.paused_eval.specs.Copies.{Keeps, state}
-use Rattle.paused_eval.specs.Direct.{Direct, Directly, Directs, Outcome, Waits, on, behind, called, collect, directly, effect, node, statement, tests, turn}
+use Rattle.paused_eval.specs.Direct.{Direct, Directly, Directs, Outcome, Waits, on, goes_on_after, called, collect, directly, effect, node, statement, tests, turn}
 use Rattle.paused_eval.specs.declared.unwound.Unwound.{Unwound}
 use Rattle.paused_eval.specs.declared.unwound.Unwound.TheVariants.{Faulted, Later, NoMemory}
 
@@ -56,9 +56,9 @@ other_world s c d k h = ap k (same_world s c d h)
 
 -- behind a part that is done
 then_does : {A B : Type 0} (s : Schema) (c d : Contents) (p : Outcome A) (a : A) (m n : Machine) (r : Result B Unwound) (f : Frame) (k : World → A → Direct B) → Keeps c d
-    → p ≡ (Ok a, m) → Directs r n (k (on s d) a m) → Directs r n (behind p.0 p.1 f (k (on s c)))
+    → p ≡ (Ok a, m) → Directs r n (k (on s d) a m) → Directs r n (goes_on_after p.0 p.1 f (k (on s c)))
 then_does {A} s c d p a m n r f k h e i =
-    subst (λ (q : Outcome A). Directs r n (behind q.0 q.1 f (k (on s c)))) (sym e) (subst (λ (w : World). Directs r n (k w a m)) (same_world s c d h) i)
+    subst (λ (q : Outcome A). Directs r n (goes_on_after q.0 q.1 f (k (on s c)))) (sym e) (subst (λ (w : World). Directs r n (k w a m)) (same_world s c d h) i)
 
 pub called_does : (s : Schema) (c d : Contents) (n : ℕ) (receiver : Expr) (name : List ℕ) (es rest : List Expr) (t : ExprType) (v : Value) (none : List Value) (m o p : Machine) (r : Result Value Unwound)
     → Keeps c d → t ≡ type_of (scope_at s m) receiver → none ≡ [] → rest ≡ es → (directly (on s c) n).value_of receiver m ≡ (Ok v, o)

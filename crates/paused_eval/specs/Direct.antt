@@ -87,13 +87,13 @@ later d = λ m. (Err (Later d []), m)
 abbrev pub faulted : {A : Type 0} → Unwound → Direct A
 faulted u = λ m. (Err u, m)
 
-abbrev pub behind : {A B : Type 0} → Result A Unwound → Machine → Frame → (A → Direct B) → Outcome B
-behind (Ok a) m f k = k a m
-behind (Err u) m f k = (Err (waiting f u), m)
+abbrev pub goes_on_after : {A B : Type 0} → Result A Unwound → Machine → Frame → (A → Direct B) → Outcome B
+goes_on_after (Ok a) m f k = k a m
+goes_on_after (Err u) m f k = (Err (waiting f u), m)
 
 -- a part, for which a frame waits, and then what is behind it
 abbrev pub part : {A B : Type 0} → Direct A → Frame → (A → Direct B) → Direct B
-part p f k = λ m. behind (p m).0 (p m).1 f k
+part p f k = λ m. goes_on_after (p m).0 (p m).1 f k
 
 -- where a small step stops, that step is left
 abbrev pub left_at : Doing → Stop → Unwound

@@ -13,30 +13,30 @@ use Rattle.log_codec.specs.declared.state.State.{State}
 use Rattle.log_frame.specs.Log.{Opened}
 use Rattle.repo_state.specs.Said.{said}
 use Rattle.commit_log.specs.Opening.{Found, log_of}
-use Rattle.commit_log.specs.Recovered.{after, behind, can_follow, is_whole, next, replayed, sequence_end, stands, state_in, whole}
+use Rattle.commit_log.specs.Recovered.{after, after_body, can_follow, is_whole, next, replayed, sequence_end, stands, state_in, whole}
 use Rattle.recovery.proofs.Replayed.{replayed_is}
 use Rattle.recovery.specs.Damage.{CantHold, CantPut, Fault, IsBroken, IsNoBody, IsUnheld, NoBody, NoCheckpoint, NoSequence, put_on}
 
 -- ---- a log that stands for nothing
 
-none_behind : (bodies : List (List ℕ)) → fold behind None bodies ≡ None
+none_behind : (bodies : List (List ℕ)) → fold after_body None bodies ≡ None
 none_behind [] = refl
 none_behind (b ∷ bs) = none_behind bs
 
-behind_none : (o : Option State) (body : List ℕ) → value_of body_format body ≡ None → behind o body ≡ None
+behind_none : (o : Option State) (body : List ℕ) → value_of body_format body ≡ None → after_body o body ≡ None
 behind_none None body none = refl
 behind_none (Some s) body none = ap (λ (v : Option Body). option_and_then (next s) v) none
 
-none_within : (o : Option State) (bodies : List (List ℕ)) (at : ℕ) (body : List ℕ) → slice_get bodies at ≡ Some body → value_of body_format body ≡ None → fold behind o bodies ≡ None
+none_within : (o : Option State) (bodies : List (List ℕ)) (at : ℕ) (body : List ℕ) → slice_get bodies at ≡ Some body → value_of body_format body ≡ None → fold after_body o bodies ≡ None
 none_within o [] at body is none = cc
 none_within o (b ∷ bs) zero body is none =
     let same : b ≡ body = cc in
-    ap (λ (p : Option State). fold behind p bs) (behind_none o b (ap (value_of body_format) same ∙ none)) ∙ none_behind bs
-none_within o (b ∷ bs) (suc at) body is none = none_within (behind o b) bs at body is none
+    ap (λ (p : Option State). fold after_body p bs) (behind_none o b (ap (value_of body_format) same ∙ none)) ∙ none_behind bs
+none_within o (b ∷ bs) (suc at) body is none = none_within (after_body o b) bs at body is none
 
 no_head : (head : List ℕ) (bodies : List (List ℕ)) → value_of state_format head ≡ None → replayed head bodies ≡ None
 unfolding replayed
-no_head head bodies none = ap (λ (o : Option State). fold behind (option_and_then whole o) bodies) none ∙ none_behind bodies
+no_head head bodies none = ap (λ (o : Option State). fold after_body (option_and_then whole o) bodies) none ∙ none_behind bodies
 
 no_body_in : (head : List ℕ) (bodies : List (List ℕ)) (first place : ℕ) → IsNoBody first bodies place → replayed head bodies ≡ None
 unfolding replayed

@@ -15,7 +15,7 @@ use Rattle.log_codec.specs.Grammar.{body_format}
 use Rattle.log_codec.specs.declared.body.Body.{Body}
 use Rattle.log_codec.specs.declared.state.State.{State}
 use Rattle.log_frame.specs.Log.{Opened}
-use Rattle.commit_log.specs.Recovered.{after, behind, can_follow, next, replayed, state_in, whole}
+use Rattle.commit_log.specs.Recovered.{after, after_body, can_follow, next, replayed, state_in, whole}
 use Rattle.recovery.specs.Damage.{put_on}
 use Rattle.recovery.proofs.Read.{taken_next}
 
@@ -25,17 +25,17 @@ some_head x y xs ys is = cc
 some_tail : {X : Type 0} (x y : X) (xs ys : List X) → x ∷ xs ≡ y ∷ ys → xs ≡ ys
 some_tail x y xs ys is = cc
 
-pub behind_all : (o : Option State) (records : List (List ℕ)) (bodies : List Body) → map (value_of body_format) records ≡ map Some bodies → fold behind o records ≡ fold put_on o bodies
+pub behind_all : (o : Option State) (records : List (List ℕ)) (bodies : List Body) → map (value_of body_format) records ≡ map Some bodies → fold after_body o records ≡ fold put_on o bodies
 behind_all o [] [] is = refl
 behind_all o [] (b ∷ bs) is = cc
 behind_all o (r ∷ rs) [] is = cc
 behind_all o (r ∷ rs) (b ∷ bs) is =
     let one : value_of body_format r ≡ Some b = some_head (value_of body_format r) (Some b) (map (value_of body_format) rs) (map Some bs) is in
-    ap (λ (v : Option Body). fold behind (option_and_then (λ s. option_and_then (next s) v) o) rs) one ∙ behind_all (put_on o b) rs bs (some_tail (value_of body_format r) (Some b) (map (value_of body_format) rs) (map Some bs) is)
+    ap (λ (v : Option Body). fold after_body (option_and_then (λ s. option_and_then (next s) v) o) rs) one ∙ behind_all (put_on o b) rs bs (some_tail (value_of body_format r) (Some b) (map (value_of body_format) rs) (map Some bs) is)
 
 pub replayed_is : (head : List ℕ) (records : List (List ℕ)) (s : State) (bodies : List Body) → value_of state_format head ≡ Some s → map (value_of body_format) records ≡ map Some bodies → replayed head records ≡ fold put_on (whole s) bodies
 unfolding replayed
-replayed_is head records s bodies first rest = ap (λ (o : Option State). fold behind (option_and_then whole o) records) first ∙ behind_all (whole s) records bodies rest
+replayed_is head records s bodies first rest = ap (λ (o : Option State). fold after_body (option_and_then whole o) records) first ∙ behind_all (whole s) records bodies rest
 
 -- a log stands for its checkpoint with its bodies behind it
 pub state_is : (o : Opened) (s t : State) (bodies : List Body) → o.sequence < 2 ^ 62 → value_of state_format o.head ≡ Some s → map (value_of body_format) o.bodies ≡ map Some bodies → fold put_on (whole s) bodies ≡ Some t → state_in o ≡ Some t

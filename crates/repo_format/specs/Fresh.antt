@@ -19,13 +19,13 @@ abbrev pub page_count : ℕ → List Root → ℕ
 page_count repo roots = fold (page_behind repo) 0 roots
 
 -- a text behind another: one space stands between two
-abbrev pub behind : List ℕ → List ℕ → List ℕ
-behind [] text = text
-behind (b ∷ bs) text = (b ∷ bs) ++ 32 ∷ text
+abbrev pub joined_texts : List ℕ → List ℕ → List ℕ
+joined_texts [] text = text
+joined_texts (b ∷ bs) text = (b ∷ bs) ++ 32 ∷ text
 
 -- the classes as one text
 abbrev pub classes_text : List Class → List ℕ
-classes_text classes = fold (λ text c. behind text (printed_class c)) [] classes
+classes_text classes = fold (λ text c. joined_texts text (printed_class c)) [] classes
 
 -- the timestamp before all others
 abbrev pub first_ts : Ts

@@ -4,7 +4,7 @@ ghost use Rattle.std.specs.List.{AllByRecursion};
 ghost use Rattle.std.specs.Prelude.{◌≡◌, IfOk, OnOk, ◌≤◌};
 ghost use Rattle.log_codec.specs.Checkpoint.{RootFits, StateFits};
 ghost use Rattle.page_format.specs.Sides.{SidesFit};
-ghost use Rattle.repo_format.specs.Fresh.{behind, classes_text, first_state, page_behind, page_count};
+ghost use Rattle.repo_format.specs.Fresh.{joined_texts, classes_text, first_state, page_behind, page_count};
 
 use class_defs::{Class, Root, Setup};
 use log_codec::{Alones, Requests, State};
@@ -87,7 +87,7 @@ fn text_of_classes(alloc: Global, classes: &[Class]) -> Result<Text, NoMemory>
 
 /// Puts a text behind another, with one space between two.
 fn put_behind(text: &mut Text, more: Text) -> Result<(), NoMemory>
-    ensures { OnOk result (text.new ≡ behind text.old more) }
+    ensures { OnOk result (text.new ≡ joined_texts text.old more) }
 {
     if !text.is_empty() {
         text.push(b' ')?;

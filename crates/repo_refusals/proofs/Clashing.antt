@@ -7,7 +7,7 @@ use Rattle.repo_refusals.proofs.Validated.{neither, nothing_holds, unmapped}
 use Rattle.spec_history.specs.History.{Base, State}
 use Rattle.repo_refusals.specs.Queue.{TellsInOrder, old_of, queue_of, queued_of, refusal_by, transaction_of}
 use Rattle.spec_history.specs.Requests.{has_read, has_written, is_upgrade, written}
-use Rattle.repo_refusals.specs.Refusals.{bar, behind, blocks, comes_earlier, comes_later, first_refusal, full, full_of_undecided, full_of_writes, least_name, names_of, passing, reads_from, set_of, too_old, writes_over}
+use Rattle.repo_refusals.specs.Refusals.{bar, other_epoch, blocks, comes_earlier, comes_later, first_refusal, full, full_of_undecided, full_of_writes, least_name, names_of, passing, reads_from, set_of, too_old, writes_over}
 use Rattle.repo_refusals.specs.Window.{Member, Window, first_decided}
 use Rattle.base_reasons.specs.declared.reason.Reason.TheVariants as reasons
 use Rattle.repo_refusals.specs.declared.refusal.Refusal.TheVariants as refused
@@ -283,7 +283,7 @@ joined (Some c) r x y stale w h k n m =
     ap (λ u. option_or u (option_or stale (option_or (Some (refused.Reason c)) w))) k
     ∙ ap (λ u. option_or u (option_or stale (option_or y w))) h
 
-pub refusal_alike : (b : Base) (S : State) (W : Window) (q : Request) (stale : Option Refusal) → TellsInOrder q → first_refusal S W stale (full b W q) q ≡ refusal_by (queue_of W) q (behind S q) stale (full_of_writes b q)
+pub refusal_alike : (b : Base) (S : State) (W : Window) (q : Request) (stale : Option Refusal) → TellsInOrder q → first_refusal S W stale (full b W q) q ≡ refusal_by (queue_of W) q (other_epoch S q) stale (full_of_writes b q)
 refusal_alike b S W q stale h =
     let es = W.members.pairs in
     let ts = on queued_of es in
@@ -301,8 +301,8 @@ refusal_alike b S W q stale h =
     (full_not_old _)) in
     let kept : option_or (option_or e (option_or l (full_of_undecided W))) w ≡ option_or e (option_or l (full b W q)) = together e (option_or l (full_of_undecided W)) w ∙ ap (option_or e) (together l (full_of_undecided W) w) in
     let tail = joined (queue.too_old Q (transaction_of q)) r (too_old W q) (option_or e (option_or l (full_of_undecided W))) stale w (old_alike W q) (old_is (is_before (queue.bar Q (is_upgrade q)) q.tx) (queue.bar Q (is_upgrade q))) not_old (rest_alike W q h) in
-    ap (λ o. option_or o (option_or (behind S q) (option_or (too_old W q) (option_or stale (option_or e (option_or l (full b W q))))))) (blocks_alike W q)
-    ∙ ap (λ o. option_or (option_map (λ t. refused.Reason (reasons.Blocked t)) (first_blocking Q (is_upgrade q))) (option_or (behind S q) o)) (ap (λ o. option_or (too_old W q) (option_or stale o)) (sym kept) ∙ sym tail)
+    ap (λ o. option_or o (option_or (other_epoch S q) (option_or (too_old W q) (option_or stale (option_or e (option_or l (full b W q))))))) (blocks_alike W q)
+    ∙ ap (λ o. option_or (option_map (λ t. refused.Reason (reasons.Blocked t)) (first_blocking Q (is_upgrade q))) (option_or (other_epoch S q) o)) (ap (λ o. option_or (too_old W q) (option_or stale o)) (sym kept) ∙ sym tail)
 
 -- where nothing refuses, the queue has nothing against it
 pub clash_none : (b : Base) (S : State) (W : Window) (q : Request) (stale : Option Refusal) → TellsInOrder q → first_refusal S W stale (full b W q) q ≡ None → clash (queue_of W) (transaction_of q) ≡ None

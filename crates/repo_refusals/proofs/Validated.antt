@@ -9,7 +9,7 @@ use Rattle.repo_refusals.specs.Covers.{MemberFits}
 use Rattle.spec_history.specs.History.{Aborted, Base, Committed, Fate, IsCommitted, Lives, Open, Known, State, epoch_of, known_by, state}
 use Rattle.spec_history.specs.Requests.{bars, has_read, has_written, is_upgrade, overwrites, reads_of, written}
 use Rattle.spec_history.specs.Sound.{Accepts, sound}
-use Rattle.repo_refusals.specs.Refusals.{bar, behind, blocks, comes_earlier, comes_later, first_refusal, least_name, names_of, passing, reads_from, too_old, writes_over}
+use Rattle.repo_refusals.specs.Refusals.{bar, other_epoch, blocks, comes_earlier, comes_later, first_refusal, least_name, names_of, passing, reads_from, too_old, writes_over}
 use Rattle.repo_refusals.specs.Window.{Member, Window, window}
 use Rattle.repo_refusals.specs.declared.refusal.Refusal.{Refusal}
 use Rattle.std.proofs.Common.{List, [], ap, cond, inl, inr, refl, subst, sym, ◌++◌, ◌≡◌, ◌∙◌, ◌∷◌}
@@ -187,7 +187,7 @@ undecided_is false f a e = refl
 -- none of the refusals holds
 pub record NothingHolds (S : State) (W : Window) (stale full : Option Refusal) (q : Request) : Type 0 where
   pub blocked : first_some (blocks q) W.members.pairs ≡ None
-  pub epoch : behind S q ≡ None
+  pub epoch : other_epoch S q ≡ None
   pub old : too_old W q ≡ None
   pub copies : stale ≡ None
   pub earlier : first_some (comes_earlier q) W.members.pairs ≡ None
@@ -199,8 +199,8 @@ nothing_holds S W stale full q none =
     let es = W.members.pairs in
     let late = option_or (first_some (comes_later q) es) full in
     let rest = option_or (first_some (comes_earlier q) es) late in
-    let p0 = neither (first_some (blocks q) es) (option_or (behind S q) (option_or (too_old W q) (option_or stale rest))) none in
-    let p1 = neither (behind S q) (option_or (too_old W q) (option_or stale rest)) p0.1 in
+    let p0 = neither (first_some (blocks q) es) (option_or (other_epoch S q) (option_or (too_old W q) (option_or stale rest))) none in
+    let p1 = neither (other_epoch S q) (option_or (too_old W q) (option_or stale rest)) p0.1 in
     let p2 = neither (too_old W q) (option_or stale rest) p1.1 in
     let p3 = neither stale rest p2.1 in
     let p4 = neither (first_some (comes_earlier q) es) late p3.1 in

@@ -64,15 +64,15 @@ abbrev pub comes_later : Request → Ts × Member → Option Refusal
 comes_later q e = cond (is_before q.tx e.0) (option_map (λ x. refused.Reason (reasons.Later e.0 x)) (least_name q (λ x. reads_from q e.1.request x || writes_over q e.1.request x))) None
 
 -- q's client hasn't seen just the upgrades that are installed
-abbrev pub behind : State → Request → Option Refusal
-behind S q = cond (nat_eq q.epoch (epoch_of S)) None (Some (refused.Reason (reasons.Epoch (epoch_of S))))
+abbrev pub other_epoch : State → Request → Option Refusal
+other_epoch S q = cond (nat_eq q.epoch (epoch_of S)) None (Some (refused.Reason (reasons.Epoch (epoch_of S))))
 
 -- The first refusal of q that holds, or None where it is accepted, but for the session's end. `stale`
 -- is what the session's invalid set has against it, and `full` what the limits have.
 abbrev pub first_refusal : State → Window → Option Refusal → Option Refusal → Request → Option Refusal
 first_refusal S W stale full q =
     option_or (first_some (blocks q) W.members.pairs)
-    (option_or (behind S q)
+    (option_or (other_epoch S q)
     (option_or (too_old W q)
     (option_or stale
     (option_or (first_some (comes_earlier q) W.members.pairs)

@@ -6,7 +6,7 @@ ghost use Rattle.spec_history.specs.History.{Base, State, state};
 ghost use Rattle.repo_refusals.specs.Queue.{TellsInOrder, queue_of, queued_of, refusal_by, slide_queue, transaction_of};
 ghost use Rattle.spec_history.specs.Requests.{is_upgrade};
 ghost use Rattle.spec_history.specs.Sound.{sound};
-ghost use Rattle.repo_refusals.specs.Refusals.{behind, blocks, comes_earlier, comes_later, first_refusal, full, full_of_undecided, full_of_writes, set_of, too_old};
+ghost use Rattle.repo_refusals.specs.Refusals.{other_epoch, blocks, comes_earlier, comes_later, first_refusal, full, full_of_undecided, full_of_writes, set_of, too_old};
 ghost use Rattle.repo_refusals.specs.Window.{Member, Window, decide, enter, leave, restarted, window};
 ghost use Rattle.base_reasons.specs.declared.reason.Reason.TheVariants as reasons;
 ghost use Rattle.repo_refusals.specs.declared.refusal.Refusal.TheVariants as refused;
@@ -61,7 +61,7 @@ pub fn queues_answer_by_the_window()
     ensures refusal { (b : Base) (S : State) (W : Window) (q : Request) (stale : Option Refusal) →
         TellsInOrder q →
         first_refusal S W stale (full b W q) q
-        ≡ refusal_by (queue_of W) q (behind S q) stale (full_of_writes b q) }
+        ≡ refusal_by (queue_of W) q (other_epoch S q) stale (full_of_writes b q) }
     ensures accepted { (b : Base) (S : State) (W : Window) (q : Request) (stale : Option Refusal) →
         TellsInOrder q → first_refusal S W stale (full b W q) q ≡ None →
         clash (queue_of W) (transaction_of q) ≡ None }

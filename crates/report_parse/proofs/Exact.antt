@@ -6,7 +6,7 @@ use Rattle.std.proofs.lemmas.Bool.Decides.{nat_tests}
 use Rattle.std.proofs.lemmas.List.Concat.{flat_map-cons}
 use Rattle.std.proofs.lemmas.Bool.{and_parts}
 use Rattle.std.proofs.lemmas.Option.{cond_some, same_Some}
-use Rattle.report_parse.specs.Reading.{Reading, ◌>>=◌, ◌then◌, strip, made, behind, before, such_that, only, chosen, first_of, gathered, many, all_of}
+use Rattle.report_parse.specs.Reading.{Reading, ◌>>=◌, ◌then◌, strip, made, after_text, before, such_that, only, chosen, first_of, gathered, many, all_of}
 
 -- ---- steps that may fail
 
@@ -135,18 +135,18 @@ module _ {X Y : Type 0} (May : List ℕ → Type 0) (HasX : X → Type 0) (HasY 
 -- ---- a part behind a fixed text, and before one
 
 module _ {X : Type 0} (May : List ℕ → Type 0) (Has : X → Type 0) (a : X → List ℕ) (text : List ℕ) (read : Reading X) (ok : IsExact May Has a read) where
-  behind_found : (bytes : List ℕ) (x : X × List ℕ) → behind text read bytes ≡ Some x → Has x.0 × (bytes ≡ (text ++ a x.0) ++ x.1)
+  behind_found : (bytes : List ℕ) (x : X × List ℕ) → after_text text read bytes ≡ Some x → Has x.0 × (bytes ≡ (text ++ a x.0) ++ x.1)
   behind_found bytes x e =
       let p = bind_some (strip text bytes) read x e in
       let f = ok.found p.0 x p.2 in
       (f.0, strip_found text bytes p.0 p.1 ∙ ap (λ (r : List ℕ). text ++ r) f.1 ∙ sym (append_assoc text (a x.0) x.1))
 
-  behind_again : (v : X) (rest : List ℕ) → Has v → May rest → behind text read ((text ++ a v) ++ rest) ≡ Some (v, rest)
+  behind_again : (v : X) (rest : List ℕ) → Has v → May rest → after_text text read ((text ++ a v) ++ rest) ≡ Some (v, rest)
   behind_again v rest h m =
       let s : strip text ((text ++ a v) ++ rest) ≡ Some (a v ++ rest) = ap (strip text) (append_assoc text (a v) rest) ∙ strip_again text (a v ++ rest) in
       some_on (strip text ((text ++ a v) ++ rest)) read (a v ++ rest) s ∙ ok.again v rest h m
 
-  pub exact_behind : IsExact May Has (λ v. text ++ a v) (behind text read)
+  pub exact_behind : IsExact May Has (λ v. text ++ a v) (after_text text read)
   exact_behind = record { found = behind_found; again = behind_again }
 
 module _ {X : Type 0} (May : List ℕ → Type 0) (Has : X → Type 0) (a : X → List ℕ) (text : List ℕ) (read : Reading X) (ok : IsExact May Has a read) (joins : (rest : List ℕ) → May (text ++ rest)) where

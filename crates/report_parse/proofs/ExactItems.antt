@@ -15,7 +15,7 @@ use Rattle.report_text.specs.Lines.{spaced_words}
 use Rattle.report_text.specs.Words.{who_word, ts_word, fault_word, cause_words}
 use Rattle.report_text.specs.Report.{values_words, try_words, upgrade_words, outcome_words, item_line}
 use Rattle.report_text.specs.Shown.{shown_tries}
-use Rattle.report_parse.specs.Reading.{Reading, ◌then◌, strip, made, behind, before, all_of, first_of}
+use Rattle.report_parse.specs.Reading.{Reading, ◌then◌, strip, made, after_text, before, all_of, first_of}
 use Rattle.report_parse.specs.Numbers.{u32_at, spaced_int_at}
 use Rattle.report_parse.specs.Words.{who_at, ts_at, fault_at}
 use Rattle.report_parse.specs.Causes.{cause_at}
@@ -147,7 +147,7 @@ faulted_text x = fault_word x.0 ++ (codes " " ++ stamped_text x.1)
 exact_faulted : IsExact NoDigit IsFaulted faulted_text faulted_at
 unfolding faulted_at
 exact_faulted =
-    exact_then Any NoDigit IsFault (λ x. IsTs x.0 × Below 32 x.1) fault_word (λ x. codes " " ++ stamped_text x) fault_at (behind (codes " ") (ts_at then tries_at)) exact_fault
+    exact_then Any NoDigit IsFault (λ x. IsTs x.0 × Below 32 x.1) fault_word (λ x. codes " " ++ stamped_text x) fault_at (after_text (codes " ") (ts_at then tries_at)) exact_fault
     (exact_behind NoDigit (λ x. IsTs x.0 × Below 32 x.1) stamped_text (codes " ") (ts_at then tries_at) exact_stamped) (λ y rest h m. tt)
 
 faulted_is : (f : Fault) (ts : Ts) (n : ℕ) → tried_text (faulted_of (f, (ts, n))) ≡ codes " Faulted " ++ faulted_text (f, (ts, n))

@@ -17,7 +17,7 @@ use Rattle.report_text.specs.Words.{who_word, ts_word, oref_word, fault_word}
 use Rattle.report_text.specs.Report.{values_words, effect_words, history_line, end_line}
 use Rattle.report_parse.specs.declared.lines.Effect.{Effect}
 use Rattle.report_parse.specs.declared.report.Line.{Line}
-use Rattle.report_parse.specs.Reading.{◌then◌, strip, made, behind, before, such_that, all_of}
+use Rattle.report_parse.specs.Reading.{◌then◌, strip, made, after_text, before, such_that, all_of}
 use Rattle.report_parse.specs.Numbers.{number_at, u32_at, u64_at}
 use Rattle.report_parse.specs.Words.{who_at, ts_at, oref_at, fault_at}
 use Rattle.report_parse.specs.Items.{values_at}
@@ -65,7 +65,7 @@ created_text x = flat_map spaced_oref x.0 ++ (codes " :" ++ values_text x.1)
 exact_created : IsExact AtEnd IsCreated created_text created_at
 unfolding created_at
 exact_created =
-    exact_then NoName AtEnd IsSome (AllByRecursion IsInt) (flat_map spaced_oref) (λ values. codes " :" ++ values_text values) (such_that has_some (all_of spaced_oref_at)) (behind (codes " :") values_at) exact_names
+    exact_then NoName AtEnd IsSome (AllByRecursion IsInt) (flat_map spaced_oref) (λ values. codes " :" ++ values_text values) (such_that has_some (all_of spaced_oref_at)) (after_text (codes " :") values_at) exact_names
     (exact_behind AtEnd (AllByRecursion IsInt) values_text (codes " :") values_at exact_values)
     (λ values rest h m. (refl, no_name (values_text values ++ rest)))
 
@@ -174,7 +174,7 @@ AreParts x = IsTs x.0 × (IsWho x.1.0 × IsEffect x.1.1)
 abbrev whole_text : Parts → List ℕ
 whole_text x = ts_word x.0 ++ (codes " " ++ (who_word x.1.0 ++ effect_text x.1.1))
 
-exact_whole : IsExact AtEnd AreParts whole_text (ts_at then behind (codes " ") (who_at then effect_at))
+exact_whole : IsExact AtEnd AreParts whole_text (ts_at then after_text (codes " ") (who_at then effect_at))
 exact_whole =
     separated IsTs ts_word ts_at exact_ts (codes " ") (λ rest. refl) AtEnd (λ x. IsWho x.0 × IsEffect x.1) (λ x. who_word x.0 ++ effect_text x.1) (who_at then effect_at)
     (exact_then NoDigit AtEnd IsWho IsEffect who_word effect_text who_at effect_at exact_who exact_effect (λ e rest h m. effect_spaced e.number e.fresh e.answer rest))
@@ -193,8 +193,8 @@ line_is l = sym (append_assoc (ts_word l.ts) (32 ∷ (who_word l.who ++ spaced_w
 pub exact_line : IsExact Any IsLine line_text line_at
 unfolding line_at
 exact_line =
-    exact_made Any AreParts IsLine (λ x. whole_text x ++ codes "\n") line_text line_by parts_of (before (codes "\n") (ts_at then behind (codes " ") (who_at then effect_at)))
-    (exact_before AtEnd AreParts whole_text (codes "\n") (ts_at then behind (codes " ") (who_at then effect_at)) exact_whole (λ rest. (rest, refl)))
+    exact_made Any AreParts IsLine (λ x. whole_text x ++ codes "\n") line_text line_by parts_of (before (codes "\n") (ts_at then after_text (codes " ") (who_at then effect_at)))
+    (exact_before AtEnd AreParts whole_text (codes "\n") (ts_at then after_text (codes " ") (who_at then effect_at)) exact_whole (λ rest. (rest, refl)))
     (λ x h. (record { upgrade = h.1.1.upgrade; fault = h.1.1.fault; ts = h.0; who = h.1.0; number = h.1.1.number; fresh = h.1.1.fresh; answer = h.1.1.answer }, line_is (line_by x)))
     (λ l h. ((h.ts, (h.who, record { upgrade = h.upgrade; fault = h.fault; number = h.number; fresh = h.fresh; answer = h.answer })), refl))
 
@@ -212,7 +212,7 @@ last_is n = ap (λ (w : List ℕ). codes "end " ++ (w ++ 10 ∷ [])) (append-nil
 pub exact_end : (count : ℕ) → IsExact Any (IsCount count) end_line (end_at count)
 unfolding end_at
 exact_end count =
-    exact_as Any (IsCount count) (IsCount count) (λ n. counted_text n ++ codes "\n") end_line (before (codes "\n") (behind (codes "end ") (such_that (λ n. n == count) u64_at)))
-    (exact_before NoDigit (IsCount count) counted_text (codes "\n") (behind (codes "end ") (such_that (λ n. n == count) u64_at))
+    exact_as Any (IsCount count) (IsCount count) (λ n. counted_text n ++ codes "\n") end_line (before (codes "\n") (after_text (codes "end ") (such_that (λ n. n == count) u64_at)))
+    (exact_before NoDigit (IsCount count) counted_text (codes "\n") (after_text (codes "end ") (such_that (λ n. n == count) u64_at))
     (exact_behind NoDigit (IsCount count) decimal (codes "end ") (such_that (λ n. n == count) u64_at) (exact_such NoDigit (Below 64) decimal (λ n. n == count) u64_at exact_u64)) (λ rest. refl))
     (λ n h. (h, last_is n)) (λ n h. h)

@@ -18,7 +18,7 @@ use Rattle.report_parse.specs.Numbers.{number_at}
 use Rattle.report_parse.specs.Words.{who_at, ts_at}
 use Rattle.report_parse.specs.Items.{item_at}
 use Rattle.report_parse.specs.HistoryLines.{line_at, end_at}
-use Rattle.report_parse.specs.Whole.{closed, after_end, after_lines, after_heading, after_items, whole_of, fault_line, told}
+use Rattle.report_parse.specs.Whole.{closed, after_end, after_lines, after_heading, after_items, whole_of, fault_line, report_or_line}
 use Rattle.report_parse.specs.Reports.{IsItem, IsLine, IsReport, BeginsReport, StopsOn, IsStopOf, ended_lines, last_line, text_of}
 use Rattle.report_parse.proofs.Exact.{Any, not_none, first_parts, many_found, many_none, long_enough, strip_found, strip_again}
 use Rattle.report_parse.proofs.ExactItems.{exact_item}
@@ -242,7 +242,7 @@ one_line bytes n m p q =
 -- ---- what the call answers
 
 abbrev Read : List ℕ → Result Report SyntaxError → Type 0
-Read bytes result = Gives result (told bytes (whole_of bytes))
+Read bytes result = Gives result (report_or_line bytes (whole_of bytes))
 
 abbrev found : Report → Result Report Syntax
 found r = Ok r
@@ -253,14 +253,14 @@ failed f = Err f
 done_same : (r s : Report) → found r ≡ found s → r ≡ s
 done_same r s e = cc
 
-told_ok : (bytes : List ℕ) (w : Result Report (List ℕ)) (r : Report) → told bytes w ≡ found r → w ≡ done r
+told_ok : (bytes : List ℕ) (w : Result Report (List ℕ)) (r : Report) → report_or_line bytes w ≡ found r → w ≡ done r
 told_ok bytes (Ok s) r e = ap done (done_same s r e)
 told_ok bytes (Err rest) r e = absurd cc
 
 line_same : (f g : Syntax) → failed f ≡ failed g → f.line ≡ g.line
 line_same f g e = let same : f ≡ g = cc in ap (λ (h : Syntax). h.line) same
 
-told_err : (bytes : List ℕ) (w : Result Report (List ℕ)) (f : Syntax) → told bytes w ≡ failed f → (rest : List ℕ) × (w ≡ left rest) × (fault_line bytes rest ≡ f.line)
+told_err : (bytes : List ℕ) (w : Result Report (List ℕ)) (f : Syntax) → report_or_line bytes w ≡ failed f → (rest : List ℕ) × (w ≡ left rest) × (fault_line bytes rest ≡ f.line)
 told_err bytes (Ok s) f e = absurd cc
 told_err bytes (Err rest) f e = (rest, refl, line_same (record { line = fault_line bytes rest }) f e)
 
@@ -270,7 +270,7 @@ is_read bytes (Err e) small given = tt
 
 pub is_only : (bytes : List ℕ) (result : Result Report SyntaxError) → Read bytes result → (r : Report) → IsReport r → text_of r ≡ bytes → Gives result (found r)
 is_only bytes result given r h e =
-    subst (λ (w : Result Report (List ℕ)). Gives result (told bytes w)) (ap whole_of (sym e ∙ sym (append-nil (text_of r))) ∙ again r [] h) given
+    subst (λ (w : Result Report (List ℕ)). Gives result (report_or_line bytes w)) (ap whole_of (sym e ∙ sym (append-nil (text_of r))) ∙ again r [] h) given
 
 stop_of : (bytes rest : List ℕ) → length bytes < 2 ^ 64 → whole_of bytes ≡ left rest → StopsOn bytes (fault_line bytes rest)
 stop_of bytes rest small was = stops bytes rest was (subst (Outcome bytes) was (outcome bytes small))
@@ -289,7 +289,7 @@ is_only_fault bytes result small given f at = by (whole_of bytes) refl
     by (Ok r) was = let h = subst (Outcome bytes) was (outcome bytes small) in absurd (at.no_report r h.0 h.1)
     by (Err rest) was =
         let same : fault_line bytes rest ≡ f.line = one_line bytes (fault_line bytes rest) f.line (stop_of bytes rest small was) at in
-        let told_so : told bytes (whole_of bytes) ≡ failed f = ap (told bytes) was ∙ ap (λ (n : ℕ). failed (record { line = n })) same in
+        let told_so : report_or_line bytes (whole_of bytes) ≡ failed f = ap (report_or_line bytes) was ∙ ap (λ (n : ℕ). failed (record { line = n })) same in
         subst (Gives result) told_so given
 
 -- ---- laws

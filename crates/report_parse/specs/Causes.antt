@@ -6,17 +6,17 @@ use Rattle.serial_model.specs.declared.outcomes.Cause.{Cause}
 use Rattle.serial_model.specs.declared.outcomes.Cause.TheVariants.{Missing, Down, Calls}
 use Rattle.serial_model.specs.declared.outcomes.Cause.TheVariants as cause
 use Rattle.base_reasons.specs.declared.reason.Reason.TheVariants.{Stale, Earlier, Later, TooOld, Epoch, Blocked, Gone, Full, ClockEnd}
-use Rattle.report_parse.specs.Reading.{Reading, ◌then◌, made, behind, only, first_of}
+use Rattle.report_parse.specs.Reading.{Reading, ◌then◌, made, after_text, only, first_of}
 use Rattle.report_parse.specs.Numbers.{u8_at, u32_at, u64_at}
 use Rattle.report_parse.specs.Words.{oref_at, ts_at}
 
 -- a name and a place
 unfoldable pub place_at : Reading (Oref × ℕ)
-place_at bytes = (oref_at then behind (codes " ") u64_at) bytes
+place_at bytes = (oref_at then after_text (codes " ") u64_at) bytes
 
 -- a timestamp and a name
 unfoldable pub ts_with_oref_at : Reading (Ts × Oref)
-ts_with_oref_at bytes = (ts_at then behind (codes " ") oref_at) bytes
+ts_with_oref_at bytes = (ts_at then after_text (codes " ") oref_at) bytes
 
 abbrev pub other_causes : List (List ℕ × Reading Cause)
 other_causes =

@@ -7,7 +7,7 @@ use Rattle.serial_model.specs.declared.outcomes.Cause.{Cause}
 use Rattle.serial_model.specs.declared.outcomes.Ended.{Ended}
 use Rattle.serial_model.specs.declared.outcomes.ItemOutcome.{ItemOutcome}
 use Rattle.serial_model.specs.declared.outcomes.ItemOutcome.TheVariants.{Done, Upgraded, Faulted, Refused, Unknown}
-use Rattle.report_parse.specs.Reading.{Reading, ◌then◌, made, behind, before, all_of, first_of}
+use Rattle.report_parse.specs.Reading.{Reading, ◌then◌, made, after_text, before, all_of, first_of}
 use Rattle.report_parse.specs.Numbers.{u32_at, spaced_int_at}
 use Rattle.report_parse.specs.Words.{who_at, ts_at, fault_at}
 use Rattle.report_parse.specs.Causes.{cause_at}
@@ -16,7 +16,7 @@ unfoldable pub values_at : Reading (List ℤ)
 values_at bytes = all_of spaced_int_at bytes
 
 unfoldable pub tries_at : Reading ℕ
-tries_at bytes = behind (codes " try ") u32_at bytes
+tries_at bytes = after_text (codes " try ") u32_at bytes
 
 -- how often an item was tried, and how it ended
 abbrev pub Tried : Type 0
@@ -44,7 +44,7 @@ abbrev pub faulted_of : Fault × (Ts × ℕ) → Tried
 faulted_of x = (x.1.1, Faulted x.1.0 x.0)
 
 unfoldable pub faulted_at : Reading (Fault × (Ts × ℕ))
-faulted_at bytes = (fault_at then behind (codes " ") (ts_at then tries_at)) bytes
+faulted_at bytes = (fault_at then after_text (codes " ") (ts_at then tries_at)) bytes
 
 abbrev pub refused_of : Cause × ℕ → Tried
 refused_of x = (x.1, Refused x.0)

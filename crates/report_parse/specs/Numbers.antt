@@ -3,7 +3,7 @@ use Rattle.std.specs.Prelude.{ℕ, ◌-◌, ◌==◌, nat_lt, not, Bool, true, f
 use Rattle.std.specs.List.{prefix_len}
 use Rattle.script_text.specs.Bytes.{is_digit}
 use Rattle.script_text.specs.Numbers.{digits_value}
-use Rattle.report_parse.specs.Reading.{Reading, ◌>>=◌, strip, made, such_that, behind, chosen}
+use Rattle.report_parse.specs.Reading.{Reading, ◌>>=◌, strip, made, such_that, after_text, chosen}
 
 -- digits with no zero in front that could be left out
 abbrev pub is_canonical : List ℕ → Bool
@@ -36,4 +36,4 @@ unfoldable pub int_at : Reading ℤ
 int_at bytes = chosen (strip (codes "-") bytes) negative_at (made pos (number_at 9223372036854775807) bytes)
 
 unfoldable pub spaced_int_at : Reading ℤ
-spaced_int_at bytes = behind (codes " ") int_at bytes
+spaced_int_at bytes = after_text (codes " ") int_at bytes

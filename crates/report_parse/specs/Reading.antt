@@ -29,8 +29,8 @@ abbrev pub ◌then◌ : {X Y : Type 0} → Reading X → Reading Y → Reading (
 (first then second) bytes = first bytes >>= λ x. second x.1 >>= λ y. Some ((x.0, y.0), y.1)
 
 -- a part behind a fixed text
-abbrev pub behind : {X : Type 0} → List ℕ → Reading X → Reading X
-behind text read bytes = strip text bytes >>= read
+abbrev pub after_text : {X : Type 0} → List ℕ → Reading X → Reading X
+after_text text read bytes = strip text bytes >>= read
 
 -- a part before a fixed text
 abbrev pub before : {X : Type 0} → List ℕ → Reading X → Reading X

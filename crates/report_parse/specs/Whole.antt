@@ -37,6 +37,6 @@ abbrev pub fault_line : List ℕ → List ℕ → ℕ
 fault_line bytes rest = min (ended_lines (take (length bytes - length rest) bytes) + 1) (last_line bytes)
 
 -- the report, or that line
-abbrev pub told : List ℕ → Result Report (List ℕ) → Result Report Syntax
-told bytes (Ok report) = Ok report
-told bytes (Err rest) = Err (record { line = fault_line bytes rest })
+abbrev pub report_or_line : List ℕ → Result Report (List ℕ) → Result Report Syntax
+report_or_line bytes (Ok report) = Ok report
+report_or_line bytes (Err rest) = Err (record { line = fault_line bytes rest })

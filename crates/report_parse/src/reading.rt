@@ -6,7 +6,7 @@ ghost use Rattle.script_text.specs.Reading.{Gives};
 ghost use Rattle.script_text.specs.declared.syntax.Syntax.{Syntax};
 ghost use Rattle.script_text.specs.declared.syntax.SyntaxError.TheVariants.{Fault};
 ghost use Rattle.report_parse.specs.Reports.{IsReport, IsStopOf, text_of, StopsOn};
-ghost use Rattle.report_parse.specs.Whole.{after_lines, fault_line, told, whole_of};
+ghost use Rattle.report_parse.specs.Whole.{after_lines, fault_line, report_or_line, whole_of};
 ghost use Rattle.report_parse.specs.Reading.{many};
 ghost use Rattle.report_parse.specs.HistoryLines.{line_at};
 
@@ -42,7 +42,7 @@ fn fault_at(bytes: &[u8], rest: &[u8]) -> SyntaxError
 /// Reads what stands behind the items and the heading of the history.
 fn with_lines(alloc: Global, bytes: &[u8], ended: Ends, rest: &[u8]) -> Result<Report, SyntaxError>
     requires { length bytes.now < 2 ^ 32 }
-    ensures { Gives result (told bytes.now (after_lines ended (many line_at (length rest.now) rest.now))) }
+    ensures { Gives result (report_or_line bytes.now (after_lines ended (many line_at (length rest.now) rest.now))) }
 {
     let (lines, rest) = read_many::<Line>(alloc, rest)?;
     match end_at(lines.len() as u64, rest) {
@@ -57,7 +57,7 @@ fn with_lines(alloc: Global, bytes: &[u8], ended: Ends, rest: &[u8]) -> Result<R
 #[tactic(auto, unfolding(crate::specs::Whole::whole_of))]
 fn whole_of(alloc: Global, bytes: &[u8]) -> Result<Report, SyntaxError>
     requires { length bytes.now < 2 ^ 32 }
-    ensures told { Gives result (told bytes.now (whole_of bytes.now)) }
+    ensures told { Gives result (report_or_line bytes.now (whole_of bytes.now)) }
     ensures short { length bytes.now < 2 ^ 64 }
 {
     let (ended, rest) = read_many::<Ended>(alloc, bytes)?;

@@ -97,17 +97,17 @@ abbrev pub upgrade : List ClassUpgrade → Upgrade
 upgrade classes = record { line = 9; classes = classes }
 
 -- what is told of an upgrade, in a script with the one item
-abbrev pub told : List ClassUpgrade → Option RuleFault
-told classes = own_fault found 1 (upgrade classes) (item ∷ [])
+abbrev pub upgrade_fault : List ClassUpgrade → Option RuleFault
+upgrade_fault classes = own_fault found 1 (upgrade classes) (item ∷ [])
 
 -- of an upgrade of Box to these fields, whose method `get` stays
 abbrev pub told_of_box : List FieldUpgrade → Option RuleFault
-told_of_box fields = told (says (codes "Box") 10 fields (gives (codes "get") (codes "n") ∷ []) ∷ [])
+told_of_box fields = upgrade_fault (says (codes "Box") 10 fields (gives (codes "get") (codes "n") ∷ []) ∷ [])
 
 -- the same with `int n = old.n;` before these fields
 abbrev pub told_of : List FieldUpgrade → Option RuleFault
 told_of fields = told_of_box (becomes int (codes "n") 11 (old 11 (codes "n" ∷ [])) ∷ fields)
 
 -- the schema behind an upgrade of these classes
-abbrev pub behind : List ClassUpgrade → Schema
-behind classes = applied found (upgrade classes)
+abbrev pub schema_after : List ClassUpgrade → Schema
+schema_after classes = applied found (upgrade classes)

@@ -6,15 +6,15 @@ ghost use Rattle.class_defs.specs.Accepted.{AllAccepted};
 ghost use Rattle.class_defs.specs.Applied.{applied};
 ghost use Rattle.rows_language.specs.LazyExamples.{twice};
 ghost use Rattle.class_defs.specs.RuleRows.{broken, int};
-ghost use Rattle.rows_language.specs.UpgradeRows.{a_bag, a_box, a_part, a_seal, becomes, behind, found, number, old, says, told, told_of, told_of_box, gives, upgrade};
+ghost use Rattle.rows_language.specs.UpgradeRows.{a_bag, a_box, a_part, a_seal, becomes, schema_after, found, number, old, says, upgrade_fault, told_of, told_of_box, gives, upgrade};
 ghost use Rattle.class_defs.specs.declared.expressions.Operator.TheVariants.{Add, Multiply, Subtract};
 ghost use Rattle.class_defs.specs.declared.rules.Rule.TheVariants.{O1, O2, O3, O4, O5, O6, O7, T1, T2};
 ghost use Rattle.class_defs.specs.declared.upgrades.Tf.TheVariants as tf;
 
 /// Classes that aren't there, or are named twice.
 fn classes_named()
-    ensures class_that_is_not_there { told (says (codes "Gone") 10 (becomes int (codes "n") 10 (number 1 10) ∷ []) [] ∷ []) ≡ broken 10 O1 }
-    ensures class_that_is_named_twice { told (says (codes "Part") 10 [] [] ∷ says (codes "Seal") 11 [] [] ∷ says (codes "Part") 12 [] [] ∷ []) ≡ broken 12 O1 }
+    ensures class_that_is_not_there { upgrade_fault (says (codes "Gone") 10 (becomes int (codes "n") 10 (number 1 10) ∷ []) [] ∷ []) ≡ broken 10 O1 }
+    ensures class_that_is_named_twice { upgrade_fault (says (codes "Part") 10 [] [] ∷ says (codes "Seal") 11 [] [] ∷ says (codes "Part") 12 [] [] ∷ []) ≡ broken 12 O1 }
 {}
 
 /// Expressions of new ints.
@@ -72,23 +72,23 @@ fn new_owned_fields()
 
 /// What breaks a rule where the upgrade is applied.
 fn outside()
-    ensures item_calls_a_method_that_is_gone { told (says (codes "Box") 10 (becomes int (codes "n") 11 (old 11 (codes "n" ∷ [])) ∷ []) [] ∷ []) ≡ broken 9 O7 }
-    ensures other_class_calls_a_method_that_is_gone { told (says (codes "Seal") 10 (becomes int (codes "v") 11 (old 11 (codes "v" ∷ [])) ∷ []) [] ∷ []) ≡ broken 9 O7 }
-    ensures method_that_is_kept { told (says (codes "Seal") 10 (becomes int (codes "w") 11 (old 11 (codes "v" ∷ [])) ∷ []) (gives (codes "get") (codes "w") ∷ []) ∷ []) ≡ None }
+    ensures item_calls_a_method_that_is_gone { upgrade_fault (says (codes "Box") 10 (becomes int (codes "n") 11 (old 11 (codes "n" ∷ [])) ∷ []) [] ∷ []) ≡ broken 9 O7 }
+    ensures other_class_calls_a_method_that_is_gone { upgrade_fault (says (codes "Seal") 10 (becomes int (codes "v") 11 (old 11 (codes "v" ∷ [])) ∷ []) [] ∷ []) ≡ broken 9 O7 }
+    ensures method_that_is_kept { upgrade_fault (says (codes "Seal") 10 (becomes int (codes "w") 11 (old 11 (codes "v" ∷ [])) ∷ []) (gives (codes "get") (codes "w") ∷ []) ∷ []) ≡ None }
 {}
 
 /// The order in which the rules are tried.
 fn order()
     ensures field_of_a_name_twice { told_of_box (becomes int (codes "n") 11 (number 1 11) ∷ becomes int (codes "n") 12 (number 2 13) ∷ []) ≡ broken 12 T1 }
     ensures type_that_is_not_declared { told_of (becomes (a_bag 12) (codes "k") 13 (old 14 (codes "p" ∷ [])) ∷ []) ≡ broken 12 T2 }
-    ensures inside_before_outside { told (says (codes "Box") 10 [] (gives (codes "look") (codes "gone") ∷ []) ∷ []) ≡ broken 1 T2 }
+    ensures inside_before_outside { upgrade_fault (says (codes "Box") 10 [] (gives (codes "look") (codes "gone") ∷ []) ∷ []) ≡ broken 1 T2 }
     ensures later_line_of_an_own_rule { told_of (becomes (a_bag 12) (codes "k") 12 (tf.Null 12) ∷ becomes int (codes "l") 13 (tf.Null 13) ∷ []) ≡ broken 13 O2 }
     ensures least_line { told_of (becomes a_part (codes "k") 12 (number 1 13) ∷ becomes a_box (codes "l") 14 (number 1 14) ∷ []) ≡ broken 13 O6 }
 {}
 
 /// The numbers of upgrades behind the third one, which names Box and Part; and behind a first one that names Seal.
 fn numbers()
-    ensures named { (behind (says (codes "Box") 10 [] [] ∷ says (codes "Part") 10 [] [] ∷ [])).upgraded ≡ 3 ∷ 3 ∷ 2 ∷ 0 ∷ [] }
+    ensures named { (schema_after (says (codes "Box") 10 [] [] ∷ says (codes "Part") 10 [] [] ∷ [])).upgraded ≡ 3 ∷ 3 ∷ 2 ∷ 0 ∷ [] }
     ensures first { (applied (record found { upgraded = [] }) (upgrade (says (codes "Seal") 10 [] [] ∷ []))).upgraded ≡ 0 ∷ 0 ∷ 1 ∷ 0 ∷ [] }
 {}
 

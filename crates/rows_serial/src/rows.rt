@@ -11,7 +11,7 @@ ghost use Rattle.serial_model.specs.History.{IsLegal};
 ghost use Rattle.rows_serial.specs.Rows.{a, a_box, a_part, asking, at, first, items, o, opening, owner_alone, p, roots, run, schemas};
 ghost use Rattle.std.specs.Prelude.{Some, [], map, ◌≡◌, ◌∷◌};
 ghost use Rattle.thor_value.specs.FiniteMap.{get, keys};
-ghost use Rattle.law_global_order.specs.Serial.{behind};
+ghost use Rattle.law_global_order.specs.Serial.{after_commits};
 ghost use Rattle.law_global_order.specs.Whole.{commits};
 
 /// Each premise of `histories_are_serial` is met: by a transaction at two repositories, an upgrade of a part, a transform
@@ -33,8 +33,8 @@ pub fn a_run_is_serial()
     ensures legal { IsLegal schemas (whole_history items run) (eager schemas (stored_map roots opening)) }
     ensures commits { keys (commits run) ≡ at 1 ∷ at 2 ∷ at 3 ∷ at 4 ∷ [] }
     ensures entries { map (λ d. d.ts) (whole_history items run) ≡ at 1 ∷ at 2 ∷ at 4 ∷ [] }
-    ensures part { get (behind opening (commits run).pairs).objects p ≡ Some (a_part 1 70) }
-    ensures added { get (behind opening (commits run).pairs).objects a ≡ Some (a_box 12) }
+    ensures part { get (after_commits opening (commits run).pairs).objects p ≡ Some (a_part 1 70) }
+    ensures added { get (after_commits opening (commits run).pairs).objects a ≡ Some (a_box 12) }
 {}
 
 /// Where the owner is at hand and its part isn't, the item that asks for what the part has meets what

@@ -8,7 +8,7 @@ use Rattle.class_defs.specs.SchemaRules.{schema_rules}
 use Rattle.class_defs.specs.declared.rules.Rule.TheVariants.{T9}
 use Rattle.class_defs.specs.declared.rules.RuleFault.{RuleFault}
 use Rattle.class_defs.specs.declared.store.Schema.{Schema}
-use Rattle.script_check.specs.Judging.{BreaksRule, IsToldEvent, KeepsRules, items_rules, own_told, script_rules, told}
+use Rattle.script_check.specs.Judging.{BreaksRule, IsToldEvent, KeepsRules, items_rules, own_told, script_rules, least_breach}
 use Rattle.script_parse.specs.declared.refusal.Refusal.TheVariants as refusal
 use Rattle.script_parse.specs.declared.script.Script.{Script}
 
@@ -16,7 +16,7 @@ one_of_two : (b : Bool) (f g : RuleFault) → (if b then Some f else Some g) ≡
 one_of_two true f g h = cc
 one_of_two false f g h = cc
 
-nothing_told : (rule : Option RuleFault) (event : Option ℕ) → told rule event ≡ None → (rule ≡ None) × (event ≡ None)
+nothing_told : (rule : Option RuleFault) (event : Option ℕ) → least_breach rule event ≡ None → (rule ≡ None) × (event ≡ None)
 nothing_told rule None h = (h, refl)
 nothing_told None (Some line) h = cc
 nothing_told (Some fault) (Some line) h = absurd (one_of_two (told_before (record { line = line; rule = T9 }) fault) (record { line = line; rule = T9 }) fault h)
@@ -27,16 +27,16 @@ pub record IsTold (schema : Schema) (repos : ℕ) (script : Script) (t : Option 
   pub event : Option ℕ
   pub least_rule : rule ≡ least (script_rules schema repos script.clients)
   pub first : IsToldEvent (length script.clients) repos script.events event
-  pub is : told rule event ≡ t
+  pub is : least_breach rule event ≡ t
 
-pub is_told : (schema : Schema) (repos : ℕ) (script : Script) (rule : Option RuleFault) (event : Option ℕ) (clients : ℕ) (t r : Option RuleFault) → rule ≡ least (script_rules schema repos script.clients) → clients ≡ length script.clients → IsToldEvent clients repos script.events event → t ≡ told rule event → t ≡ r → IsTold schema repos script r
+pub is_told : (schema : Schema) (repos : ℕ) (script : Script) (rule : Option RuleFault) (event : Option ℕ) (clients : ℕ) (t r : Option RuleFault) → rule ≡ least (script_rules schema repos script.clients) → clients ≡ length script.clients → IsToldEvent clients repos script.events event → t ≡ least_breach rule event → t ≡ r → IsTold schema repos script r
 is_told schema repos script rule event clients t r is many first tells same =
     let P : ℕ → Type 0 = λ n. IsToldEvent n repos script.events event in
     record { rule = rule; event = event; least_rule = is; first = subst P many first; is = sym tells ∙ same }
 
 module _ (schema : Schema) (repos : ℕ) (script : Script) where
-  before_upgrades : (t : Option RuleFault) (h : IsTold schema repos script t) → told (least (script_rules schema repos script.clients)) h.event ≡ t
-  before_upgrades t h = ap (λ (q : Option RuleFault). told q h.event) (sym h.least_rule) ∙ h.is
+  before_upgrades : (t : Option RuleFault) (h : IsTold schema repos script t) → least_breach (least (script_rules schema repos script.clients)) h.event ≡ t
+  before_upgrades t h = ap (λ (q : Option RuleFault). least_breach q h.event) (sym h.least_rule) ∙ h.is
 
   -- one of the rules T1 to T9 is broken
   pub first_breaks : (fault : RuleFault) → IsTold schema repos script (Some fault) → BreaksRule schema repos script (refusal.Rule fault)

@@ -24,9 +24,9 @@ IsToldEvent clients repos events None = AllKeep clients repos events
 IsToldEvent clients repos events (Some line) = IsLeastBreach clients repos events line
 
 -- of a fault that is told of the rules T1 to T8 and the line of an event that breaks T9, the fault that is told
-abbrev pub told : Option RuleFault → Option ℕ → Option RuleFault
-told found None = found
-told found (Some line) = lesser found (record { line = line; rule = T9 })
+abbrev pub least_breach : Option RuleFault → Option ℕ → Option RuleFault
+least_breach found None = found
+least_breach found (Some line) = lesser found (record { line = line; rule = T9 })
 
 -- the rules T1 to T8 that an item breaks; an upgrade is looked at behind them
 abbrev pub what_rules : Schema → ℕ → What → List RuleFault
@@ -54,7 +54,7 @@ pub record KeepsRules (schema : Schema) (repos : ℕ) (script : Script) : Type 0
 pub record BreaksRule (schema : Schema) (repos : ℕ) (script : Script) (r : Refusal) : Type 0 where
   pub event : Option ℕ
   pub first : IsToldEvent (length script.clients) repos script.events event
-  pub is : option_map refusal.Rule (first_of (told (least (script_rules schema repos script.clients)) event) (own_told schema repos script)) ≡ Some r
+  pub is : option_map refusal.Rule (first_of (least_breach (least (script_rules schema repos script.clients)) event) (own_told schema repos script)) ≡ Some r
 
 abbrev pub Judges : Schema → ℕ → Script → Option Refusal → Type 0
 Judges schema repos script None = KeepsRules schema repos script

@@ -2,7 +2,7 @@ ghost use Rattle.std.specs.Prelude.{◌≡◌, ◌≤◌, ◌+◌, ◌^◌, leng
 ghost use Rattle.std.specs.List.{flat_map};
 ghost use Rattle.class_defs.specs.Applied.{next_number};
 ghost use Rattle.class_defs.specs.Rules.{least, least_with};
-ghost use Rattle.script_check.specs.Judging.{IsToldEvent, Judges, items_rules, script_rules, told, what_rules};
+ghost use Rattle.script_check.specs.Judging.{IsToldEvent, Judges, items_rules, script_rules, least_breach, what_rules};
 ghost use Rattle.script_check.specs.Upgrading.{upgrades_of};
 
 use crate::upgrading::upgrades_fault;
@@ -94,7 +94,7 @@ fn event_fault(events: &Events, clients: u8, repos: u8) -> Option<u32>
 
 /// Of a fault that is told of the rules T1 to T8 and the line of an event that breaks T9, the fault that is told.
 fn told(found: Option<RuleFault>, event: Option<u32>) -> Option<RuleFault>
-    ensures { result ≡ told found event }
+    ensures { result ≡ least_breach found event }
 {
     match event {
         None => found,

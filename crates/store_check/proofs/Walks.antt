@@ -8,7 +8,7 @@ use Rattle.store_check.proofs.Summing.{is_owner, owner_is}
 use Rattle.store_check.specs.Fits.{LeadsTo}
 use Rattle.store_check.specs.Naming.{Namings, namings, sole}
 use Rattle.store_check.specs.Reached.{AreWays, IsKey}
-use Rattle.store_check.specs.Ways.{Ways, behind, level_of, longer, one_step, onward, stepped, way, way_or_none, ways_for}
+use Rattle.store_check.specs.Ways.{Ways, through_owner, level_of, longer, one_step, onward, stepped, way, way_or_none, ways_for}
 use Rattle.store_check.specs.declared.ways.Way.{Way}
 use Rattle.std.proofs.Common.{◌≡◌, ◌⊎◌, ◌≤◌, ◌<◌, ◌+◌, ◌-◌, ◌||◌, ℕ, zero, suc, Bool, true, false, cond, not, List, [], ◌∷◌, length, min, Option, Some, None, inl, inr, is_some, nat_lt, refl, sym, ap, subst, arith, ◌∙◌}
 use Rattle.std.proofs.lemmas.Bool.{ltb-false, ltb-true, both_ways, or_cases}
@@ -89,7 +89,7 @@ module _ (s : Schemas) (m : Objects) where
   owner x = sole (get n x)
 
   rest : ℕ → Oref → Way
-  rest k a = behind (level_of s (get m a)) (way s m n k a)
+  rest k a = through_owner (level_of s (get m a)) (way s m n k a)
 
   -- where the owners are of those that have one
   owned_key : (x a : Oref) → owner x ≡ Some a → is_some (get m a) ≡ true
@@ -100,7 +100,7 @@ module _ (s : Schemas) (m : Objects) where
   way_next zero x = refl
   way_next (suc k) x = by_step (λ a. way_next k a) (owner x)
     where
-      by_step : ((a : Oref) → (way s m n k a).next ≡ go owner k a) → (w : Option Oref) → (stepped s w (λ a. behind (level_of s (get m a)) (way s m n k a))).next ≡ onto w (λ a. go owner k a)
+      by_step : ((a : Oref) → (way s m n k a).next ≡ go owner k a) → (w : Option Oref) → (stepped s w (λ a. through_owner (level_of s (get m a)) (way s m n k a))).next ≡ onto w (λ a. go owner k a)
       by_step ih None = refl
       by_step ih (Some a) = ih a
 
@@ -154,7 +154,7 @@ module _ (s : Schemas) (m : Objects) where
   least_within zero x = omega arith
   least_within (suc k) x = by_step (λ a. least_within k a) (owner x)
     where
-      by_step : ((a : Oref) → (way s m n k a).least ≤ epoch) → (w : Option Oref) → (stepped s w (λ a. behind (level_of s (get m a)) (way s m n k a))).least ≤ epoch
+      by_step : ((a : Oref) → (way s m n k a).least ≤ epoch) → (w : Option Oref) → (stepped s w (λ a. through_owner (level_of s (get m a)) (way s m n k a))).least ≤ epoch
       by_step ih None = omega arith
       by_step ih (Some a) = let h = ih a in omega (arith, h)
 
@@ -167,7 +167,7 @@ module _ (s : Schemas) (m : Objects) where
   levels_hold zero x v h j low a p leads is = absurd (omega (arith, low))
   levels_hold (suc k) x v h j low a p leads is =
       let b = leads.0 in
-      let e : way s m n (suc k) x ≡ behind (level_of s (get m b)) (way s m n k b) = ap (λ w. stepped s w (λ c. behind (level_of s (get m c)) (way s m n k c))) (is_owner s m x b leads.1.0) in
+      let e : way s m n (suc k) x ≡ through_owner (level_of s (get m b)) (way s m n k b) = ap (λ w. stepped s w (λ c. through_owner (level_of s (get m c)) (way s m n k c))) (is_owner s m x b leads.1.0) in
       let g : v ≤ min (level_of s (get m b)) (way s m n k b).least = subst (λ w. v ≤ w.least) e h in
       by_place (λ c less i under to. levels_hold k c v less i under a p to is) j low b leads.1.1 (omega (arith, g)) (omega (arith, g))
     where
@@ -181,7 +181,7 @@ module _ (s : Schemas) (m : Objects) where
   hold_levels zero x v low h = low
   hold_levels (suc k) x v low h = by_step (λ b g. hold_levels k b v low g) (owner x) refl
     where
-      by_step : ((b : Oref) → ((j : ℕ) (a : Oref) (p : Obj) → LeadsTo s m (suc j) b a → get m a ≡ Some p → v ≤ level s epoch p) → v ≤ (way s m n k b).least) → (w : Option Oref) → owner x ≡ w → v ≤ (stepped s w (λ a. behind (level_of s (get m a)) (way s m n k a))).least
+      by_step : ((b : Oref) → ((j : ℕ) (a : Oref) (p : Obj) → LeadsTo s m (suc j) b a → get m a ≡ Some p → v ≤ level s epoch p) → v ≤ (way s m n k b).least) → (w : Option Oref) → owner x ≡ w → v ≤ (stepped s w (λ a. through_owner (level_of s (get m a)) (way s m n k a))).least
       by_step ih None is = low
       by_step ih (Some b) is =
           let own = owner_is s m x b is in
@@ -193,10 +193,10 @@ module _ (s : Schemas) (m : Objects) where
 
   -- ---- twice as many steps
 
-  fewer : (w : Way) → w.least ≤ epoch → behind epoch w ≡ w
+  fewer : (w : Way) → w.least ≤ epoch → through_owner epoch w ≡ w
   fewer w h = let e : min epoch w.least ≡ w.least = omega (arith, h) in ap (λ l. let v : Way = record { next = w.next; least = l } in v) e
 
-  behind_onward : (l : ℕ) (to : Option Oref) (least : ℕ) (f : Oref → Way) → behind l (onward to least f) ≡ onward to (min l least) f
+  behind_onward : (l : ℕ) (to : Option Oref) (least : ℕ) (f : Oref → Way) → through_owner l (onward to least f) ≡ onward to (min l least) f
   behind_onward l None least f = refl
   behind_onward l (Some a) least f =
       let e : min l (min least (f a).least) ≡ min (min l least) (f a).least = omega arith in
@@ -211,18 +211,18 @@ module _ (s : Schemas) (m : Objects) where
       let e : suc k + j ≡ suc (k + j) = omega arith in
       ap (λ i. way s m n i x) e ∙ by_step (λ b. in_turn k j b) (owner x)
     where
-      by_step : ((b : Oref) → way s m n (k + j) b ≡ onward (way s m n k b).next (way s m n k b).least (λ a. way s m n j a)) → (w : Option Oref) → stepped s w (λ a. behind (level_of s (get m a)) (way s m n (k + j) a))
-          ≡ onward (stepped s w (λ a. behind (level_of s (get m a)) (way s m n k a))).next (stepped s w (λ a. behind (level_of s (get m a)) (way s m n k a))).least (λ a. way s m n j a)
+      by_step : ((b : Oref) → way s m n (k + j) b ≡ onward (way s m n k b).next (way s m n k b).least (λ a. way s m n j a)) → (w : Option Oref) → stepped s w (λ a. through_owner (level_of s (get m a)) (way s m n (k + j) a))
+          ≡ onward (stepped s w (λ a. through_owner (level_of s (get m a)) (way s m n k a))).next (stepped s w (λ a. through_owner (level_of s (get m a)) (way s m n k a))).least (λ a. way s m n j a)
       by_step ih None = refl
       by_step ih (Some b) =
-          ap (behind (level_of s (get m b))) (ih b)
+          ap (through_owner (level_of s (get m b))) (ih b)
           ∙ behind_onward (level_of s (get m b)) (way s m n k b).next (way s m n k b).least (λ a. way s m n j a)
 
   step_is : (x : Oref) → one_step s m n x ≡ way s m n 1 x
   unfolding way
   step_is x = by_step (owner x)
     where
-      by_step : (w : Option Oref) → stepped s w (λ a. record { next = Some a; least = level_of s (get m a) }) ≡ stepped s w (λ a. behind (level_of s (get m a)) (way s m n zero a))
+      by_step : (w : Option Oref) → stepped s w (λ a. record { next = Some a; least = level_of s (get m a) }) ≡ stepped s w (λ a. through_owner (level_of s (get m a)) (way s m n zero a))
       by_step None = refl
       by_step (Some a) =
           let h = level_within s (get m a) in
@@ -251,7 +251,7 @@ module _ (s : Schemas) (m : Objects) where
 
       by_next : (to : Option Oref) → (way s m n k x).next ≡ to → (least : ℕ) → onward to least (λ a. way_or_none (get ws a)) ≡ onward to least (λ a. way s m n k a)
       by_next None is least = refl
-      by_next (Some a) is least = ap (λ w. behind least w) (ap way_or_none (are a (go_key k x a known (sym (way_next k x) ∙ is))))
+      by_next (Some a) is least = ap (λ w. through_owner least w) (ap way_or_none (are a (go_key k x a known (sym (way_next k x) ∙ is))))
 
       twice : longer ws x ≡ onward (way s m n k x).next (way s m n k x).least (λ a. way s m n k a)
       twice = ap (λ (w : Way). onward w.next w.least (λ a. way_or_none (get ws a))) at ∙ by_next (way s m n k x).next refl (way s m n k x).least

@@ -20,13 +20,13 @@ level_of s (Some o) = level s (length s.upgraded) o
 level_of s None = length s.upgraded
 
 -- the way by one owner more
-abbrev pub behind : ℕ → Way → Way
-behind l w = record { next = w.next; least = min l w.least }
+abbrev pub through_owner : ℕ → Way → Way
+through_owner l w = record { next = w.next; least = min l w.least }
 
 -- the way that goes on from where another has led, if it leads somewhere
 abbrev pub onward : Option Oref → ℕ → (Oref → Way) → Way
 onward None least rest = record { next = None; least = least }
-onward (Some a) least rest = behind least (rest a)
+onward (Some a) least rest = through_owner least (rest a)
 
 -- the way from an object, if it has an owner, from whom it goes on so
 abbrev pub stepped : Schemas → Option Oref → (Oref → Way) → Way
@@ -36,7 +36,7 @@ stepped s (Some a) rest = rest a
 -- n steps from an object to its owner, and so on: where they lead, and the least level of these owners
 unfoldable pub way : Schemas → Objects → Namings → ℕ → Oref → Way
 way s m n zero x = record { next = Some x; least = length s.upgraded }
-way s m n (suc k) x = stepped s (sole (get n x)) (λ a. behind (level_of s (get m a)) (way s m n k a))
+way s m n (suc k) x = stepped s (sole (get n x)) (λ a. through_owner (level_of s (get m a)) (way s m n k a))
 
 -- one step from an object
 abbrev pub one_step : Schemas → Objects → Namings → Oref → Way

@@ -1,4 +1,4 @@
-use Rattle.client_cache.specs.Copies.{told}
+use Rattle.client_cache.specs.Copies.{copy_by}
 use Rattle.client_cache.specs.Slots.{written_in}
 use Rattle.client_cache.proofs.Elsewhere.{none_of_some, nothing_both}
 use Rattle.client_cache.proofs.cache.Cache.evict_between_tries.Goals as goal
@@ -12,4 +12,4 @@ invariant_of-self c = record {
 pub returns-clause-changed : goal.returns-clause-changed
 returns-clause-changed c = λ x.
     let none = rw (rw (← c.self.view_is) at c.requires) at c.self.invariant.marked x in
-    rw (← c.self.view_is, c.evict.ensures) (nothing_both (told written_in c.self.inside.pages x) _ none (none_of_some written_in c.self.inside.limit c.self.inside.pages x none))
+    rw (← c.self.view_is, c.evict.ensures) (nothing_both (copy_by written_in c.self.inside.pages x) _ none (none_of_some written_in c.self.inside.limit c.self.inside.pages x none))

@@ -4,14 +4,14 @@ use Rattle.std.specs.List.{list_any}
 use Rattle.std.specs.Map.{keys_of}
 use Rattle.thor_value.specs.Names.{oref_cmp}
 use Rattle.thor_value.specs.declared.names.Oref.{Oref}
-use Rattle.client_cache.specs.Copies.{told}
+use Rattle.client_cache.specs.Copies.{copy_by}
 use Rattle.client_cache.specs.Slots.{seen_in, written_in}
 use Rattle.client_cache.proofs.cache.Cache.settle_writes.Given as goal
 
 abbrev pub invariant-loop-oref : goal.invariant-loop-oref
 invariant-loop-oref l =
-    ((x : Oref) → told seen_in l.self-inside.pages x ≡ told seen_in l.fn.self.held x)
-    × ((x : Oref) → is_some (told written_in l.self-inside.pages x) ≡ list_any (is_at (oref_cmp x)) l.self-inside.written)
+    ((x : Oref) → copy_by seen_in l.self-inside.pages x ≡ copy_by seen_in l.fn.self.held x)
+    × ((x : Oref) → is_some (copy_by written_in l.self-inside.pages x) ≡ list_any (is_at (oref_cmp x)) l.self-inside.written)
     × (keys_of l.self-inside.pages ≡ keys_of l.fn.self.held)
     × (l.self-inside.made.keys ≡ l.fn.self.made)
     × (l.self-inside.limit ≡ l.fn.self.limit)
