@@ -13,7 +13,7 @@ cat > "$work/crates/append_speed/src/main.rt" <<'RT'
 
 ghost use Rattle.disk_trait.specs.Disks.{IsSettled};
 
-use disk_trait::{FileParts, MemParts, Parts, TickClock};
+use disk_trait::{Disk, FileParts, MemParts, Parts, TickClock};
 use log_frame::{Log, LogFault};
 use std::alloc::Global;
 use std::env;
@@ -23,7 +23,7 @@ use std::test::Fail;
 fn add<P: Parts>(alloc: Global, parts: &mut P, count: u64) -> Result<(), LogFault>
     requires { IsSettled (P.disks parts.old) 0 }
 {
-    let mut log = Log::format(alloc, parts, 0, 1, &[])?;
+    let mut log = Log::format(alloc, parts, Disk::Log0, 1, &[])?;
     for _ in 0..count {
         log.append(parts, &[7; 200])?;
     }
