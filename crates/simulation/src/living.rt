@@ -178,12 +178,8 @@ fn told_of(ran: Ran) -> (Ends, Lines) {
     let Ran {
         ends,
         lines,
-        clients,
-        schemas,
         traces,
     } = ran;
-    drop(clients);
-    drop(schemas);
     drop(traces);
     (ends, lines)
 }
