@@ -137,10 +137,13 @@ pub(crate) fn setup_of(alloc: Global, begun: &Begun) -> Result<Start, Fault> {
 /// What a run is asked for.
 pub(crate) fn plan_of(play: &Play<'_>, start: Start) -> Result<Plan, NoMemory> {
     let (start, clients) = both(start, play.begun.script.clients.copy())?;
+    let (held, schemas) = both((start, clients), play.begun.schemas.copy())?;
+    let (start, clients) = held;
     Ok(Plan {
         start,
         tries: u32::from(play.options.tries),
         cache: u32::from(play.options.cache),
+        schemas,
         clients: clients.into_vec(),
     })
 }
