@@ -40,11 +40,8 @@ impl Entry {
             made,
             reserved,
         } = self;
-        match made {
-            Some(path) if are_files_gone => {
-                let _ = fs::remove_file(&rt, path.as_str());
-            }
-            _ => {}
+        if let (Some(path), true) = (&made, are_files_gone) {
+            let _ = fs::remove_file(&rt, path.as_str());
         }
         drop(lock);
         drop(reserved);
@@ -104,7 +101,7 @@ fn open_lock(rt: HostRuntime, path: &str) -> IoResult<File> {
     let mut options = OpenOptions::new();
     options.write(true);
     options.create(true);
-    options.open(&OrReadOnly { rt }, path)
+    options.open(&OrReadOnly { files: rt }, path)
 }
 
 /// The folder, where no other process has the lock of its file.

@@ -9,6 +9,7 @@ mod clocks;
 mod descriptors;
 mod folder;
 mod help;
+mod noting;
 mod parts;
 mod performing;
 mod read_only;
@@ -25,12 +26,11 @@ use crate::performing::{Ended, perform};
 use crate::stored::perform_stored;
 use crate::wrong_word::fault_of;
 use outside::{StdSink, write_all};
-use std::env;
 use std::io::ErrorKind;
-use std::mem;
 use std::process::ExitCode;
 use std::sync::Wait;
 use std::thread::Threads;
+use std::{env, mem};
 use thor_top::Status;
 use thor_value::{NoMemory, Text, Texts};
 use top_words::{Command, Plan, WordsFault, read_words};
@@ -125,7 +125,12 @@ fn perform_in_memory<R: Threads + Wait + Sync, C: Clocks>(
     repos: u8,
     clocks: &C,
 ) -> Result<Status, NoMemory> {
-    let Ended { status, parts } = perform(rt, threads, words, memory(rt.alloc(), repos, clocks)?);
+    let Ended { status, parts, .. } = perform(
+        rt,
+        threads,
+        words,
+        memory(rt.alloc(), repos, clocks)?,
+    );
     mem::forget(parts);
     Ok(status)
 }

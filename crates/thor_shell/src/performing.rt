@@ -1,8 +1,9 @@
 //! The top call, between standard input and standard output.
 
 use crate::advice::advise_behind;
+use crate::noting::NotingSink;
 use disk_trait::Parts;
-use outside::{OpenGate, StdSink, StdSource};
+use outside::{OpenGate, StdSource};
 use std::mem;
 use std::sync::Wait;
 use std::thread::Threads;
@@ -13,6 +14,8 @@ use thor_value::Texts;
 #[derive(Drop)]
 pub struct Ended<P> {
     pub status: Status,
+    /// Whether the report tells of a repository that was down.
+    pub is_down: bool,
     pub parts: Vec<P>,
 }
 
@@ -25,7 +28,7 @@ pub fn perform<R: Threads + Wait + Sync, P: Parts + Send>(
     parts: Vec<P>,
 ) -> Ended<P> {
     let mut source = StdSource::new(rt.stdin());
-    let mut sink = StdSink::new(rt.stdout());
+    let mut sink = NotingSink::new(rt.stdout());
     let Outcome {
         status,
         parts,
@@ -40,7 +43,13 @@ pub fn perform<R: Threads + Wait + Sync, P: Parts + Send>(
         parts,
         &OpenGate,
     );
-    advise_behind(rt, status, traces.as_slice());
+    let is_run = !traces.as_slice().is_empty();
+    let noted = sink.noted();
+    advise_behind(rt, status, is_run, noted);
     mem::forget(traces);
-    Ended { status, parts }
+    Ended {
+        status,
+        is_down: noted.is_down,
+        parts,
+    }
 }

@@ -5,10 +5,10 @@ use std::fs::{File, Metadata, OpenOptions};
 use std::io::{Error, ErrorKind, Result as IoResult};
 use std::rt::Files;
 
-/// The system's files, of which one that may not be written is opened for reading alone: each write on it fails.
+/// Files, of which one that may not be written is opened for reading alone: each write on it fails.
 #[derive(Drop)]
-pub struct OrReadOnly {
-    pub rt: HostRuntime,
+pub struct OrReadOnly<R> {
+    pub files: R,
 }
 
 /// Whether writing is what was refused.
@@ -19,51 +19,55 @@ fn is_for_writing(error: &Error) -> bool {
     }
 }
 
-impl Files for OrReadOnly {
+impl<R: Files<File = File>> Files for OrReadOnly<R> {
     type File = File;
 
-    type Dir = <HostRuntime as Files>::Dir;
+    type Dir = R::Dir;
 
     fn open_file(&self, how: &OpenOptions, path: &str) -> IoResult<File> {
-        match self.rt.open_file(how, path) {
-            Err(error) if is_for_writing(&error) => File::open(&self.rt, path),
+        match self.files.open_file(how, path) {
+            Err(error) if is_for_writing(&error) => {
+                let mut options = OpenOptions::new();
+                options.read(true);
+                self.files.open_file(&options, path)
+            }
             opened => opened,
         }
     }
 
-    fn open_dir(&self, path: &str) -> IoResult<<HostRuntime as Files>::Dir> {
-        self.rt.open_dir(path)
+    fn open_dir(&self, path: &str) -> IoResult<R::Dir> {
+        self.files.open_dir(path)
     }
 
     fn metadata(&self, path: &str) -> IoResult<Metadata> {
-        self.rt.metadata(path)
+        self.files.metadata(path)
     }
 
     fn symlink_metadata(&self, path: &str) -> IoResult<Metadata> {
-        self.rt.symlink_metadata(path)
+        self.files.symlink_metadata(path)
     }
 
     fn copy(&self, from: &str, to: &str) -> IoResult<u64> {
-        self.rt.copy(from, to)
+        self.files.copy(from, to)
     }
 
     fn rename(&self, from: &str, to: &str) -> IoResult<()> {
-        self.rt.rename(from, to)
+        self.files.rename(from, to)
     }
 
     fn remove_file(&self, path: &str) -> IoResult<()> {
-        self.rt.remove_file(path)
+        self.files.remove_file(path)
     }
 
     fn create_dir(&self, path: &str) -> IoResult<()> {
-        self.rt.create_dir(path)
+        self.files.create_dir(path)
     }
 
     fn remove_dir(&self, path: &str) -> IoResult<()> {
-        self.rt.remove_dir(path)
+        self.files.remove_dir(path)
     }
 
     fn remove_dir_all<B: Allocator>(&self, alloc: B, path: &str) -> IoResult<()> {
-        self.rt.remove_dir_all(alloc, path)
+        self.files.remove_dir_all(alloc, path)
     }
 }

@@ -23,7 +23,7 @@ pub struct Standing {
 
 /// Reads the repository of this number, in a store of whatever number of repositories; nothing where it is none, or where a
 /// disk fails.
-pub fn standing<C: Clock>(
+pub fn standing_of<C: Clock>(
     alloc: Global,
     parts: &mut FileParts<C>,
     repo: u8,

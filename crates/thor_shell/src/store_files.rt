@@ -24,13 +24,14 @@ pub struct RepoFiles {
 }
 
 impl RepoFiles {
-    fn all(&self) -> [&StoreFile; 3] {
-        [&self.log0, &self.log1, &self.pages]
-    }
-
     /// Whether neither log can have an open header: it is missing, or has fewer than two bytes.
     pub fn is_without_logs(&self) -> bool {
         self.log0.len.unwrap_or(0) < 2 && self.log1.len.unwrap_or(0) < 2
+    }
+
+    /// Whether none of them was there.
+    fn is_absent(&self) -> bool {
+        self.log0.len.is_none() && self.log1.len.is_none() && self.pages.len.is_none()
     }
 }
 
@@ -59,10 +60,8 @@ pub fn length_of(rt: HostRuntime, path: &str) -> Option<u64> {
 }
 
 /// Whether none of the files was there.
-pub fn are_absent(files: &[RepoFiles]) -> bool {
-    files
-        .iter()
-        .all(|repo| repo.all().iter().all(|file| file.len.is_none()))
+fn are_absent(files: &[RepoFiles]) -> bool {
+    files.iter().all(|repo| repo.is_absent())
 }
 
 /// That these files are missing: those that weren't there beside others that were; empty where all or none were.
@@ -72,9 +71,9 @@ pub fn missing(alloc: Global, files: &[RepoFiles]) -> Result<String, NoMemory> {
         return Ok(told);
     }
     for repo in files {
-        for file in repo.all() {
-            tell_missing(&mut told, file)?;
-        }
+        tell_missing(&mut told, &repo.log0)?;
+        tell_missing(&mut told, &repo.log1)?;
+        tell_missing(&mut told, &repo.pages)?;
     }
     Ok(told)
 }
@@ -94,25 +93,25 @@ fn tell_missing(told: &mut String, file: &StoreFile) -> Result<(), NoMemory> {
 /// Removes the files that weren't there, where all of them are empty: nothing has been written into them. The answer is whether
 /// none of the store's files is there any more.
 pub fn remove_made(rt: HostRuntime, files: &[RepoFiles]) -> bool {
-    if !are_made_empty(rt, files) {
+    if !files.iter().all(|repo| is_made_empty(rt, repo)) {
         return false;
     }
     for repo in files {
-        for file in repo.all() {
-            remove_where_made(rt, file);
-        }
+        remove_where_made(rt, &repo.log0);
+        remove_where_made(rt, &repo.log1);
+        remove_where_made(rt, &repo.pages);
     }
     are_absent(files)
 }
 
-/// Whether each file that wasn't there is empty or isn't there still.
-fn are_made_empty(rt: HostRuntime, files: &[RepoFiles]) -> bool {
-    files
-        .iter()
-        .all(|repo| repo.all().iter().all(|file| is_empty_still(rt, file)))
+/// Whether each file of a repository that wasn't there is empty, or isn't there still.
+fn is_made_empty(rt: HostRuntime, repo: &RepoFiles) -> bool {
+    is_empty_where_made(rt, &repo.log0)
+        && is_empty_where_made(rt, &repo.log1)
+        && is_empty_where_made(rt, &repo.pages)
 }
 
-fn is_empty_still(rt: HostRuntime, file: &StoreFile) -> bool {
+fn is_empty_where_made(rt: HostRuntime, file: &StoreFile) -> bool {
     file.len.is_some() || length_of(rt, file.path.as_str()).unwrap_or(0) == 0
 }
 

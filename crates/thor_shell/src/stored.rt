@@ -6,7 +6,7 @@ use crate::folder::{Folder, enter, settle};
 use crate::parts::{closed, in_files};
 use crate::performing::{Ended, perform};
 use crate::read_only::OrReadOnly;
-use crate::standing::standing;
+use crate::standing::standing_of;
 use crate::store_files::{RepoFiles, look, missing, remove_made};
 use disk_trait::{Clock, FileParts};
 use std::str;
@@ -16,9 +16,14 @@ use thor_top::Status;
 use thor_value::{NoMemory, Text, Texts};
 use top_words::{Command, Plan};
 
-const DISK_FAULT: &str = "a file of the store can't be read or written: look at its rights and at the space of its disk; nothing that was committed is lost";
+const DISK_FAULT: &str =
+    "a file of the store can't be read or written: look at its rights and at the space of its disk; nothing that was committed is lost";
 
-const DAMAGED: &str = "a file of the store has other bytes than were written: the numbers are the repository, its file (0 log0, 1 log1, 2 pages) and the place in it; put the files back from a copy; nothing was changed";
+const DOWN: &str =
+    "a repository was down: where the schedule didn't stop it, its disk failed; look at the space and at the health of that disk before the next run, since the system may show bytes that the disk has lost";
+
+const DAMAGED: &str =
+    "a file of the store has other bytes than were written: the numbers are the repository, its file (0 log0, 1 log1, 2 pages) and the place in it; put the files back from a copy; nothing was changed";
 
 /// Does what the words ask for on the repositories of a folder, which no other process has in use meanwhile.
 pub fn perform_stored<R: Threads + Wait + Sync, C: Clocks>(
@@ -64,9 +69,16 @@ fn perform_entered<R: Threads + Wait + Sync, C: Clocks>(
     let files = look(rt, folder, plan.repos)?;
     let mut parts = opened(rt, plan, folder, files.as_slice(), clocks)?;
     let is_lost = tell_lost(rt, files.as_slice(), parts.as_mut_slice());
-    let Ended { status, mut parts } = perform(rt, threads, words, parts);
+    let Ended {
+        status,
+        is_down,
+        mut parts,
+    } = perform(rt, threads, words, parts);
     if !tell_number(rt, status, plan.repos, parts.as_mut_slice()) {
         tell_files(rt, status, files.as_slice(), is_lost);
+    }
+    if is_down && status == Status::Unfinished {
+        advise(rt, DOWN);
     }
     drop(parts);
     Ok(Left {
@@ -85,7 +97,7 @@ fn opened<C: Clocks>(
     clocks: &C,
 ) -> Result<Vec<FileParts<C::Clock>>, NoMemory> {
     if plan.command == Command::Check {
-        return in_files(&OrReadOnly { rt }, rt.alloc(), files, clocks);
+        return in_files(&OrReadOnly { files: rt }, rt.alloc(), files, clocks);
     }
     let parts = in_files(&rt, rt.alloc(), files, clocks)?;
     if settle(rt, folder) {
@@ -97,11 +109,7 @@ fn opened<C: Clocks>(
 
 /// Tells where repository 0 has no log, so that a setup makes a new store, and another repository has one with more than its
 /// first Life. The answer is whether that was told.
-fn tell_lost<C: Clock>(
-    rt: HostRuntime,
-    files: &[RepoFiles],
-    parts: &mut [FileParts<C>],
-) -> bool {
+fn tell_lost<C: Clock>(rt: HostRuntime, files: &[RepoFiles], parts: &mut [FileParts<C>]) -> bool {
     if has_log(files, 0) {
         return false;
     }
@@ -126,7 +134,7 @@ fn tell_entries<C: Clock>(rt: HostRuntime, repo: u8, parts: &mut [FileParts<C>])
     let Some(parts) = parts.get_mut(usize::from(repo)) else {
         return false;
     };
-    match standing(rt.alloc(), parts, repo) {
+    match standing_of(rt.alloc(), parts, repo) {
         Some(found) if found.entries > 1 => {
             let log = found.log;
             let entries = found.entries;
@@ -149,10 +157,14 @@ fn tell_number<C: Clock>(
     let (Status::Damaged, Some(parts)) = (status, parts.first_mut()) else {
         return false;
     };
-    match standing(rt.alloc(), parts, 0) {
+    match standing_of(rt.alloc(), parts, 0) {
         Some(found) if found.repos != repos => {
             let has = found.repos;
-            let unit = if has == 1 { "repository" } else { "repositories" };
+            let unit = if has == 1 {
+                "repository"
+            } else {
+                "repositories"
+            };
             let _ = eprintln!(rt; "this store has {has} {unit}: say --repos {has}");
             true
         }
