@@ -12,6 +12,7 @@ const MOST: u8 = 8;
 const MOB: u32 = 1 << 24;
 
 /// What a repository is found to be.
+#[derive(Drop)]
 pub struct Standing {
     /// How many repositories its store has.
     pub repos: u8,

@@ -52,6 +52,7 @@ pub fn perform_stored<R: Threads + Wait + Sync, C: Clocks>(
 }
 
 /// What is left behind a run in a folder.
+#[derive(Drop)]
 struct Left {
     status: Status,
     are_files_gone: bool,
