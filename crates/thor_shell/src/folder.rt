@@ -2,7 +2,7 @@
 
 use crate::descriptors::{Reserved, reserve};
 use crate::read_only::OrReadOnly;
-use crate::store_files::length_of;
+use crate::store_files::{Sight, sight_of};
 use std::fs;
 use std::fs::{File, OpenOptions, TryLockError};
 use std::io::{Error, ErrorKind, Result as IoResult};
@@ -81,10 +81,10 @@ fn enter_reserved(rt: HostRuntime, reserved: Reserved, path: String) -> Folder {
 
 /// Takes the lock of a folder's file where the folder's own lock is held.
 fn enter_locked(rt: HostRuntime, reserved: Reserved, path: String) -> Folder {
-    let is_there = length_of(rt, path.as_str()).is_some();
+    let is_made = sight_of(rt, path.as_str()) == Sight::Absent;
     match open_lock(rt, path.as_str()) {
-        Ok(lock) if is_there => locked(lock, None, reserved),
-        Ok(lock) => locked(lock, Some(path), reserved),
+        Ok(lock) if is_made => locked(lock, Some(path), reserved),
+        Ok(lock) => locked(lock, None, reserved),
         Err(error) => match error.kind() {
             ErrorKind::NotFound => Folder::Entered(Entry {
                 lock: None,

@@ -2,7 +2,19 @@
 
 use std::alloc::Global;
 use std::fs;
+use std::io::ErrorKind;
 use thor_value::NoMemory;
+
+/// What a look at a file comes to.
+#[derive(Clone, Copy, Debug, PartialEq, Eq)]
+pub enum Sight {
+    /// It isn't there.
+    Absent,
+    /// It is there, and has so many bytes.
+    There { len: u64 },
+    /// The system doesn't tell.
+    Unknown,
+}
 
 /// A file of a store.
 #[derive(Drop)]
@@ -11,8 +23,8 @@ pub struct StoreFile {
     pub name: String,
     /// Where it lies.
     pub path: String,
-    /// How many bytes it had; nothing where it wasn't there.
-    pub len: Option<u64>,
+    /// What it was found to be.
+    pub found: Sight,
 }
 
 /// The three files of a repository.
@@ -24,14 +36,24 @@ pub struct RepoFiles {
 }
 
 impl RepoFiles {
-    /// Whether neither log can have an open header: it is missing, or has fewer than two bytes.
+    /// Whether neither log can have an open header: it is absent, or has fewer than two bytes.
     pub fn is_without_logs(&self) -> bool {
-        self.log0.len.unwrap_or(0) < 2 && self.log1.len.unwrap_or(0) < 2
+        is_no_log(self.log0.found) && is_no_log(self.log1.found)
     }
 
-    /// Whether none of them was there.
+    /// Whether all of them were absent.
     fn is_absent(&self) -> bool {
-        self.log0.len.is_none() && self.log1.len.is_none() && self.pages.len.is_none()
+        self.log0.found == Sight::Absent
+            && self.log1.found == Sight::Absent
+            && self.pages.found == Sight::Absent
+    }
+}
+
+fn is_no_log(found: Sight) -> bool {
+    match found {
+        Sight::Absent => true,
+        Sight::There { len } => len < 2,
+        Sight::Unknown => false,
     }
 }
 
@@ -50,21 +72,29 @@ pub fn look(rt: HostRuntime, folder: &str, repos: u8) -> Result<Vec<RepoFiles>, 
 fn look_for(rt: HostRuntime, folder: &str, repo: u8, end: &str) -> Result<StoreFile, NoMemory> {
     let name = format!(in rt.alloc(); "{repo}.{end}")?;
     let path = format!(in rt.alloc(); "{folder}/{name}")?;
-    let len = length_of(rt, path.as_str());
-    Ok(StoreFile { name, path, len })
+    let found = sight_of(rt, path.as_str());
+    Ok(StoreFile { name, path, found })
 }
 
-/// How many bytes a file has; nothing where it isn't there.
-pub fn length_of(rt: HostRuntime, path: &str) -> Option<u64> {
-    Some(fs::metadata(&rt, path).ok()?.len())
+/// Looks at a file.
+pub fn sight_of(rt: HostRuntime, path: &str) -> Sight {
+    match fs::metadata(&rt, path) {
+        Ok(metadata) => Sight::There {
+            len: metadata.len(),
+        },
+        Err(error) => match error.kind() {
+            ErrorKind::NotFound => Sight::Absent,
+            _ => Sight::Unknown,
+        },
+    }
 }
 
-/// Whether none of the files was there.
+/// Whether all files were absent.
 fn are_absent(files: &[RepoFiles]) -> bool {
     files.iter().all(|repo| repo.is_absent())
 }
 
-/// That these files are missing: those that weren't there beside others that were; empty where all or none were.
+/// That these files are missing: those that were absent, beside others that weren't; empty where all or none were.
 pub fn missing(alloc: Global, files: &[RepoFiles]) -> Result<String, NoMemory> {
     let mut told = String::new(alloc);
     if are_absent(files) {
@@ -79,7 +109,7 @@ pub fn missing(alloc: Global, files: &[RepoFiles]) -> Result<String, NoMemory> {
 }
 
 fn tell_missing(told: &mut String, file: &StoreFile) -> Result<(), NoMemory> {
-    if file.len.is_some() {
+    if file.found != Sight::Absent {
         return Ok(());
     }
     if !told.is_empty() {
@@ -90,8 +120,8 @@ fn tell_missing(told: &mut String, file: &StoreFile) -> Result<(), NoMemory> {
     Ok(())
 }
 
-/// Removes the files that weren't there, where all of them are empty: nothing has been written into them. The answer is whether
-/// none of the store's files is there any more.
+/// Removes the files that were absent, where each of them is seen to be empty now: nothing has been written into them. The answer
+/// is whether each file of the store is seen to be absent behind that.
 pub fn remove_made(rt: HostRuntime, files: &[RepoFiles]) -> bool {
     if !files.iter().all(|repo| is_made_empty(rt, repo)) {
         return false;
@@ -101,10 +131,10 @@ pub fn remove_made(rt: HostRuntime, files: &[RepoFiles]) -> bool {
         remove_where_made(rt, &repo.log1);
         remove_where_made(rt, &repo.pages);
     }
-    are_absent(files)
+    files.iter().all(|repo| is_gone(rt, repo))
 }
 
-/// Whether each file of a repository that wasn't there is empty, or isn't there still.
+/// Whether each file of a repository that was absent is seen to be empty, or to be absent still.
 fn is_made_empty(rt: HostRuntime, repo: &RepoFiles) -> bool {
     is_empty_where_made(rt, &repo.log0)
         && is_empty_where_made(rt, &repo.log1)
@@ -112,11 +142,23 @@ fn is_made_empty(rt: HostRuntime, repo: &RepoFiles) -> bool {
 }
 
 fn is_empty_where_made(rt: HostRuntime, file: &StoreFile) -> bool {
-    file.len.is_some() || length_of(rt, file.path.as_str()).unwrap_or(0) == 0
+    file.found != Sight::Absent
+        || match sight_of(rt, file.path.as_str()) {
+            Sight::Absent => true,
+            Sight::There { len } => len == 0,
+            Sight::Unknown => false,
+        }
 }
 
 fn remove_where_made(rt: HostRuntime, file: &StoreFile) {
-    if file.len.is_none() {
+    if file.found == Sight::Absent {
         let _ = fs::remove_file(&rt, file.path.as_str());
     }
+}
+
+/// Whether the files of a repository are seen to be absent.
+fn is_gone(rt: HostRuntime, repo: &RepoFiles) -> bool {
+    sight_of(rt, repo.log0.path.as_str()) == Sight::Absent
+        && sight_of(rt, repo.log1.path.as_str()) == Sight::Absent
+        && sight_of(rt, repo.pages.path.as_str()) == Sight::Absent
 }
