@@ -69,7 +69,7 @@ fn perform_entered<R: Threads + Wait + Sync, C: Clocks>(
 ) -> Result<Left, NoMemory> {
     let files = look(rt, folder, plan.repos)?;
     let mut parts = opened(rt, plan, folder, files.as_slice(), clocks)?;
-    let is_lost = tell_lost(rt, files.as_slice(), parts.as_mut_slice());
+    let is_lost = tell_lost(rt, plan.repos, files.as_slice(), parts.as_mut_slice());
     let Ended {
         status,
         is_down,
@@ -108,14 +108,19 @@ fn opened<C: Clocks>(
     }
 }
 
-/// Tells where repository 0 has no log, so that a setup makes a new store, and another repository has one with more than its
-/// first Life. The answer is whether that was told.
-fn tell_lost<C: Clock>(rt: HostRuntime, files: &[RepoFiles], parts: &mut [FileParts<C>]) -> bool {
+/// Tells where repository 0 has no log, so that a setup makes a new store, and another repository of a store of as many has one
+/// with more than its first Life. The answer is whether that was told.
+fn tell_lost<C: Clock>(
+    rt: HostRuntime,
+    repos: u8,
+    files: &[RepoFiles],
+    parts: &mut [FileParts<C>],
+) -> bool {
     if has_log(files, 0) {
         return false;
     }
     for repo in 1..8 {
-        if has_log(files, repo) && tell_entries(rt, repo, parts) {
+        if has_log(files, repo) && tell_entries(rt, repos, repo, parts) {
             return true;
         }
     }
@@ -131,12 +136,17 @@ fn has_log(files: &[RepoFiles], repo: u8) -> bool {
 }
 
 /// Tells how many entries a repository's log has, where there are more than its first Life. The answer is whether that was told.
-fn tell_entries<C: Clock>(rt: HostRuntime, repo: u8, parts: &mut [FileParts<C>]) -> bool {
+fn tell_entries<C: Clock>(
+    rt: HostRuntime,
+    repos: u8,
+    repo: u8,
+    parts: &mut [FileParts<C>],
+) -> bool {
     let Some(parts) = parts.get_mut(usize::from(repo)) else {
         return false;
     };
     match standing_of(rt.alloc(), parts, repo) {
-        Some(found) if found.entries > 1 => {
+        Some(found) if found.repos == repos && found.entries > 1 => {
             let log = found.log;
             let entries = found.entries;
             let _ = eprintln!(rt;
@@ -148,29 +158,40 @@ fn tell_entries<C: Clock>(rt: HostRuntime, repo: u8, parts: &mut [FileParts<C>])
     }
 }
 
-/// Tells how many repositories a store has that is damaged since other words say so. The answer is whether that was told.
+/// Tells how many repositories a store has that is damaged since other words say so. The answer is whether that was told. The
+/// first repository that can be read decides.
 fn tell_number<C: Clock>(
     rt: HostRuntime,
     status: Status,
     repos: u8,
     parts: &mut [FileParts<C>],
 ) -> bool {
-    let (Status::Damaged, Some(parts)) = (status, parts.first_mut()) else {
+    if status != Status::Damaged {
         return false;
-    };
-    match standing_of(rt.alloc(), parts, 0) {
-        Some(found) if found.repos != repos => {
-            let has = found.repos;
-            let unit = if has == 1 {
-                "repository"
-            } else {
-                "repositories"
-            };
-            let _ = eprintln!(rt; "this store has {has} {unit}: say --repos {has}");
-            true
-        }
-        _ => false,
     }
+    for repo in 0..8 {
+        if let Some(has) = number_at(rt, repo, parts) {
+            return has != repos && tell_has(rt, has);
+        }
+    }
+    false
+}
+
+/// How many repositories the store has that a repository belongs to; nothing where that can't be read.
+fn number_at<C: Clock>(rt: HostRuntime, repo: u8, parts: &mut [FileParts<C>]) -> Option<u8> {
+    let parts = parts.get_mut(usize::from(repo))?;
+    Some(standing_of(rt.alloc(), parts, repo)?.repos)
+}
+
+/// Tells how many repositories a store has. The answer is that this was told.
+fn tell_has(rt: HostRuntime, has: u8) -> bool {
+    let unit = if has == 1 {
+        "repository"
+    } else {
+        "repositories"
+    };
+    let _ = eprintln!(rt; "this store has {has} {unit}: say --repos {has}");
+    true
 }
 
 /// Tells which files are missing, and what to do where a store was refused.
