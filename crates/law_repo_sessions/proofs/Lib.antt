@@ -3,6 +3,7 @@ pub mod Begun
 pub mod Came
 pub mod Invalidated
 pub mod Marked
+pub mod News
 pub mod Seen
 pub mod Traced
 pub mod Written

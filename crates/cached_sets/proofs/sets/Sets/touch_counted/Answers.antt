@@ -10,7 +10,7 @@ use Rattle.thor_value.specs.declared.values.Obj.{Obj}
 
 pub returns-then-is_err-clause-err : goal.returns-then-is_err-clause-err
 returns-then-is_err-clause-err g c =
-    let kept : Invalids → Sets = λ N. record { cached = c.self.inside.pages; invalid = N } in
+    let kept : Invalids → Sets = λ N. record { cached = c.self.inside.pages; invalid = N; noted = c.self.inside.noted } in
     rw (← c.self.view_is, c.loop-write.invariant.pages) (ap kept (c.undo.ensures.rest ∙ c.mark_holders-touched.ensures.undone c.self.inside.invalid c.loop-write.invariant.undone))
 
 pub loop-write-preserved : goal.loop-write-preserved
