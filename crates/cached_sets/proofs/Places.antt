@@ -1,143 +1,146 @@
 -- The places of each session behind the calls.
+use Rattle.cached_sets.proofs.Meaning.{same_test}
+use Rattle.cached_sets.specs.Invalid.{replace}
 use Rattle.cached_sets.specs.Meaning.{NeverFall}
-use Rattle.cached_sets.specs.Noted.{Noted, is_silent, most_noted, noted_from}
-use Rattle.cached_sets.specs.Sets.{Sets, acknowledge, drop_session, note}
-use Rattle.link_table.specs.Pairs.{link, rights, unlink_left}
-use Rattle.std.proofs.Common.{Bool, List, [], ap, arith, cond, false, length, map, nat_eq, nat_le, refl, subst, sym, true, ◌+◌, ◌++◌, ◌∙◌, ◌∷◌, ◌≡◌, ◌≤◌, ℕ}
+use Rattle.cached_sets.specs.Noted.{Noted, is_silent, kept_from, most_noted, noted_behind, noted_from, places_from, places_of, with_place}
+use Rattle.cached_sets.specs.Sets.{Sets, acknowledge, drop_session}
+use Rattle.std.proofs.Common.{Bool, List, [], ap, arith, cond, false, length, nat_eq, nat_le, refl, subst, sym, true, ◌+◌, ◌++◌, ◌∙◌, ◌∷◌, ◌≡◌, ◌≤◌, ℕ}
 use Rattle.std.proofs.lemmas.Bool.Decides.{nat_tests}
 use Rattle.std.proofs.lemmas.Bool.{eqb-true}
-use Rattle.std.proofs.lemmas.List.Elements.{filter-append}
-use Rattle.std.proofs.lemmas.List.{append-nil, map-append}
+use Rattle.std.proofs.lemmas.Cmp.{eq_by_cmp_equiv, nat_eq_equiv}
+use Rattle.std.proofs.lemmas.List.{append-nil}
+use Rattle.std.proofs.lemmas.Map.{keys-set_value, lookup-set_value}
+use Rattle.std.specs.BTreeMap.{is_at}
+use Rattle.std.specs.Cmp.{nat_cmp_total}
+use Rattle.std.specs.List.Sorted.{IsStrictlySortedBy}
 use Rattle.std.specs.List.{AllByRecursion, filter}
-use Rattle.std.specs.Prelude.{nat_lt, not}
+use Rattle.std.specs.Option.{IsSome, unwrap_or}
+use Rattle.std.specs.Ordering.{nat_cmp}
+use Rattle.std.specs.Prelude.{None, Option, Some, nat_lt}
+use Rattle.thor_value.proofs.FiniteMap.{IsSorted-insert, IsSorted-remove, get-insert, get-remove}
+use Rattle.thor_value.specs.FiniteMap.{IsSorted, get, insert, remove}
 
-abbrev of_session : ℕ → ℕ × ℕ → Bool
-of_session s p = nat_eq p.0 s
+-- ---- the places of one session
 
-abbrev place : ℕ × ℕ → ℕ
-place p = p.1
+get_replaced : (N : Noted) (n s : ℕ) (ks js : List ℕ) → get N n ≡ Some js → get (replace N n ks) s ≡ cond (nat_eq n s) (Some ks) (get N s)
+get_replaced N n s ks js h =
+    let there : IsSome (get N n) = rw h refl in
+    lookup-set_value (eq_by_cmp_equiv nat_cmp_total) (is_at (nat_cmp n)) (λ x y t. (eq_by_cmp_equiv nat_cmp_total).congr n x y t) s ks N.pairs there
+    ∙ ap (λ (t : Bool). cond t (Some ks) (get N s)) (same_test n s)
 
--- one more place of the session n
-pub noted : (S : Sets) (n k s : ℕ) → rights (note S n k).noted s ≡ rights S.noted s ++ cond (nat_eq n s) (k ∷ []) []
-noted S n k s =
-    ap (map place) (filter-append (of_session s) S.noted ((n, k) ∷ []))
-    ∙ map-append place (filter (of_session s) S.noted) (filter (of_session s) ((n, k) ∷ []))
-    ∙ ap (λ (ks : List ℕ). rights S.noted s ++ ks) (by (nat_eq n s))
+get_inserted : (N : Noted) (n s : ℕ) (ks : List ℕ) → get (insert N n ks) s ≡ cond (nat_eq n s) (Some ks) (get N s)
+get_inserted N n s ks = get-insert nat_cmp_total N n ks s ∙ ap (λ (t : Bool). cond t (Some ks) (get N s)) (same_test s n ∙ nat_eq_equiv.symm s n)
+
+-- with one more place of the session n
+pub noted : (N : Noted) (n k s : ℕ) → places_of (with_place N n k) s ≡ places_of N s ++ cond (nat_eq n s) (k ∷ []) []
+noted N n k s = by (get N n) refl (nat_eq n s) refl
   where
-    by : (t : Bool) → map place (cond t ((n, k) ∷ []) []) ≡ cond t (k ∷ []) []
-    by true = refl
-    by false = refl
+    by : (o : Option (List ℕ)) → get N n ≡ o → (t : Bool) → nat_eq n s ≡ t → places_of (noted_behind N n k o) s ≡ places_of N s ++ cond t (k ∷ []) []
+    by None f true e = let a : n ≡ s = eqb-true n s e in let b : get N s ≡ None = ap (get N) (sym a) ∙ f in rw (get_inserted N n s (k ∷ []), e, b) refl
+    by None f false e = rw (get_inserted N n s (k ∷ []), e) (sym (append-nil (places_of N s)))
+    by (Some ks) f true e = let a : n ≡ s = eqb-true n s e in let b : get N s ≡ Some ks = ap (get N) (sym a) ∙ f in rw (get_replaced N n s (ks ++ k ∷ []) ks f, e, b) refl
+    by (Some ks) f false e = rw (get_replaced N n s (ks ++ k ∷ []) ks f, e) (sym (append-nil (places_of N s)))
 
 -- ---- what is acknowledged
 
--- those of other sessions stay
-others_stay : (n upto s : ℕ) (N : Noted) → nat_eq n s ≡ false → rights (noted_from n upto N) s ≡ rights N s
-others_stay n upto s [] h = refl
-others_stay n upto s (p ∷ ps) h = by (nat_eq p.0 n) refl (nat_lt p.1 upto) (nat_eq p.0 s) refl
+kept : (n upto s : ℕ) (N : Noted) → places_of (noted_from n upto N) s ≡ cond (nat_eq n s) (places_from upto (places_of N s)) (places_of N s)
+kept n upto s N = by (get N n) refl (nat_eq n s) refl
   where
-    more : rights (noted_from n upto ps) s ≡ rights ps s
-    more = others_stay n upto s ps h
-
-    by : (own : Bool) → nat_eq p.0 n ≡ own → (low : Bool) (its : Bool) → nat_eq p.0 s ≡ its
-        → rights (cond own (cond low (noted_from n upto ps) (p ∷ ps)) (p ∷ noted_from n upto ps)) s ≡ map place (cond its (p ∷ filter (of_session s) ps) (filter (of_session s) ps))
-    by true e low true g = let f : nat_eq n s ≡ true = ap (λ (k : ℕ). nat_eq k s) (sym (eqb-true p.0 n e)) ∙ g in cc
-    by true e true false g = more
-    by true e false false g = rw g refl
-    by false e low true g = rw g (ap (λ (ks : List ℕ). p.1 ∷ ks) more)
-    by false e low false g = rw g more
-
--- some places without the first ones below upto
-abbrev from_places : ℕ → List ℕ → List ℕ
-from_places upto [] = []
-from_places upto (k ∷ ks) = cond (nat_lt k upto) (from_places upto ks) (k ∷ ks)
-
-own_from : (n upto : ℕ) (N : Noted) → rights (noted_from n upto N) n ≡ from_places upto (rights N n)
-own_from n upto [] = refl
-own_from n upto (p ∷ ps) = by (nat_eq p.0 n) refl (nat_lt p.1 upto) refl
-  where
-    more : rights (noted_from n upto ps) n ≡ from_places upto (rights ps n)
-    more = own_from n upto ps
-
-    by : (own : Bool) → nat_eq p.0 n ≡ own → (low : Bool) → nat_lt p.1 upto ≡ low
-        → rights (cond own (cond low (noted_from n upto ps) (p ∷ ps)) (p ∷ noted_from n upto ps)) n ≡ from_places upto (map place (cond own (p ∷ filter (of_session n) ps) (filter (of_session n) ps)))
-    by true e true g = rw g more
-    by true e false g = rw (e, g) refl
-    by false e low g = rw e more
+    by : (o : Option (List ℕ)) → get N n ≡ o → (t : Bool) → nat_eq n s ≡ t → places_of (kept_from N n upto o) s ≡ cond t (places_from upto (places_of N s)) (places_of N s)
+    by None f true e = let a : n ≡ s = eqb-true n s e in let b : get N s ≡ None = ap (get N) (sym a) ∙ f in rw b refl
+    by None f false e = refl
+    by (Some ks) f true e = let a : n ≡ s = eqb-true n s e in let b : get N s ≡ Some ks = ap (get N) (sym a) ∙ f in rw (get_replaced N n s (places_from upto ks) ks f, e, b) refl
+    by (Some ks) f false e = rw (get_replaced N n s (places_from upto ks) ks f, e) refl
 
 none_below : (upto : ℕ) (ks : List ℕ) → AllByRecursion (λ j. upto ≤ j) ks → filter (nat_le upto) ks ≡ ks
 none_below upto [] h = refl
 none_below upto (k ∷ ks) h =
-    let here : nat_le upto k ≡ true = grind (arith, nat_tests, h.0) in
+    let l : upto ≤ k = h.0 in
+    let here : nat_le upto k ≡ true = grind (arith, nat_tests) in
     rw here (ap (λ (js : List ℕ). k ∷ js) (none_below upto ks h.1))
 
 all_above : (upto k : ℕ) (ks : List ℕ) → upto ≤ k → AllByRecursion (λ j. k ≤ j) ks → AllByRecursion (λ j. upto ≤ j) ks
 all_above upto k [] l h = tt
-all_above upto k (j ∷ js) l h = let e : k ≤ j = h.0 in (omega arith, all_above upto k js l h.1)
+all_above upto k (j ∷ js) l h = let e : k ≤ j = h.0 in (omega (arith, l, e), all_above upto k js l h.1)
 
-rising_from : (upto : ℕ) (ks : List ℕ) → NeverFall ks → from_places upto ks ≡ filter (nat_le upto) ks
+rising_from : (upto : ℕ) (ks : List ℕ) → NeverFall ks → places_from upto ks ≡ filter (nat_le upto) ks
 rising_from upto [] h = refl
 rising_from upto (k ∷ ks) h = by (nat_lt k upto) refl
   where
-    by : (low : Bool) → nat_lt k upto ≡ low → cond low (from_places upto ks) (k ∷ ks) ≡ filter (nat_le upto) (k ∷ ks)
-    by true e = let f : nat_le upto k ≡ false = grind (arith, nat_tests, e) in rw f (rising_from upto ks h.1)
-    by false e = let l : upto ≤ k = grind (arith, nat_tests, e) in sym (none_below upto (k ∷ ks) (l, all_above upto k ks l h.0))
+    by : (low : Bool) → nat_lt k upto ≡ low → cond low (places_from upto ks) (k ∷ ks) ≡ filter (nat_le upto) (k ∷ ks)
+    by true e = let f : nat_le upto k ≡ false = grind (arith, nat_tests) in rw f (rising_from upto ks h.1)
+    by false e = let l : upto ≤ k = grind (arith, nat_tests) in sym (none_below upto (k ∷ ks) (l, all_above upto k ks l h.0))
 
-pub acknowledged : (S : Sets) (n upto s : ℕ) → NeverFall (rights S.noted n) → rights (acknowledge S n upto).noted s ≡ cond (nat_eq n s) (filter (nat_le upto) (rights S.noted s)) (rights S.noted s)
-acknowledged S n upto s h = by (nat_eq n s) refl
+pub acknowledged : (N : Noted) (n upto s : ℕ) → NeverFall (places_of N n) → places_of (noted_from n upto N) s ≡ cond (nat_eq n s) (filter (nat_le upto) (places_of N s)) (places_of N s)
+acknowledged N n upto s h = kept n upto s N ∙ by (nat_eq n s) refl
   where
-    by : (t : Bool) → nat_eq n s ≡ t → rights (noted_from n upto S.noted) s ≡ cond t (filter (nat_le upto) (rights S.noted s)) (rights S.noted s)
-    by true e = subst (λ (k : ℕ). rights (noted_from n upto S.noted) k ≡ filter (nat_le upto) (rights S.noted k)) (eqb-true n s e) (own_from n upto S.noted ∙ rising_from upto (rights S.noted n) h)
-    by false e = others_stay n upto s S.noted e
+    by : (t : Bool) → nat_eq n s ≡ t → cond t (places_from upto (places_of N s)) (places_of N s) ≡ cond t (filter (nat_le upto) (places_of N s)) (places_of N s)
+    by true e = rising_from upto (places_of N s) (subst (λ (k : ℕ). NeverFall (places_of N k)) (eqb-true n s e) h)
+    by false e = refl
 
-pub others_acknowledged : (S : Sets) (n upto s : ℕ) → nat_eq n s ≡ false → rights (acknowledge S n upto).noted s ≡ rights S.noted s
-others_acknowledged S n upto s e = others_stay n upto s S.noted e
+pub others_acknowledged : (N : Noted) (n upto s : ℕ) → nat_eq n s ≡ false → places_of (noted_from n upto N) s ≡ places_of N s
+others_acknowledged N n upto s e = kept n upto s N ∙ ap (λ (t : Bool). cond t (places_from upto (places_of N s)) (places_of N s)) e
 
 -- of none none goes, and of some none comes
-fewer_from : (upto : ℕ) (ks : List ℕ) → length (from_places upto ks) ≤ length ks
+pub none_acknowledged : (N : Noted) (n upto s : ℕ) → places_of N s ≡ [] → places_of (noted_from n upto N) s ≡ []
+none_acknowledged N n upto s h = kept n upto s N ∙ ap (λ (ks : List ℕ). cond (nat_eq n s) (places_from upto ks) ks) h ∙ by (nat_eq n s)
+  where
+    by : (t : Bool) → cond {A = List ℕ} t [] [] ≡ []
+    by true = refl
+    by false = refl
+
+fewer_from : (upto : ℕ) (ks : List ℕ) → length (places_from upto ks) ≤ length ks
 fewer_from upto [] = omega arith
-fewer_from upto (k ∷ ks) = by (nat_lt k upto)
+fewer_from upto (k ∷ ks) = by (nat_lt k upto) (fewer_from upto ks)
   where
-    by : (low : Bool) → length (cond low (from_places upto ks) (k ∷ ks)) ≤ length (k ∷ ks)
-    by true = let more : length (from_places upto ks) ≤ length ks = fewer_from upto ks in omega arith
-    by false = omega arith
+    by : (low : Bool) → length (places_from upto ks) ≤ length ks → length (cond low (places_from upto ks) (k ∷ ks)) ≤ length (k ∷ ks)
+    by true more = omega (arith, more)
+    by false more = omega arith
 
-pub none_acknowledged : (S : Sets) (n upto s : ℕ) → rights S.noted s ≡ [] → rights (acknowledge S n upto).noted s ≡ []
-none_acknowledged S n upto s h = by (nat_eq n s) refl
+pub still_heard : (N : Noted) (n upto s : ℕ) → is_silent N s ≡ false → is_silent (noted_from n upto N) s ≡ false
+still_heard N n upto s h = ap (λ (ks : List ℕ). nat_lt most_noted (length ks)) (kept n upto s N) ∙ by (nat_eq n s)
   where
-    by : (t : Bool) → nat_eq n s ≡ t → rights (noted_from n upto S.noted) s ≡ []
-    by true e = ap (rights (noted_from n upto S.noted)) (sym (eqb-true n s e)) ∙ own_from n upto S.noted ∙ ap (from_places upto) (ap (rights S.noted) (eqb-true n s e) ∙ h)
-    by false e = others_stay n upto s S.noted e ∙ h
+    fewer : length (places_from upto (places_of N s)) ≤ length (places_of N s)
+    fewer = fewer_from upto (places_of N s)
 
-pub still_heard : (S : Sets) (n upto s : ℕ) → is_silent S.noted s ≡ false → is_silent (acknowledge S n upto).noted s ≡ false
-still_heard S n upto s h = by (nat_eq n s) refl
-  where
-    by : (t : Bool) → nat_eq n s ≡ t → nat_lt most_noted (length (rights (noted_from n upto S.noted) s)) ≡ false
-    by true e =
-        let same : rights (noted_from n upto S.noted) s ≡ from_places upto (rights S.noted s) = subst (λ (k : ℕ). rights (noted_from n upto S.noted) k ≡ from_places upto (rights S.noted k)) (eqb-true n s e) (own_from n upto S.noted) in
-        let fewer : length (from_places upto (rights S.noted s)) ≤ length (rights S.noted s) = fewer_from upto (rights S.noted s) in
-        ap (λ (ks : List ℕ). nat_lt most_noted (length ks)) same ∙ grind (arith, nat_tests, fewer, h)
-    by false e = ap (λ (ks : List ℕ). nat_lt most_noted (length ks)) (others_stay n upto s S.noted e) ∙ h
+    by : (t : Bool) → nat_lt most_noted (length (cond t (places_from upto (places_of N s)) (places_of N s))) ≡ false
+    by true = under most_noted (length (places_from upto (places_of N s))) (length (places_of N s)) fewer h
+      where
+        under : (m i j : ℕ) → i ≤ j → nat_lt m j ≡ false → nat_lt m i ≡ false
+        under m i j l e = grind (arith, nat_tests)
+    by false = h
 
 -- ---- a session ends
 
-pub dropped : (S : Sets) (n s : ℕ) → rights (drop_session S n).noted s ≡ cond (nat_eq n s) [] (rights S.noted s)
-dropped S n s = by S.noted
+pub dropped : (N : Noted) (n s : ℕ) → IsSorted N → places_of (remove N n) s ≡ cond (nat_eq n s) [] (places_of N s)
+dropped N n s h = ap (λ (o : Option (List ℕ)). unwrap_or o []) (get-remove nat_cmp_total N n s h ∙ ap (λ (t : Bool). cond t None (get N s)) (same_test n s)) ∙ by (nat_eq n s)
   where
-    by : (N : Noted) → rights (unlink_left N n) s ≡ cond (nat_eq n s) [] (rights N s)
-    by [] = at (nat_eq n s)
-      where
-        at : (t : Bool) → [] ≡ cond {A = List ℕ} t [] []
-        at true = refl
-        at false = refl
-    by (p ∷ ps) = at (nat_eq p.0 n) refl (nat_eq p.0 s) refl (nat_eq n s) refl (by ps)
-      where
-        at : (own : Bool) → nat_eq p.0 n ≡ own → (its : Bool) → nat_eq p.0 s ≡ its → (t : Bool) → nat_eq n s ≡ t → rights (unlink_left ps n) s ≡ cond (nat_eq n s) [] (rights ps s)
-            → rights (cond (not own) (p ∷ unlink_left ps n) (unlink_left ps n)) s ≡ cond t [] (map place (cond its (p ∷ filter (of_session s) ps) (filter (of_session s) ps)))
-        at true e true g true k more = more ∙ ap (λ (u : Bool). cond u [] (rights ps s)) k
-        at true e true g false k more = let f : nat_eq n s ≡ true = ap (λ (j : ℕ). nat_eq j s) (sym (eqb-true p.0 n e)) ∙ g in cc
-        at true e false g true k more = more ∙ ap (λ (u : Bool). cond u [] (rights ps s)) k
-        at true e false g false k more = more ∙ ap (λ (u : Bool). cond u [] (rights ps s)) k
-        at false e true g true k more = let f : nat_eq p.0 n ≡ true = ap (nat_eq p.0) (eqb-true n s k) ∙ g in cc
-        at false e true g false k more = rw g (ap (λ (ks : List ℕ). p.1 ∷ ks) (more ∙ ap (λ (u : Bool). cond u [] (rights ps s)) k))
-        at false e false g true k more = rw g (more ∙ ap (λ (u : Bool). cond u [] (rights ps s)) k)
-        at false e false g false k more = rw g (more ∙ ap (λ (u : Bool). cond u [] (rights ps s)) k)
+    by : (t : Bool) → unwrap_or (cond t None (get N s)) [] ≡ cond t [] (places_of N s)
+    by true = refl
+    by false = refl
+
+-- ---- the sessions stay in order
+
+pub none_noted : IsStrictlySortedBy nat_cmp []
+unfolding IsStrictlySortedBy
+none_noted = tt
+
+replaced_order : (N : Noted) (n : ℕ) (ks : List ℕ) → IsSorted N → IsSorted (replace N n ks)
+replaced_order N n ks h = subst (IsStrictlySortedBy nat_cmp) (sym (keys-set_value (is_at (nat_cmp n)) N.pairs ks)) h
+
+pub noted_order : (N : Noted) (n k : ℕ) → IsSorted N → IsSorted (with_place N n k)
+noted_order N n k h = by (get N n)
+  where
+    by : (o : Option (List ℕ)) → IsSorted (noted_behind N n k o)
+    by None = IsSorted-insert nat_cmp_total N n (k ∷ []) h
+    by (Some ks) = replaced_order N n (ks ++ k ∷ []) h
+
+pub kept_order : (N : Noted) (n upto : ℕ) → IsSorted N → IsSorted (noted_from n upto N)
+kept_order N n upto h = by (get N n)
+  where
+    by : (o : Option (List ℕ)) → IsSorted (kept_from N n upto o)
+    by None = h
+    by (Some ks) = replaced_order N n (places_from upto ks) h
+
+pub dropped_order : (N : Noted) (n : ℕ) → IsSorted N → IsSorted (remove N n)
+dropped_order N n h = IsSorted-remove nat_cmp N n h

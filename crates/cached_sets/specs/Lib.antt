@@ -3,6 +3,5 @@ pub mod Cost
 pub mod Invalid
 pub mod Meaning
 pub mod Noted
-pub mod NotedKeys
 pub mod Sets
 pub mod Undoing

@@ -1,7 +1,7 @@
 -- The cached sets and the invalid sets of the sessions of one repository, and what its calls do to
 -- them.
 use Rattle.cached_sets.specs.Invalid.{Invalids, change, first_stale, from, mark, next_of, set_of}
-use Rattle.cached_sets.specs.Noted.{Noted, noted_from}
+use Rattle.cached_sets.specs.Noted.{Noted, noted_from, with_place}
 use Rattle.link_table.specs.Pairs as pairs
 use Rattle.link_table.specs.Pairs.{is_linked, lefts}
 use Rattle.std.specs.List.{filter, flat_map, fold}
@@ -15,12 +15,12 @@ pub record Sets : Type 0 where
   pub cached : List (ℕ × ℕ)
   -- the invalid set of each session that has cached a page
   pub invalid : Invalids
-  -- each session with each place at which it was told what its client hasn't acknowledged
+  -- of each session the places at which it was told what its client hasn't acknowledged
   pub noted : Noted
 
 -- no session has a page
 abbrev pub no_sets : Sets
-no_sets = record { cached = []; invalid = empty; noted = [] }
+no_sets = record { cached = []; invalid = empty; noted = empty }
 
 -- with an invalid set of the session s, which begins empty
 abbrev pub opened : Invalids → ℕ → Invalids
@@ -52,7 +52,7 @@ touch S writer names k = record { cached = S.cached; invalid = marked S.invalid 
 
 -- the session s was told of a commit at the place k
 abbrev pub note : Sets → ℕ → ℕ → Sets
-note S s k = record S { noted = pairs.link S.noted s k }
+note S s k = record S { noted = with_place S.noted s k }
 
 -- the client of the session s knows what was written and told below a place
 abbrev pub acknowledge : Sets → ℕ → ℕ → Sets
@@ -60,7 +60,7 @@ acknowledge S s upto = record { cached = S.cached; invalid = change S.invalid s 
 
 -- the session s ends
 abbrev pub drop_session : Sets → ℕ → Sets
-drop_session S s = record { cached = pairs.unlink_left S.cached s; invalid = remove S.invalid s; noted = pairs.unlink_left S.noted s }
+drop_session S s = record { cached = pairs.unlink_left S.cached s; invalid = remove S.invalid s; noted = remove S.noted s }
 
 -- the first of some names that was written since, at a place not below upto, with that place
 abbrev pub stale : Sets → ℕ → List Oref → ℕ → Option (Oref × ℕ)

@@ -5,8 +5,8 @@
 mod invalid_set;
 mod invalid_sets;
 mod marked;
-mod noted_keys;
 mod noted_places;
+mod place_queue;
 mod set_laws;
 mod sets;
 

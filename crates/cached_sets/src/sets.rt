@@ -1,7 +1,7 @@
 //! The calls of a repository on the sets of its sessions.
 
 ghost use Rattle.cached_sets.specs.Cost.{stale_steps, touch_steps};
-ghost use Rattle.cached_sets.specs.Noted.{is_silent};
+ghost use Rattle.cached_sets.specs.Noted.{is_silent, places_of};
 ghost use Rattle.cached_sets.specs.Sets.{acknowledge, cache, drop_session, invalid_after, marked, no_sets, note, stale, touch, touches};
 ghost use Rattle.cached_sets.specs.Invalid.{Invalids, set_of};
 ghost use Rattle.cached_sets.specs.Undoing.{undo};
@@ -52,7 +52,7 @@ impl Sets {
         Ok(Sets {
             pages: Links::new(alloc)?,
             invalid: InvalidSets::new(alloc),
-            noted: NotedPlaces::new(alloc)?,
+            noted: NotedPlaces::new(alloc),
             alloc,
         })
     }
@@ -153,9 +153,9 @@ impl Sets {
     /// A session was told of a commit at a place, which its client hasn't acknowledged. The answer is whether it has
     /// more than 4,096 such places then. After `NoMemory` the sets are as they were.
     ///
-    /// It takes time in proportion to the logarithm of how many sessions and places there are.
+    /// It takes time in proportion to the logarithm of how many sessions there are.
     pub fn note(&mut self, session: u32, place: u64) -> Result<bool, NoMemory>
-        ensures answer { IfOk result (λ silent. silent ≡ is_silent (note self.old session place).noted session) }
+        ensures answer { IfOk result (λ silent. silent ≡ is_silent self.new.noted session) }
         ensures ok { OnOk result (self.new ≡ note self.old session place) }
         ensures err { OnErr result (self.new ≡ self.old) }
     {
@@ -190,7 +190,7 @@ impl Sets {
         steps: &mut StepCount<L>,
     )
         ensures rest { self.new ≡ acknowledge self.old session upto }
-        ensures cost { steps.new + length (rights self.new.noted session) ≡ steps.old + length (rights self.old.noted session) }
+        ensures cost { steps.new + length (places_of self.new.noted session) ≡ steps.old + length (places_of self.old.noted session) }
     {
         self.invalid.keep_from(session, upto);
         self.noted.keep_from(session, upto, steps);
@@ -268,15 +268,15 @@ impl Sets {
         self.drop_counted(session, &mut steps);
     }
 
-    /// `drop_session`, counted: one step for each page that the session has, and one for each of its places. Its invalid
-    /// set goes as a whole.
+    /// `drop_session`, counted: one step for each page that the session has. Its invalid set and its places go as a
+    /// whole.
     pub fn drop_counted<L: Ledger>(&mut self, session: u32, steps: &mut StepCount<L>)
         ensures rest { self.new ≡ drop_session self.old session }
-        ensures cost { steps.new ≡ steps.old + length (rights self.old.cached session) + length (rights self.old.noted session) }
+        ensures cost { steps.new ≡ steps.old + length (rights self.old.cached session) }
     {
         self.pages.unlink_left(session, steps);
         self.invalid.close(session);
-        self.noted.close(session, steps);
+        self.noted.close(session);
     }
 }
 

@@ -1,0 +1,13 @@
+use Rattle.cached_sets.proofs.place_queue.PlaceQueue.keep_from.Given as goal
+use Rattle.cached_sets.specs.Noted.{places_from}
+use Rattle.std.proofs.Common.{length, ◌+◌, ◌≡◌}
+
+-- the places so far lead to the same, and each that went counted
+abbrev pub invariant-loop : goal.invariant-loop
+invariant-loop g l = record {
+  rest : places_from l.upto l.self.places.items ≡ places_from l.upto l.initial.self.places.items;
+  cost : l.steps + length l.self.places.items ≡ l.initial.steps + length l.initial.self.places.items;
+}
+
+abbrev pub decreases-loop : goal.decreases-loop
+decreases-loop g l = length l.self.places.items
