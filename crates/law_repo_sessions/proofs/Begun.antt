@@ -6,9 +6,8 @@ use Rattle.cached_sets.proofs.Places as places
 use Rattle.cached_sets.specs.Invalid.{Invalid}
 use Rattle.cached_sets.specs.Meaning.{has_page, place_in}
 use Rattle.cached_sets.specs.Noted as noted
-use Rattle.cached_sets.specs.Noted.{most_noted}
+use Rattle.cached_sets.specs.Noted.{most_noted, places_of}
 use Rattle.log_entries.specs.declared.entry.Entry.{Entry}
-use Rattle.link_table.specs.Pairs.{rights}
 use Rattle.repo_sessions.specs.Sessions.{Kept, begun, ended, no_sessions, without}
 use Rattle.spec_history.specs.History.{Base, State, is_life, state}
 use Rattle.session_outbox.specs.Outbox as outbox
@@ -55,7 +54,7 @@ none_opened : (K : Kept) (s page : ℕ) → has_page (ended K).sets s page ≡ t
 none_opened K s page h = cc
 
 none_in_order : (K : Kept) → AreInOrder (ended K)
-none_in_order K = record { clients = no_key; retired = no_key; waiting = no_key; sets = none_ordered }
+none_in_order K = record { clients = no_key; retired = no_key; waiting = no_key; sets = none_ordered; noted = no_key }
 
 pub beginning_agrees : (b : Base) → b.silence ≡ Some most_noted → SessionsAgree b [] no_sessions
 beginning_agrees b q = record {
@@ -137,14 +136,14 @@ module _ (b : Base) (T : List Item) (K : Kept) (c n : ℕ) (new : n ≡ K.last +
   retired_then None s = refl
   retired_then (Some r) s = get_without K.retired r s a.order.retired
 
-  notes_then : (older : Option ℕ) (s : ℕ) → rights (with_older older).sets.noted s ≡ cond (is_older older s) [] (rights K.sets.noted s)
+  notes_then : (older : Option ℕ) (s : ℕ) → places_of (with_older older).sets.noted s ≡ cond (is_older older s) [] (places_of K.sets.noted s)
   notes_then None s = refl
-  notes_then (Some r) s = places.dropped K.sets r s
+  notes_then (Some r) s = places.dropped K.sets.noted r s a.order.noted
 
   heard_then : (older : Option ℕ) (s : ℕ) → noted.is_silent (with_older older).sets.noted s ≡ false
   heard_then older s = ap (λ (ks : List ℕ). nat_lt most_noted (length ks)) (notes_then older s) ∙ by (is_older older s)
     where
-      by : (t : Bool) → nat_lt most_noted (length (cond t [] (rights K.sets.noted s))) ≡ false
+      by : (t : Bool) → nat_lt most_noted (length (cond t [] (places_of K.sets.noted s))) ≡ false
       by true = refl
       by false = a.heard s
 
@@ -179,8 +178,8 @@ module _ (b : Base) (T : List Item) (K : Kept) (c n : ℕ) (new : n ≡ K.last +
           ap (λ (o : Option Invalid). is_some o) (get_without K.sets.invalid r s a.order.sets.sessions ∙ ap (λ (t : Bool). cond t None (get K.sets.invalid s)) e) ∙ a.opened s p f
 
   order_then : (older : Option ℕ) → AreInOrder (with_older older)
-  order_then None = record { clients = put_in_order; retired = a.order.retired; waiting = a.order.waiting; sets = a.order.sets }
-  order_then (Some r) = record { clients = IsSorted-remove nat_cmp (insert K.clients n c) r put_in_order; retired = IsSorted-remove nat_cmp K.retired r a.order.retired; waiting = IsSorted-remove nat_cmp K.waiting r a.order.waiting; sets = ordered_removed K.sets.invalid r a.order.sets }
+  order_then None = record { clients = put_in_order; retired = a.order.retired; waiting = a.order.waiting; sets = a.order.sets; noted = a.order.noted }
+  order_then (Some r) = record { clients = IsSorted-remove nat_cmp (insert K.clients n c) r put_in_order; retired = IsSorted-remove nat_cmp K.retired r a.order.retired; waiting = IsSorted-remove nat_cmp K.waiting r a.order.waiting; sets = ordered_removed K.sets.invalid r a.order.sets; noted = places.dropped_order K.sets.noted r a.order.noted }
 
   -- ---- who the older one is
 
@@ -223,7 +222,7 @@ module _ (b : Base) (T : List Item) (K : Kept) (c n : ℕ) (new : n ≡ K.last +
       record {
         client = client_then older s ∙ ap (λ (t : Bool). cond t None (cond (nat_eq n s) (Some c) (get K.clients s))) o ∙ ap (λ (t : Bool). cond t (Some c) (get K.clients s)) h;
         retired = retired_then older s ∙ ap (λ (t : Bool). cond t None (get K.retired s)) o ∙ was.retired;
-        notes = notes_then older s ∙ ap (λ (t : Bool). cond t [] (rights K.sets.noted s)) o ∙ was.notes;
+        notes = notes_then older s ∙ ap (λ (t : Bool). cond t [] (places_of K.sets.noted s)) o ∙ was.notes;
         pages = λ p. page_then older s p ∙ ap (λ (t : Bool). not t && has_page K.sets s p) o ∙ was.pages p;
         invalid = λ x. place_then older s x ∙ ap (λ (t : Bool). cond t None (place_in K.sets s x)) o ∙ was.invalid x;
         waits = ap (map notice_of) (waiting_then older s ∙ ap (λ (t : Bool). cond t [] (outbox.waiting K.waiting s)) o) ∙ was.waits;
@@ -234,7 +233,7 @@ module _ (b : Base) (T : List Item) (K : Kept) (c n : ℕ) (new : n ≡ K.last +
   older_away : (older : Option ℕ) (s : ℕ) → is_older older s ≡ true → IsAway (with_older older) s
   older_away older s o = record {
     client = client_then older s ∙ ap (λ (t : Bool). cond t None (cond (nat_eq n s) (Some c) (get K.clients s))) o;
-    notes = notes_then older s ∙ ap (λ (t : Bool). cond t [] (rights K.sets.noted s)) o;
+    notes = notes_then older s ∙ ap (λ (t : Bool). cond t [] (places_of K.sets.noted s)) o;
     pages = λ p. page_then older s p ∙ ap (λ (t : Bool). not t && has_page K.sets s p) o;
     invalid = λ x. place_then older s x ∙ ap (λ (t : Bool). cond t None (place_in K.sets s x)) o;
     waits = ap (map notice_of) (waiting_then older s ∙ ap (λ (t : Bool). cond t [] (outbox.waiting K.waiting s)) o);
@@ -245,7 +244,7 @@ module _ (b : Base) (T : List Item) (K : Kept) (c n : ℕ) (new : n ≡ K.last +
   other_same older s h o = record {
     client = client_then older s ∙ ap (λ (t : Bool). cond t None (cond (nat_eq n s) (Some c) (get K.clients s))) o ∙ ap (λ (t : Bool). cond t (Some c) (get K.clients s)) h;
     retired = retired_then older s ∙ ap (λ (t : Bool). cond t None (get K.retired s)) o;
-    notes = notes_then older s ∙ ap (λ (t : Bool). cond t [] (rights K.sets.noted s)) o;
+    notes = notes_then older s ∙ ap (λ (t : Bool). cond t [] (places_of K.sets.noted s)) o;
     pages = λ p. page_then older s p ∙ ap (λ (t : Bool). not t && has_page K.sets s p) o;
     invalid = λ x. place_then older s x ∙ ap (λ (t : Bool). cond t None (place_in K.sets s x)) o;
     waits = waiting_then older s ∙ ap (λ (t : Bool). cond t [] (outbox.waiting K.waiting s)) o;

@@ -1,6 +1,7 @@
 pub mod Answering
 pub mod Begun
 pub mod Came
+pub mod GivenUp
 pub mod Invalidated
 pub mod Marked
 pub mod News

@@ -4,10 +4,9 @@ use Rattle.cached_sets.proofs.Ordering as ordering
 use Rattle.cached_sets.proofs.Ordering.{ordered_from, ordered_opened}
 use Rattle.cached_sets.proofs.Places as places
 use Rattle.cached_sets.specs.Meaning.{NeverFall, has_page, place_in, unless_below}
-use Rattle.cached_sets.specs.Noted.{is_silent}
+use Rattle.cached_sets.specs.Noted.{is_silent, places_of}
 use Rattle.cached_sets.specs.Sets as sets
 use Rattle.log_entries.specs.declared.entry.Entry.{Entry}
-use Rattle.link_table.specs.Pairs.{rights}
 use Rattle.repo_sessions.specs.Sessions.{Kept, acknowledged, is_live, sent, taken}
 use Rattle.spec_history.proofs.Growth.{length-state}
 use Rattle.spec_history.specs.History.{Base, State, state, writers}
@@ -61,7 +60,7 @@ drop_next n xs = rw add-one (drop_one n xs)
 -- one that isn't live: nothing is kept of it
 pub record IsAway (K : Kept) (s : ℕ) : Type 0 where
   pub client : get K.clients s ≡ None
-  pub notes : rights K.sets.noted s ≡ []
+  pub notes : places_of K.sets.noted s ≡ []
   pub pages : (page : ℕ) → has_page K.sets s page ≡ false
   pub invalid : (x : Oref) → place_in K.sets s x ≡ None
   pub waits : map notice_of (outbox.waiting K.waiting s) ≡ []
@@ -95,7 +94,7 @@ away_agrees b H K s (Some v) h r a = record {
 pub record IsSame (K L : Kept) (s : ℕ) : Type 0 where
   pub client : get L.clients s ≡ get K.clients s
   pub retired : get L.retired s ≡ get K.retired s
-  pub notes : rights L.sets.noted s ≡ rights K.sets.noted s
+  pub notes : places_of L.sets.noted s ≡ places_of K.sets.noted s
   pub pages : (page : ℕ) → has_page L.sets s page ≡ has_page K.sets s page
   pub invalid : (x : Oref) → place_in L.sets s x ≡ place_in K.sets s x
   pub waits : outbox.waiting L.waiting s ≡ outbox.waiting K.waiting s
@@ -249,12 +248,12 @@ sent_opened K n page m h s p g = by (nat_eq n s) refl
 
 -- ---- places are acknowledged
 
-pub acknowledged_agrees : (b : Base) (H : List Entry) (K : Kept) (n s upto : ℕ) (v : Session) → NeverFall (rights K.sets.noted n) → upto ≤ length H → AreInOrder K → session_lives v ≡ true → SessionAgrees b H K s (Some v) → SessionAgrees b H (acknowledged K n upto) s (Some (acked_where (nat_eq n s) upto v))
+pub acknowledged_agrees : (b : Base) (H : List Entry) (K : Kept) (n s upto : ℕ) (v : Session) → NeverFall (places_of K.sets.noted n) → upto ≤ length H → AreInOrder K → session_lives v ≡ true → SessionAgrees b H K s (Some v) → SessionAgrees b H (acknowledged K n upto) s (Some (acked_where (nat_eq n s) upto v))
 acknowledged_agrees b H K n s upto v rise u o l a = record {
   client = a.client;
   retired = a.retired;
   notes =
-      places.acknowledged K.sets n upto s rise
+      places.acknowledged K.sets.noted n upto s rise
       ∙ ap (λ (ks : List ℕ). cond (nat_eq n s) (filter (nat_le upto) ks) ks) (a.notes ∙ ap (λ (t : Bool). cond t (news_places v) []) l)
       ∙ news_acknowledged (nat_eq n s) upto v
       ∙ sym (ap (λ (t : Bool). cond t (news_places (acked_where (nat_eq n s) upto v)) []) l);
@@ -279,7 +278,7 @@ acknowledged_agrees b H K n s upto v rise u o l a = record {
 pub acknowledged_away : (K : Kept) (n s upto : ℕ) → AreInOrder K → IsAway K s → IsAway (acknowledged K n upto) s
 acknowledged_away K n s upto o a = record {
   client = a.client;
-  notes = places.none_acknowledged K.sets n upto s a.notes;
+  notes = places.none_acknowledged K.sets.noted n upto s a.notes;
   pages = a.pages;
   invalid = λ x. ordering.acknowledged K.sets n upto s x o.sets ∙ ap (λ (p : Option ℕ). cond (nat_eq n s) (option_and_then (unless_below upto) p) p) (a.invalid x) ∙ by (nat_eq n s);
   waits = a.waits;
@@ -293,7 +292,7 @@ pub acknowledged_aside : (K : Kept) (n s upto : ℕ) → AreInOrder K → nat_eq
 acknowledged_aside K n s upto o e = record {
   client = refl;
   retired = refl;
-  notes = places.others_acknowledged K.sets n upto s e;
+  notes = places.others_acknowledged K.sets.noted n upto s e;
   pages = λ p. refl;
   invalid = λ x. ordering.acknowledged K.sets n upto s x o.sets ∙ ap (λ (t : Bool). cond t (option_and_then (unless_below upto) (place_in K.sets s x)) (place_in K.sets s x)) e;
   waits = refl;
@@ -311,17 +310,17 @@ live_session b H K s (Some v) a h = (v, refl, by (session_lives v) refl)
     by false e = let f : is_live K s ≡ false = ap (λ (p : Option ℕ). is_some p) a.client ∙ ap (λ (t : Bool). is_some (cond t (Some v.client) None)) e in cc
 
 sent_order : (K : Kept) (n page : ℕ) (m : Message) → AreInOrder K → AreInOrder (sent K n page m)
-sent_order K n page m o = record { clients = o.clients; retired = o.retired; waiting = pushed_order K.waiting n m o.waiting; sets = ordered_opened K.sets.invalid n o.sets }
+sent_order K n page m o = record { clients = o.clients; retired = o.retired; waiting = pushed_order K.waiting n m o.waiting; sets = ordered_opened K.sets.invalid n o.sets; noted = o.noted }
 
 pub fetched_agrees : (b : Base) (T : List Item) (K : Kept) (n page upto : ℕ) (bytes : List ℕ) → SessionsAgree b T K → is_live K n ≡ true → upto ≤ length (entries T)
     → SessionsAgree b (T ++ M (the.Fetched n page upto) ∷ []) (acknowledged (sent K n page (their.Page page bytes (length (entries T)))) n upto)
 fetched_agrees b T K n page upto bytes a live u = agree_behind b T i K (acknowledged L n upto) tt a (record {
   last = refl;
   live = a.live;
-  heard = λ s. places.still_heard K.sets n upto s (a.heard s);
+  heard = λ s. places.still_heard K.sets.noted n upto s (a.heard s);
   each = λ s. by s (nat_eq n s) refl;
   opened = λ s p g. kept_acknowledged L.sets n upto s (sent_opened K n page m a.opened s p g);
-  order = record { clients = order.clients; retired = order.retired; waiting = order.waiting; sets = ordered_from L.sets.invalid n upto order.sets };
+  order = record { clients = order.clients; retired = order.retired; waiting = order.waiting; sets = ordered_from L.sets.invalid n upto order.sets; noted = places.kept_order L.sets.noted n upto order.noted };
 })
   where
     i : Item
@@ -357,7 +356,7 @@ fetched_agrees b T K n page upto bytes a live u = agree_behind b T i K (acknowle
         let own' : SessionAgrees b H (acknowledged L n upto) s (Some (w (length H))) = subst (λ (t : Bool). SessionAgrees b H (acknowledged L n upto) s (Some (acked_where t upto v1))) e two in
         let quiet' : stages.is_silent b.silence (moved b s S v i) ≡ false =
         ap (λ (u : Session). stages.is_silent b.silence u) (fetched b s S v n page upto e l ∙ ap w (length-state b H))
-        ∙ heard_at b H (acknowledged L n upto) s (w (length H)) false a.silence own' l (places.still_heard K.sets n upto s (a.heard s)) in
+        ∙ heard_at b H (acknowledged L n upto) s (w (length H)) false a.silence own' l (places.still_heard K.sets.noted n upto s (a.heard s)) in
         let path : Some (acked_where (nat_eq n s) upto v1) ≡ meet b s S (session b T s) i =
         ap (λ (t : Bool). Some (acked_where t upto v1)) e
         ∙ ap (λ (k : ℕ). Some (record v { pages = cache v.pages page k; acked = max v.acked upto; sent = v.sent ++ Page page k ∷ [] })) (sym (length-state b H))
@@ -464,7 +463,7 @@ taken_agrees b T K n m a live f = agree_behind b T i K (taken K n) tt a (record 
   heard = a.heard;
   each = λ s. by s (nat_eq n s) refl;
   opened = a.opened;
-  order = record { clients = a.order.clients; retired = a.order.retired; waiting = taken_order K.waiting n a.order.waiting; sets = a.order.sets };
+  order = record { clients = a.order.clients; retired = a.order.retired; waiting = taken_order K.waiting n a.order.waiting; sets = a.order.sets; noted = a.order.noted };
 })
   where
     k : ℕ
@@ -506,7 +505,7 @@ none_taken b T K n a f = record {
   live = a.live;
   heard = a.heard;
   opened = a.opened;
-  order = record { clients = a.order.clients; retired = a.order.retired; waiting = taken_order K.waiting n a.order.waiting; sets = a.order.sets };
+  order = record { clients = a.order.clients; retired = a.order.retired; waiting = taken_order K.waiting n a.order.waiting; sets = a.order.sets; noted = a.order.noted };
 }
   where
     nothing : (t : Bool) (ms : List Message) → cond t [] [] ++ ms ≡ ms

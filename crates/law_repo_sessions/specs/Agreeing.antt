@@ -1,8 +1,7 @@
 -- That what a repository keeps of its sessions says what its trace says of them.
 use Rattle.cached_sets.specs.Meaning.{IsOrdered, has_page, place_in}
-use Rattle.cached_sets.specs.Noted.{is_silent, most_noted}
+use Rattle.cached_sets.specs.Noted.{is_silent, most_noted, places_of}
 use Rattle.log_entries.specs.declared.entry.Entry.{Entry}
-use Rattle.link_table.specs.Pairs.{rights}
 use Rattle.repo_sessions.specs.Sessions.{Kept}
 use Rattle.spec_history.specs.History.{Base}
 use Rattle.session_outbox.specs.Outbox as outbox
@@ -66,7 +65,7 @@ pub record IsWithin (v : Session) (n : ℕ) : Type 0 where
 pub record SessionAgrees (b : Base) (H : List Entry) (K : Kept) (s : ℕ) (o : Option Session) : Type 0 where
   pub client : get K.clients s ≡ client_of o
   pub retired : get K.retired s ≡ retired_client_of o
-  pub notes : rights K.sets.noted s ≡ unanswered_by o
+  pub notes : places_of K.sets.noted s ≡ unanswered_by o
   pub pages : (page : ℕ) → has_page K.sets s page ≡ has_cached o page
   pub invalid : (x : Oref) → place_in K.sets s x ≡ invalid_place b H s o x
   pub waits : map notice_of (outbox.waiting K.waiting s) ≡ waiting_for o
@@ -78,6 +77,7 @@ pub record AreInOrder (K : Kept) : Type 0 where
   pub retired : IsSorted K.retired
   pub waiting : IsSorted K.waiting
   pub sets : IsOrdered K.sets.invalid
+  pub noted : IsSorted K.sets.noted
 
 -- What is kept of the sessions says what the trace says of them, where each is given up whose client leaves more news
 -- unacknowledged than it may.

@@ -1,8 +1,8 @@
 -- How the names of written objects are gathered for the sessions that are told of them. No public clause cites
 -- this module.
-use Rattle.cached_sets.specs.Noted.{Noted, is_silent}
+use Rattle.cached_sets.specs.Noted.{Noted, is_silent, with_place}
 use Rattle.cached_sets.specs.Sets.{Sets}
-use Rattle.link_table.specs.Pairs.{is_linked, link}
+use Rattle.link_table.specs.Pairs.{is_linked}
 use Rattle.session_outbox.specs.Outbox.{Waiting, push}
 use Rattle.session_outbox.specs.declared.message.Message.TheVariants.{Invalid, Upgrade}
 use Rattle.std.specs.BTreeMap.{is_at}
@@ -66,12 +66,12 @@ upgrade_sent W es number text k = fold (λ V e. push V e.0 (Upgrade number text 
 
 -- with a place noted of each of some sessions
 abbrev pub noted_at : Noted → List ℕ → ℕ → Noted
-noted_at N ss k = fold (λ M s. link M s k) N ss
+noted_at N ss k = fold (λ M s. with_place M s k) N ss
 
 -- those of them that have more places than they may then
 abbrev pub silent_at : Noted → List ℕ → ℕ → List ℕ
 silent_at N [] k = []
-silent_at N (s ∷ ss) k = cond (is_silent (link N s k) s) (s ∷ silent_at (link N s k) ss k) (silent_at (link N s k) ss k)
+silent_at N (s ∷ ss) k = cond (is_silent (with_place N s k) s) (s ∷ silent_at (with_place N s k) ss k) (silent_at (with_place N s k) ss k)
 
 -- A place was noted of some sessions, and these are those of them that are silent then.
 pub record AreNoted (before after : Sets) (ss : List ℕ) (k : ℕ) (silent : List ℕ) : Type 0 where
