@@ -66,7 +66,7 @@ none_opened : (K : Kept) (s page : ℕ) → has_page (ended K).sets s page ≡ t
 none_opened K s page h = cc
 
 none_in_order : (K : Kept) → AreInOrder (ended K)
-none_in_order K = record { clients = no_key; retired = no_key; waiting = no_key; sets = none_ordered }
+none_in_order K = record { clients = no_key; retired = no_key; waiting = no_key; sets = none_ordered; noted = no_key }
 
 -- a Life ends all sessions
 pub all-ended : (b : Base) (T : List Item) (n : ℕ) (K : Kept) → NumbersAgree b T K.last → SessionsAgree b (T ++ E (Life n) ∷ []) (ended K)
