@@ -86,8 +86,7 @@ fn note_all<V>(
     sessions: &BTreeMap<u32, V>,
     place: u64,
 ) -> Result<Vec<u32>, NoMemory>
-    ensures order { IsStrictlySortedBy nat_cmp (keys_of sessions.now.entries) }
-    ensures noted { IfOk result (λ silent. AreNoted sets.old sets.new (keys_of sessions.now.entries) place silent.items) }
+    ensures { IfOk result (λ silent. AreNoted sets.old sets.new (keys_of sessions.now.entries) place silent.items) }
 {
     let mut silent = Vec::new(alloc);
     for session in sessions.keys() {
