@@ -1,6 +1,6 @@
 //! The places at which sessions were told what their clients haven't acknowledged.
 
-ghost use Rattle.cached_sets.specs.Noted.{is_silent, noted_from, places_of, with_place};
+ghost use Rattle.cached_sets.specs.Noted.{is_silent, noted_from, places_from, places_of, with_place};
 ghost use Rattle.std.specs.Prelude.{IfOk, OnErr, OnOk, length, ◌+◌, ◌≡◌};
 ghost use Rattle.thor_value.specs.FiniteMap.{empty, remove};
 
@@ -74,7 +74,7 @@ impl NotedPlaces {
     /// Takes the first places of a session away, as long as they are below one. Each counts a step.
     pub fn keep_from<L: Ledger>(&mut self, session: u32, upto: u64, steps: &mut StepCount<L>)
         ensures rest { self.new ≡ noted_from session upto self.old }
-        ensures cost { steps.new + length (places_of self.new session) ≡ steps.old + length (places_of self.old session) }
+        ensures cost { steps.new + length (places_from upto (places_of self.old session)) ≡ steps.old + length (places_of self.old session) }
     {
         if let Some(queue) = self.queues.get_mut(&session) {
             queue.keep_from(upto, steps);

@@ -74,7 +74,7 @@ impl PlaceQueue {
     /// alone is looked at.
     pub fn keep_from<L: Ledger>(&mut self, upto: u64, steps: &mut StepCount<L>)
         ensures rest { self.new ≡ places_from upto self.old }
-        ensures cost { steps.new + length self.new ≡ steps.old + length self.old }
+        ensures cost { steps.new + length (places_from upto self.old) ≡ steps.old + length self.old }
     {
         while self.begins_below(upto) {
             steps.tick();

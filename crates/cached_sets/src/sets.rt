@@ -1,7 +1,7 @@
 //! The calls of a repository on the sets of its sessions.
 
 ghost use Rattle.cached_sets.specs.Cost.{stale_steps, touch_steps};
-ghost use Rattle.cached_sets.specs.Noted.{is_silent, places_of};
+ghost use Rattle.cached_sets.specs.Noted.{is_silent, places_from, places_of};
 ghost use Rattle.cached_sets.specs.Sets.{acknowledge, cache, drop_session, invalid_after, marked, no_sets, note, stale, touch, touches};
 ghost use Rattle.cached_sets.specs.Invalid.{Invalids, set_of};
 ghost use Rattle.cached_sets.specs.Undoing.{undo};
@@ -190,7 +190,7 @@ impl Sets {
         steps: &mut StepCount<L>,
     )
         ensures rest { self.new ≡ acknowledge self.old session upto }
-        ensures cost { steps.new + length (places_of self.new.noted session) ≡ steps.old + length (places_of self.old.noted session) }
+        ensures cost { steps.new + length (places_from upto (places_of self.old.noted session)) ≡ steps.old + length (places_of self.old.noted session) }
     {
         self.invalid.keep_from(session, upto);
         self.noted.keep_from(session, upto, steps);

@@ -136,11 +136,12 @@ impl Sessions {
         ensures numbers { KeepsNumbers self.old self.new }
         ensures ok { OnOk result (self.new ≡ retire self.old session) }
     {
-        if let Some(client) = self.clients.remove(&session) {
-            self.retired.insert(session, client)?;
-        }
         self.sets.drop_session(session);
         self.outbox.drop_session(session);
+        let Some(client) = self.clients.remove(&session) else {
+            return Ok(());
+        };
+        self.retired.insert(session, client)?;
         Ok(())
     }
 
