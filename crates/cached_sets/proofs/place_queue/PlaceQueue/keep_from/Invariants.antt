@@ -5,9 +5,9 @@ use Rattle.std.proofs.Common.{length, ◌+◌, ◌≡◌}
 -- the places so far lead to the same, and each that went counted
 abbrev pub invariant-loop : goal.invariant-loop
 invariant-loop g l = record {
-  rest : places_from l.upto l.self.places.items ≡ places_from l.upto l.initial.self.places.items;
-  cost : l.steps + length l.self.places.items ≡ l.initial.steps + length l.initial.self.places.items;
+  rest : places_from l.upto l.self ≡ places_from l.upto l.initial.self;
+  cost : l.steps + length l.self ≡ l.initial.steps + length l.initial.self;
 }
 
 abbrev pub decreases-loop : goal.decreases-loop
-decreases-loop g l = length l.self.places.items
+decreases-loop g l = length l.self
