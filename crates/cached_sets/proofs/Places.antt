@@ -3,7 +3,6 @@ use Rattle.cached_sets.proofs.Meaning.{same_test}
 use Rattle.cached_sets.specs.Invalid.{replace}
 use Rattle.cached_sets.specs.Meaning.{NeverFall}
 use Rattle.cached_sets.specs.Noted.{Noted, is_silent, kept_from, most_noted, noted_behind, noted_from, places_from, places_of, with_place}
-use Rattle.cached_sets.specs.Sets.{Sets, acknowledge, drop_session}
 use Rattle.std.proofs.Common.{Bool, List, [], ap, arith, cond, false, length, nat_eq, nat_le, refl, subst, sym, true, ◌+◌, ◌++◌, ◌∙◌, ◌∷◌, ◌≡◌, ◌≤◌, ℕ}
 use Rattle.std.proofs.lemmas.Bool.Decides.{nat_tests}
 use Rattle.std.proofs.lemmas.Bool.{eqb-true}

@@ -22,7 +22,7 @@ use Rattle.spec_trace.specs.Notices.{lives, notice_of}
 use Rattle.spec_trace.proofs.Sessions.{session-end}
 use Rattle.spec_trace.specs.Calls.{last_session}
 use Rattle.spec_trace.specs.Session as sessions
-use Rattle.spec_trace.specs.Session.{Ended, Live, Retired, Session, Stage, is_live, lives_on, meet, move, moved, rested, session, session_lives}
+use Rattle.spec_trace.specs.Session.{Ended, Live, Retired, Session, Stage, lives_on, meet, move, moved, rested, session, session_lives}
 use Rattle.spec_trace.specs.Trace.{E, Item, M, entries}
 use Rattle.spec_trace.specs.declared.mark.Mark.TheVariants as the
 use Rattle.std.proofs.Common.{Bool, List, [], ap, arith, cond, false, inl, inr, length, map, nat_eq, refl, subst, sym, true, ◌+◌, ◌++◌, ◌<◌, ◌∙◌, ◌∷◌, ◌≡◌, ℕ}

@@ -20,7 +20,7 @@ use Rattle.session_outbox.specs.declared.message.Message.TheVariants as their
 use Rattle.session_outbox.specs.declared.message.Message.{Message}
 use Rattle.law_repo_sessions.proofs.Invalidated.{last_other-end, live_place, place_where, written_place}
 use Rattle.law_repo_sessions.proofs.GivenUp.{IsGivenUp, all_given, all_last, all_live, all_order}
-use Rattle.law_repo_sessions.proofs.Marked.{IsAway, IsSame, acknowledged_agrees, acknowledged_away, agree_behind, away_agrees, drop_more, is_away, same_agrees}
+use Rattle.law_repo_sessions.proofs.Marked.{IsAway, acknowledged_agrees, acknowledged_away, agree_behind, away_agrees, drop_more, is_away, same_agrees}
 use Rattle.law_repo_sessions.proofs.News.{heard_at, news_more, news_rise, same_places}
 use Rattle.law_repo_sessions.proofs.Seen.{kept_acknowledged, kept_marked, place_touched}
 use Rattle.law_repo_sessions.proofs.Traced.{behind_entry, came, moves, none_lives, rests, retires}
@@ -30,7 +30,7 @@ use Rattle.spec_trace.specs.Notices.{lives, notice_of}
 use Rattle.law_repo_sessions.specs.Coming.{CommitsTold, HasCome, IsTellable, acknowledged_by}
 use Rattle.spec_trace.proofs.Kept.{writers-end}
 use Rattle.spec_trace.proofs.Taken.{keeps-pages}
-use Rattle.spec_trace.specs.Session.{Ended, Live, Notice, Retired, Session, Stage, acked_by, invalid_in, is_live as is_live_stage, last_other, meet, move, moved, place_of, push, request_in, rested, retired, session, session_lives, told, told_of}
+use Rattle.spec_trace.specs.Session.{Ended, Live, Notice, Retired, Session, Stage, acked_by, invalid_in, is_live as is_live_stage, last_other, meet, move, moved, place_of, push, request_in, retired, session, session_lives, told, told_of}
 use Rattle.spec_trace.specs.Session as notices
 use Rattle.spec_trace.specs.Trace.{E, Item, entries}
 use Rattle.std.proofs.Common.{Bool, List, [], ap, arith, cond, drop, false, inl, inr, length, map, nat_eq, refl, subst, sym, true, ◌+◌, ◌++◌, ◌∙◌, ◌∷◌, ◌≡◌, ◌≤◌, ℕ}
@@ -39,7 +39,7 @@ use Rattle.std.proofs.lemmas.Bool.{both_ways}
 use Rattle.std.proofs.lemmas.Cmp.{nat_eq_equiv}
 use Rattle.std.specs.List.{AllByRecursion, filter, fold, list_any}
 use Rattle.std.specs.Map.{keys_of}
-use Rattle.std.specs.Option.{IfSome, is_some, option_map, option_or, option_to_list}
+use Rattle.std.specs.Option.{IfSome, is_some, option_or, option_to_list}
 use Rattle.std.specs.Ordering.{nat_cmp}
 use Rattle.std.specs.Prelude.{None, Option, Some, nat_lt, not, ◌&&◌, ◌↔◌, ◌⊎◌}
 use Rattle.thor_value.specs.FiniteMap.{IsSorted, Map, empty, get, has, keys, overwrite}

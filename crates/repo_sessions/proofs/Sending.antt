@@ -6,7 +6,6 @@ use Rattle.session_outbox.specs.Outbox.{Waiting, push, pushed_to, waiting}
 use Rattle.session_outbox.specs.declared.message.Message.TheVariants.{Invalid, Upgrade}
 use Rattle.session_outbox.specs.declared.message.Message.{Message}
 use Rattle.std.proofs.Common.{Bool, List, [], ap, append_assoc, arith, cond, false, nat_eq, refl, subst, sym, true, ◌++◌, ◌∙◌, ◌∷◌, ◌≡◌, ℕ}
-use Rattle.std.proofs.lemmas.Bool.Decides.{nat_tests}
 use Rattle.std.proofs.lemmas.Bool.{eqb-true}
 use Rattle.std.proofs.lemmas.List.{append-nil}
 use Rattle.std.proofs.lemmas.Map.{keys-set_value}
@@ -16,7 +15,6 @@ use Rattle.std.specs.Cmp.{nat_cmp_total}
 use Rattle.std.specs.List.Sorted.{IsStrictlySortedBy}
 use Rattle.std.specs.List.{AllByRecursion}
 use Rattle.std.specs.Map.{keys_of, lookup}
-use Rattle.std.specs.Option.{is_some}
 use Rattle.std.specs.Ordering.{is_eq, nat_cmp}
 use Rattle.std.specs.Prelude.{None, Option, Some}
 use Rattle.std.specs.declared.cmp.Ordering.TheVariants.{Less}

@@ -4,7 +4,7 @@ use Rattle.cached_sets.specs.Sets as sets
 use Rattle.cached_sets.specs.Sets.{Sets}
 use Rattle.repo_sessions.proofs.Noted.{place_for, places_noted, places_order, silent_are}
 use Rattle.repo_sessions.proofs.Sending.{message_for, names_order, names_wait, upgrade_order, upgrade_waits}
-use Rattle.repo_sessions.specs.Noting.{AreNoted, IsGathered, if_any, named, names_of, names_sent, noted_at, upgrade_sent}
+use Rattle.repo_sessions.specs.Noting.{AreNoted, IsGathered, if_any, named, names_of, names_sent, upgrade_sent}
 use Rattle.repo_sessions.specs.Sessions.{IsTold, Kept, retire}
 use Rattle.repo_sessions.specs.Telling.{Retires, UpgradeTold, WritesTold, message_of, names_for}
 use Rattle.session_outbox.specs.Messages.{place_of}

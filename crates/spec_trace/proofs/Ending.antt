@@ -2,7 +2,7 @@
 use Rattle.log_entries.specs.declared.entry.Entry.TheVariants.{Decided, Finished, Life, One, Prepared, Upgraded}
 use Rattle.log_entries.specs.declared.entry.Entry.{Entry}
 use Rattle.spec_history.proofs.Listed.{get_before, get_end}
-use Rattle.spec_history.specs.History.{Base, State, state}
+use Rattle.spec_history.specs.History.{Base, state}
 use Rattle.spec_trace.proofs.Exactness.{by_items, came-end, numbered}
 use Rattle.spec_trace.proofs.Traces.{entries-append}
 use Rattle.spec_trace.specs.Calls.{last_session}
