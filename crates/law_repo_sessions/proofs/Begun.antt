@@ -313,10 +313,9 @@ module _ (b : Base) (T : List Item) (K : Kept) (c n : ℕ) (new : n ≡ K.last +
   other_agrees older e s h o =
       same_agrees b H K (with_older older) s (option_map (move b s S i) (session b T s)) (other_same older s h o) (by (session b T s) refl (a.each s))
     where
-      at : (v : Session) → session b T s ≡ Some v → SessionAgrees b H K s (Some v) → (t : Bool) → session_lives v ≡ t → SessionAgrees b H K s (Some (move b s S i v))
       -- one that isn't live stays retired where it was so, since it is another client's
       stays : (v : Session) → SessionAgrees b H K s (Some v) → (x : Stage) → v.stage ≡ x → retired_at v.stage v.client ≡ retired_at (rested v i).stage v.client
-      stays v g Live f = ap (λ (x : Stage). retired_at x v.client) f ∙ sym (by (lives_on v.client i) ∙ refl)
+      stays v g Live f = ap (λ (x : Stage). retired_at x v.client) f ∙ sym (by (lives_on v.client i))
         where
           by : (t : Bool) → retired_at (cond t v.stage Ended) v.client ≡ None
           by true = ap (λ (x : Stage). retired_at x v.client) f
@@ -335,6 +334,7 @@ module _ (b : Base) (T : List Item) (K : Kept) (c n : ℕ) (new : n ≡ K.last +
               let k : is_older older s ≡ true = is_the_older older e s (inr j) in
               cc
 
+      at : (v : Session) → session b T s ≡ Some v → SessionAgrees b H K s (Some v) → (t : Bool) → session_lives v ≡ t → SessionAgrees b H K s (Some (move b s S i v))
       at v is g false l =
           away_agrees b H K s (Some (move b s S i v)) (none_lives b s S i (Some v) l)
           (g.retired ∙ stays v g v.stage refl ∙ ap (λ (w : Session). retired_client_of (Some w)) (sym (rests b s S i v l)))
