@@ -2,8 +2,8 @@
 use Rattle.cached_sets.proofs.Meaning.{same_test}
 use Rattle.cached_sets.specs.Invalid.{replace}
 use Rattle.cached_sets.specs.Meaning.{NeverFall}
-use Rattle.cached_sets.specs.Noted.{Noted, is_silent, kept_from, most_noted, noted_behind, noted_from, places_from, places_of, with_place}
-use Rattle.std.proofs.Common.{Bool, List, [], ap, arith, cond, false, length, nat_eq, nat_le, refl, subst, sym, true, ◌+◌, ◌++◌, ◌∙◌, ◌∷◌, ◌≡◌, ◌≤◌, ℕ}
+use Rattle.cached_sets.specs.Noted.{Noted, begins_below, is_silent, kept_from, most_noted, noted_behind, noted_from, places_from, places_of, with_place}
+use Rattle.std.proofs.Common.{Bool, List, [], ap, arith, cond, drop, false, length, nat_eq, nat_le, refl, subst, sym, true, ◌+◌, ◌++◌, ◌∙◌, ◌∷◌, ◌≡◌, ◌≤◌, ℕ}
 use Rattle.std.proofs.lemmas.Bool.Decides.{nat_tests}
 use Rattle.std.proofs.lemmas.Bool.{eqb-true}
 use Rattle.std.proofs.lemmas.Cmp.{eq_by_cmp_equiv, nat_eq_equiv}
@@ -41,6 +41,20 @@ noted N n k s = by (get N n) refl (nat_eq n s) refl
     by (Some ks) f false e = rw (get_replaced N n s (ks ++ k ∷ []) ks f, e) (sym (append-nil (places_of N s)))
 
 -- ---- what is acknowledged
+
+-- nothing more goes
+pub from_stays : (upto : ℕ) (ks : List ℕ) → begins_below upto ks ≡ false → places_from upto ks ≡ ks
+from_stays upto [] h = refl
+from_stays upto (k ∷ ks) h = ap (λ (t : Bool). cond t (places_from upto ks) (k ∷ ks)) h
+
+-- the first one goes
+pub from_goes : (upto : ℕ) (ks : List ℕ) → begins_below upto ks ≡ true → places_from upto (drop 1 ks) ≡ places_from upto ks
+from_goes upto [] h = cc
+from_goes upto (k ∷ ks) h = sym (ap (λ (t : Bool). cond t (places_from upto ks) (k ∷ ks)) h)
+
+pub one_less : (upto : ℕ) (ks : List ℕ) → begins_below upto ks ≡ true → length ks ≡ length (drop 1 ks) + 1
+one_less upto [] h = cc
+one_less upto (k ∷ ks) h = omega arith
 
 kept : (n upto s : ℕ) (N : Noted) → places_of (noted_from n upto N) s ≡ cond (nat_eq n s) (places_from upto (places_of N s)) (places_of N s)
 kept n upto s N = by (get N n) refl (nat_eq n s) refl

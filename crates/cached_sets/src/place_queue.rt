@@ -72,6 +72,7 @@ impl PlaceQueue {
 
     /// Takes the first places away, as long as they are below one. Each counts a step, and of those that stay the first
     /// alone is looked at.
+    #[tactic(auto, using(crate::proofs::Places::from_stays, crate::proofs::Places::from_goes, crate::proofs::Places::one_less))]
     pub fn keep_from<L: Ledger>(&mut self, upto: u64, steps: &mut StepCount<L>)
         ensures rest { self.new ≡ places_from upto self.old }
         ensures cost { steps.new + length (places_from upto self.old) ≡ steps.old + length self.old }

@@ -86,3 +86,15 @@ silent_are N (n ∷ ns) k s h = by (nat_eq n s) refl (is_silent (with_place N n 
     by false e true f =
         ap (λ (t : Bool). t || list_any (nat_eq s) (silent_at (with_place N n k) ns k)) (nat_eq_equiv.symm s n ∙ e) ∙ silent_are (with_place N n k) ns k s (other N n k s e ∙ h)
     by false e false f = silent_are (with_place N n k) ns k s (other N n k s e ∙ h)
+
+-- ---- one session more
+
+-- one that has more than it may then
+pub one_silent : (xs : List ℕ) (N : Noted) (s : ℕ) (ss : List ℕ) (k : ℕ) → is_silent (with_place N s k) s ≡ true → (xs ++ s ∷ []) ++ silent_at (with_place N s k) ss k ≡ xs ++ silent_at N (s ∷ ss) k
+one_silent xs N s ss k h =
+    append_assoc xs (s ∷ []) (silent_at (with_place N s k) ss k)
+    ∙ ap (λ (t : Bool). xs ++ cond t (s ∷ silent_at (with_place N s k) ss k) (silent_at (with_place N s k) ss k)) (sym h)
+
+-- and one that hasn't
+pub one_heard : (xs : List ℕ) (N : Noted) (s : ℕ) (ss : List ℕ) (k : ℕ) → is_silent (with_place N s k) s ≡ false → xs ++ silent_at (with_place N s k) ss k ≡ xs ++ silent_at N (s ∷ ss) k
+one_heard xs N s ss k h = ap (λ (t : Bool). xs ++ cond t (s ∷ silent_at (with_place N s k) ss k) (silent_at (with_place N s k) ss k)) (sym h)
