@@ -78,11 +78,11 @@ all_above upto k (j ∷ js) l h = let e : k ≤ j = h.0 in (omega (arith, l, e),
 
 rising_from : (upto : ℕ) (ks : List ℕ) → NeverFall ks → places_from upto ks ≡ filter (nat_le upto) ks
 rising_from upto [] h = refl
-rising_from upto (k ∷ ks) h = by (nat_lt k upto) refl
+rising_from upto (k ∷ ks) h = by (nat_lt k upto) refl (rising_from upto ks h.1)
   where
-    by : (low : Bool) → nat_lt k upto ≡ low → cond low (places_from upto ks) (k ∷ ks) ≡ filter (nat_le upto) (k ∷ ks)
-    by true e = let f : nat_le upto k ≡ false = grind (arith, nat_tests) in rw f (rising_from upto ks h.1)
-    by false e = let l : upto ≤ k = grind (arith, nat_tests) in sym (none_below upto (k ∷ ks) (l, all_above upto k ks l h.0))
+    by : (low : Bool) → nat_lt k upto ≡ low → places_from upto ks ≡ filter (nat_le upto) ks → cond low (places_from upto ks) (k ∷ ks) ≡ filter (nat_le upto) (k ∷ ks)
+    by true e more = let f : nat_le upto k ≡ false = grind (arith, nat_tests) in rw f more
+    by false e more = let l : upto ≤ k = grind (arith, nat_tests) in sym (none_below upto (k ∷ ks) (l, all_above upto k ks l h.0))
 
 pub acknowledged : (N : Noted) (n upto s : ℕ) → NeverFall (places_of N n) → places_of (noted_from n upto N) s ≡ cond (nat_eq n s) (filter (nat_le upto) (places_of N s)) (places_of N s)
 acknowledged N n upto s h = kept n upto s N ∙ by (nat_eq n s) refl
