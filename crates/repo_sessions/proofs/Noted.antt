@@ -74,18 +74,18 @@ other N n k s e = ap (λ (ks : List ℕ). nat_lt most_noted (length ks)) (noted 
 
 pub silent_are : (N : Noted) (ss : List ℕ) (k s : ℕ) → is_silent N s ≡ false → list_any (nat_eq s) (silent_at N ss k) ≡ is_silent (noted_at N ss k) s
 silent_are N [] k s h = sym h
-silent_are N (n ∷ ns) k s h = by (nat_eq n s) refl (is_silent (with_place N n k) n) refl
+silent_are N (n ∷ ns) k s h = by (nat_eq n s) refl (is_silent (with_place N n k) n) refl (λ e. silent_are (with_place N n k) ns k s e)
   where
-
-    by : (own : Bool) → nat_eq n s ≡ own → (t : Bool) → is_silent (with_place N n k) n ≡ t → list_any (nat_eq s) (cond t (n ∷ silent_at (with_place N n k) ns k) (silent_at (with_place N n k) ns k)) ≡ is_silent (noted_at (with_place N n k) ns k) s
-    by true e true f =
+    by : (own : Bool) → nat_eq n s ≡ own → (t : Bool) → is_silent (with_place N n k) n ≡ t
+        → (is_silent (with_place N n k) s ≡ false → list_any (nat_eq s) (silent_at (with_place N n k) ns k) ≡ is_silent (noted_at (with_place N n k) ns k) s)
+        → list_any (nat_eq s) (cond t (n ∷ silent_at (with_place N n k) ns k) (silent_at (with_place N n k) ns k)) ≡ is_silent (noted_at (with_place N n k) ns k) s
+    by true e true f rest =
         let there : is_silent (with_place N n k) s ≡ true = ap (is_silent (with_place N n k)) (sym (eqb-true n s e)) ∙ f in
         ap (λ (t : Bool). t || list_any (nat_eq s) (silent_at (with_place N n k) ns k)) (nat_eq_equiv.symm s n ∙ e) ∙ sym (stays_silent (with_place N n k) ns k s there)
-    by true e false f =
-        silent_are (with_place N n k) ns k s (ap (is_silent (with_place N n k)) (sym (eqb-true n s e)) ∙ f)
-    by false e true f =
-        ap (λ (t : Bool). t || list_any (nat_eq s) (silent_at (with_place N n k) ns k)) (nat_eq_equiv.symm s n ∙ e) ∙ silent_are (with_place N n k) ns k s (other N n k s e ∙ h)
-    by false e false f = silent_are (with_place N n k) ns k s (other N n k s e ∙ h)
+    by true e false f rest = rest (ap (is_silent (with_place N n k)) (sym (eqb-true n s e)) ∙ f)
+    by false e true f rest =
+        ap (λ (t : Bool). t || list_any (nat_eq s) (silent_at (with_place N n k) ns k)) (nat_eq_equiv.symm s n ∙ e) ∙ rest (other N n k s e ∙ h)
+    by false e false f rest = rest (other N n k s e ∙ h)
 
 -- ---- one session more
 
