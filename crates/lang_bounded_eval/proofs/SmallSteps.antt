@@ -1,5 +1,5 @@
 -- A run of small steps comes to what is left at first, and ends.
-use Rattle.std.proofs.Common.{◌≡◌, ℕ, ◌+◌, ◌-◌, ◌*◌, ◌<◌, List, [], ◌∷◌, Result, Ok, Err, refl, ap, sym, ◌∙◌, subst, arith}
+use Rattle.std.proofs.Common.{◌≡◌, ℕ, ◌+◌, ◌-◌, ◌*◌, ◌<◌, ◌≤◌, List, [], ◌∷◌, Result, Ok, Err, refl, ap, sym, ◌∙◌, subst, arith}
 use Rattle.thor_value.specs.declared.values.Value.{Value}
 use Rattle.class_defs.specs.Run.{meaning}
 use Rattle.class_defs.specs.Steps.{World, Action, after, ◌>>=◌, pure}
@@ -56,6 +56,12 @@ ends w a b m n o count g fs r is = r.comes ∙ ap (λ (k : Left). rest_of w k n)
 pub stops : (w : World) (a b : Left) (m n o : Machine) (count : ℕ) (h : Halt) (fs : List Waiting) → Runs w a m count b n → Leaves (Err h) fs o w b n → Does {A = Flow} (Err h) o (rest_of w a m)
 stops w a b m n o count (Stopped t) fs r is = r.comes ∙ on w b n (Err t) o is
 stops w a b m n o count NoMemory fs r is = tt
+
+-- more than so many small steps there aren't
+pub spent : (w : World) (a b : Left) (m n o : Machine) (count : ℕ) (r : Result Flow Halt) → Runs w a m count b n → 700000 ≤ count → Does r o (rest_of w a m)
+spent w a b m n o count r runs over = let few = runs.few in absurd (omega (arith, few, over))
+
+pub ruleset running = (at_first, goes_on, ends, stops, spent)
 
 -- what a small step of a function gives
 pub takes : (r : Result Next Halt) (fs : List Waiting) (n : Machine) (w : World) (l : Left) (m : Machine) → IsOpen l.doing l.stack → Moves r fs n (move w l.doing l.stack m) → Leaves (moved_to r) fs n w l m

@@ -123,7 +123,7 @@ fn small<'a>(
 }
 
 /// Small steps to the end of what is left.
-#[tactic(auto, using(crate::proofs::SmallSteps::at_first))]
+#[tactic(auto, using(crate::proofs::SmallSteps::running))]
 fn run_out<'a>(world: &World<'a>, machine: &mut Machine, begun: Next<'a>) -> Result<Flow, Halt>
     ensures { Does result machine.new (rest_of (reading world.now) (left_of begun []) machine.old) }
 {
