@@ -13,9 +13,7 @@ use class_defs::{
     Block, Expr, ExprType, Flow, Locals, Machine, Receiver, Stmt, beginning, combined, number,
 };
 use lang_small_steps::Stack;
-use method_eval::{
-    Halt, World, assign_field, assign_local, declare, fault, holds, take_step,
-};
+use method_eval::{Halt, World, assign_field, assign_local, declare, fault, holds, take_step};
 use thor_value::{Fault, NoMemory, Value, Values};
 
 /// The value that was given.
