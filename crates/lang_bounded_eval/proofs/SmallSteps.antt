@@ -78,16 +78,16 @@ handed r fs gs old f g n m w h is = subst (λ (k : List Waiting). Leaves (moved_
 
 -- ---- an expression, and a statement
 
-abbrev valued : Result Flow Stop × Machine → Result Value Stop × Machine
-valued (Ok g, m) = (Ok (given g), m)
-valued (Err t, m) = (Err t, m)
+abbrev valued : Result Flow Stop → Machine → Result Value Stop × Machine
+valued (Ok g) m = (Ok (given g), m)
+valued (Err t) m = (Err t, m)
 
 -- what an expression gives is what small steps come to from it
 module _ (w : World) where
   abbrev giving_all : Result Value Stop → Machine → Result Flow Stop × Machine
   giving_all r p = after (after r p (λ v. pure (Returned v))).0 (after r p (λ v. pure (Returned v))).1 (resume w [])
 
-  back : (r : Result Value Stop) (p : Machine) → (r, p) ≡ valued (giving_all r p)
+  back : (r : Result Value Stop) (p : Machine) → (r, p) ≡ valued (giving_all r p).0 (giving_all r p).1
   back (Ok v) p = refl
   back (Err t) p = refl
 
@@ -99,14 +99,14 @@ module _ (w : World) (n : ℕ) (e : Expr) (m o : Machine) where
   abbrev whole : Left
   whole = record { doing = doing.Evaluate n e; stack = [] }
 
-  from : (x : Result Flow Stop × Machine) → rest_of w whole m ≡ x → (meaning w n).value_of e m ≡ valued x
-  from x h = back w ((meaning w n).value_of e m).0 ((meaning w n).value_of e m).1 ∙ ap valued h
+  from : (r : Result Flow Stop) → rest_of w whole m ≡ (r, o) → (meaning w n).value_of e m ≡ valued r o
+  from r h = back w ((meaning w n).value_of e m).0 ((meaning w n).value_of e m).1 ∙ ap (λ (q : Result Flow Stop × Machine). valued q.0 q.1) h
 
   pub value_ok : (g : Flow) → rest_of w whole m ≡ (Ok g, o) → (meaning w n).value_of e m ≡ (Ok (given g), o)
-  value_ok g h = from (Ok g, o) h
+  value_ok g h = from (Ok g) h
 
   pub value_stops : (h : Halt) → Does {A = Flow} (Err h) o (rest_of w whole m) → Does {A = Value} (Err h) o ((meaning w n).value_of e m)
-  value_stops (Stopped t) h = from (Err t, o) h
+  value_stops (Stopped t) h = from (Err t) h
   value_stops NoMemory h = tt
 
 pub statement_came : (w : World) (n : ℕ) (s : Stmt) (m o : Machine) (r : Result Flow Halt) → Does r o (rest_of w (record { doing = doing.Execute n s; stack = [] }) m) → Does r o ((meaning w n).execute s m)
