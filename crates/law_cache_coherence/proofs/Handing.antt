@@ -2,7 +2,7 @@
 use Rattle.law_cache_coherence.proofs.Lending.{Front, agrees_now, answered_front, fits_now, met_fits, none_aborted_now, none_more, one_more, own_now, sound_now, unmarked_front}
 use Rattle.law_cache_coherence.proofs.Staying.{when_live}
 use Rattle.law_cache_coherence.proofs.Working as works
-use Rattle.law_cache_coherence.specs.Fitting.{Agrees, Copies, FitsAt, Kept, NoneToFinish, SameCopies, WritesOnPages, with_writes}
+use Rattle.law_cache_coherence.specs.Fitting.{Agrees, Copies, FitsAt, Kept, NoneToFinish, SameCopies, with_writes}
 use Rattle.law_cache_coherence.specs.Seen.{IsSeenRight, LinkIn}
 use Rattle.client_state.specs.Links.{is_reply}
 use Rattle.client_state.specs.declared.link.Link.TheVariants.{Apart, Joined, Unsettled as unsettled}
@@ -23,6 +23,7 @@ use Rattle.spec_trace.specs.Notices.{lives}
 use Rattle.spec_trace.specs.Session.{session}
 use Rattle.spec_trace.specs.Trace.{E, Item, M, entries}
 use Rattle.spec_trace.specs.declared.mark.Mark.TheVariants as the
+use Rattle.spec_trace.specs.Exact.{WritesOnPages}
 use Rattle.std.proofs.Common.{Bool, List, false, refl, subst, sym, true, ◌∙◌, ◌≡◌, ℕ}
 use Rattle.std.specs.Prelude.{Err, None, Ok, Option, Result, Some}
 use Rattle.thor_value.specs.declared.names.Ts.{Ts}

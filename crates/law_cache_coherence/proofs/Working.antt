@@ -3,7 +3,7 @@ use Rattle.law_cache_coherence.proofs.Asking.{fits_begun, fits_fetched, fits_gra
 use Rattle.law_cache_coherence.proofs.Committing.{fits_committed, fits_finishing, fits_undecided, is_open_so, request_acks, some_at}
 use Rattle.law_cache_coherence.proofs.Growing.{grown_one}
 use Rattle.law_cache_coherence.proofs.Taking.{fits_taken}
-use Rattle.law_cache_coherence.specs.Fitting.{Agrees, Copies, FitsAt, HoldsNone, Kept, NoneToFinish, SameCopies, WritesOnPages, awaits_behind, behind_message, with_writes}
+use Rattle.law_cache_coherence.specs.Fitting.{Agrees, Copies, FitsAt, HoldsNone, Kept, NoneToFinish, SameCopies, awaits_behind, behind_message, with_writes}
 use Rattle.log_entries.specs.declared.entry.Entry.TheVariants.{Decided, Finished, One, Prepared, Upgraded}
 use Rattle.log_entries.specs.declared.entry.Entry.{Entry}
 use Rattle.log_entries.specs.declared.request.Request.{Request}
@@ -25,6 +25,7 @@ use Rattle.spec_trace.specs.Session.{acked_after, bound, place_of, session, sess
 use Rattle.spec_trace.specs.Trace.{E, Item, M, entries}
 use Rattle.spec_trace.specs.declared.mark.Mark.TheVariants as the
 use Rattle.spec_trace.specs.declared.mark.Mark.{Mark}
+use Rattle.spec_trace.specs.Exact.{WritesOnPages}
 use Rattle.std.proofs.Common.{Bool, List, [], ap, arith, cond, false, refl, subst, sym, true, ◌++◌, ◌∙◌, ◌∷◌, ◌≡◌, ◌≢◌, ◌≤◌, ℕ}
 use Rattle.std.proofs.lemmas.Bool.{eqb-true}
 use Rattle.std.specs.List.{slice_get}

@@ -23,7 +23,7 @@ keeping upto copies = record { session = 2; upto = upto; awaits = false; copies 
 
 -- Client 1 has prepared a transaction at its coordinator,
 abbrev pub prepared : List Item
-prepared = take 4 deciding
+prepared = take 6 deciding
 
 -- which is then restarted
 abbrev pub lost : List Item

@@ -6,7 +6,7 @@ use Rattle.law_cache_coherence.proofs.Learned.{fewer_fit}
 use Rattle.law_cache_coherence.proofs.Lending.{changes_here, exact_now, numbered_now, sound_now}
 use Rattle.law_cache_coherence.proofs.OwnVerdicts.{others_told, own_told}
 use Rattle.law_cache_coherence.proofs.Whole.{all_inside, ask_all, as_it_is, at_other, committed_inside, connect_all, draw_all, fetch_inside, finish_all, forget_all, grant_inside, message_inside, none_all, refused_all}
-use Rattle.law_cache_coherence.specs.Fitting.{Copies, HoldsNone, Kept, NoneToFinish, with_writes}
+use Rattle.law_cache_coherence.specs.Fitting.{Copies, HoldsNone, NoneToFinish, with_writes}
 use Rattle.law_cache_coherence.specs.Links.{Becomes, BringsContent}
 use Rattle.law_cache_coherence.specs.Seen.{LinkAt, LinkIn}
 use Rattle.law_cache_coherence.specs.Steps.{AllSeenRight, LinksFit}
@@ -350,9 +350,8 @@ module _ (old new : View) (before after : Held) (committed later : Ts → Bool) 
         commits_there made settled wrote elsewhere =
             let h : HasSession s.at (slice_get links s.at.repo) = has_session s.at (slice_get links s.at.repo) its in
             let up : s.request.upto ≡ h.upto = acknowledges s of h.upto h.waits (h.is ∙ ap (λ (n : ℕ). Some (Joined n h.upto h.waits)) (sym of.session)) in
-            let k : Kept = record { session = s.at.session; upto = h.upto; awaits = is_reply h.waits; copies = copies } in
             committed_inside old new s.at h.upto h.waits links copies later right h.is fit made elsewhere s.request place d up (λ inside. quiet d.called.same idle_all s.at.repo (Joined s.at.session h.upto h.waits) inside h.is) (subst (λ (o : Opened). s.at.repo < new.opened.repos → new.unsettled s.at.repo ≡ Calm → lives (session (o.base s.at.repo) (new.seen s.at.repo) s.at.session) ≡ true → NoneToFinish (o.base s.at.repo) (entries d.at) s.at.session later) d.called.same settled)
-            (λ fits tells. writes_on_pages base d.at s.request exact_behind sound_behind old.opened.client later k fits accepted.0 of.session held tells) (λ tells x here. wrote x (here ∙ number))
+            (λ fits tells. writes_on_pages base d.at s.request exact_behind sound_behind s.at.session of.session) (λ tells x here. wrote x (here ∙ number))
 
       -- elsewhere nothing is asked
       commits : (made : Copies) → SettledOwed new s.at.repo d.at s.at.session later → ((x : Oref) → x.repo ≡ s.at.repo → made x ≡ with_writes s.request copies x) → ((x : Oref) → x.repo ≢ s.at.repo → made x ≡ copies x) → LinksFit new later links made

@@ -1,21 +1,22 @@
 -- The example of growth by others: all that the law asks.
 use Rattle.log_entries.specs.declared.request.Request.{Request}
 use Rattle.spec_history.proofs.Decided.{decides_sound}
-use Rattle.spec_trace.specs.Current.{IsCurrent, OthersSince, RightAt}
+use Rattle.spec_trace.specs.Current.{IsCurrent, NoPageWaits, OthersSince, RightAt}
 use Rattle.spec_trace.specs.Exact.{exact}
 use Rattle.spec_trace.specs.ExactExamples.{copy_of_x, fetched, nothing_committed, since_fetched}
 use Rattle.spec_history.specs.Examples.{box, home, reading_x, setting_x, x}
 use Rattle.spec_trace.specs.Gaps.{AreCurrent, GrowsByOthers}
 use Rattle.spec_history.specs.History.{writers}
 use Rattle.spec_history.specs.Requests.{has_written, written}
-use Rattle.spec_trace.specs.Session.{session}
+use Rattle.spec_trace.specs.Session.{Page, begun, session}
 use Rattle.spec_trace.specs.Trace.{entries}
-use Rattle.std.proofs.Common.{rules, Bool, [], arith, cond, false, inl, refl, subst, sym, true, ℕ, ◌++◌, ◌≡◌, ◌≤◌, ◌∷◌}
+use Rattle.std.proofs.Common.{Bool, [], arith, cond, false, inl, refl, rules, subst, suc, sym, true, zero, ℕ, ◌++◌, ◌∷◌, ◌≡◌, ◌≤◌}
 use Rattle.std.proofs.lemmas.List.Elements.{All-cons, All-nil}
 use Rattle.std.proofs.lemmas.Map.Views.{tells_apart}
-use Rattle.std.specs.Option.{IsSomeAnd}
+use Rattle.std.specs.Option.{IsSomeAnd, option_or}
 use Rattle.std.specs.Ordering.{eq_by_cmp}
 use Rattle.std.specs.Prelude.{None, Some, nat_eq, ◌⊎◌}
+use Rattle.std.specs.List.{slice_get}
 use Rattle.thor_value.proofs.NameOrders.{oref_exact}
 use Rattle.thor_value.specs.FiniteMap.{get, has}
 use Rattle.thor_value.specs.Names.{oref_cmp}
@@ -23,7 +24,15 @@ use Rattle.thor_value.specs.declared.names.Oref.{Oref}
 use Rattle.thor_value.specs.declared.values.Obj.{Obj}
 
 abbrev Other : Oref → Obj → ℕ × Request → Type 0
-Other y o c = has_written c.1 y ≡ true → (nat_eq c.1.session 2 ≡ false) ⊎ (get (written c.1) y ≡ Some o)
+Other y o c = has_written c.1 y ≡ true → (nat_eq c.1.session 2 ≡ false) ⊎ ((get (written c.1) y ≡ Some o) × NoPageWaits (option_or (session home fetched 2) (begun 2 0)) y)
+
+-- the page was taken
+taken : (i k : ℕ) → 1 ≤ i → slice_get (Page 0 1 ∷ []) i ≡ Some (Page 0 k) → 1 ≤ k
+taken zero k l e = absurd (low l)
+  where
+    low : 1 ≤ 0 → ⊥
+    low h = omega arith
+taken (suc i) k l e = cc
 
 one_copy : (y : Oref) (o : Obj) → get copy_of_x y ≡ Some o → (y ≡ x) × (box 0 ≡ o)
 one_copy y o is = by (eq_by_cmp oref_cmp y x) refl is
@@ -39,7 +48,7 @@ none_since : OthersSince 2 1 (writers home (entries fetched) x)
 none_since = All-nil (λ c. 1 ≤ c.0 → nat_eq c.1.session 2 ≡ false)
 
 right : IsSomeAnd (session home fetched 2) (λ v. RightAt home (entries fetched) 2 v x (box 0) 1)
-right = record { unknown = omega arith; there = omega arith; cached = omega arith; value = refl; others = none_since }
+right = record { unknown = omega arith; there = omega arith; cached = omega arith; value = refl; others = none_since; before = taken }
 
 current : IsSomeAnd (session home fetched 2) (λ v. AreCurrent home fetched 2 v nothing_committed copy_of_x)
 current y o is =
@@ -54,7 +63,7 @@ grows = record {
   before = refl;
   live = refl;
   step = record { taken = omega arith; acked = omega arith };
-  others = ((λ e. cc), ((λ e. cc), tt));
+  others = ((λ e. cc), ((λ e. cc), ((λ e. cc), ((λ e. cc), tt))));
   none_aborted = λ t w is c. cc;
   own = λ y o is. All-cons (Other y o) (1, reading_x 1) ((2, setting_x 2 7) ∷ []) (λ w. inl refl) (All-cons (Other y o) (2, setting_x 2 7) [] (λ w. inl refl) (All-nil (Other y o)));
   current = current;

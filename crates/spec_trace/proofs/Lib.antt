@@ -3,6 +3,7 @@ pub mod Accepted
 pub mod Accepting
 pub mod Sessions
 pub mod Copies
+pub mod Before
 pub mod Kept
 pub mod Told
 pub mod Taken

@@ -11,7 +11,7 @@ use Rattle.spec_trace.proofs.Sessions.{session-end}
 use Rattle.spec_trace.proofs.Traces.{entries-append}
 use Rattle.spec_trace.proofs.Undecided.{current-grown, pages-grown}
 use Rattle.spec_trace.specs.Calls.{last_session}
-use Rattle.spec_trace.specs.Current.{InStep, NoneAborted, PassesItem, commits_in, is_taking}
+use Rattle.spec_trace.specs.Current.{InStep, NoPageWaits, NoneAborted, PassesItem, commits_in, is_taking}
 use Rattle.spec_trace.specs.Exact.{ItemIsExact, exact}
 use Rattle.spec_trace.specs.Gaps.{AreCurrent, ByOthers, GrowsByOthers, StaysOrEnds, client_in, commits_behind, maker}
 use Rattle.spec_history.specs.History.{Base, state}
@@ -21,6 +21,7 @@ use Rattle.spec_trace.specs.Session.{Session, acked_after, meet, move, session, 
 use Rattle.spec_history.specs.Sound.{sound}
 use Rattle.spec_trace.specs.Trace.{E, Item, M, entries}
 use Rattle.spec_trace.specs.declared.mark.Mark.TheVariants as the
+use Rattle.spec_trace.proofs.Before.{fetches, none-moved}
 use Rattle.std.proofs.Common.{Bool, List, [], ap, append_assoc, arith, cond, false, inl, inr, max, refl, subst, sym, true, ℕ, ◌++◌, ◌<◌, ◌≡◌, ◌≢◌, ◌≤◌, ◌∙◌, ◌∷◌}
 use Rattle.std.proofs.lemmas.Bool.{eqb-true}
 use Rattle.std.proofs.lemmas.List.Elements.{All-cons, All-head, All-nil, All-tail}
@@ -77,6 +78,18 @@ module _ (b : Base) where
     unacked (M (the.Drew n t)) other = refl
     unacked (M (the.Forgot t)) other = refl
     unacked (M (the.Refused n q r)) other = refl
+
+    -- it fetches no page for the session
+    unfetched : (i : Item) → maker b T i ≢ Some v.client → fetches s i ≡ false
+    unfetched (E e) other = refl
+    unfetched (M (the.Fetched n page upto)) other = apart T s n v h other
+    unfetched (M (the.Entry p)) other = refl
+    unfetched (M (the.Connected n c)) other = refl
+    unfetched (M (the.Granted n page)) other = refl
+    unfetched (M (the.Took n place)) other = refl
+    unfetched (M (the.Drew n t)) other = refl
+    unfetched (M (the.Forgot t)) other = refl
+    unfetched (M (the.Refused n q r)) other = refl
 
     -- behind an item that doesn't begin it anew the session is there
     goes-on : (i : Item) → is_taking s i ≡ false → session b (T ++ i ∷ []) s ≡ Some (move b s (state b (entries T)) i v)
@@ -185,8 +198,12 @@ module _ (b : Base) where
       current : AreCurrent b U s w committed copies
       current x o is =
           let c = g.current x o is in
-          let split = parts (λ c. has_written c.1 x ≡ true → (nat_eq c.1.session s ≡ false) ⊎ (get (written c.1) x ≡ Some o)) (commits_in b (entries T) i) (commits_behind b U more) (g.own x o is) in
+          let split = parts (λ c. has_written c.1 x ≡ true → (nat_eq c.1.session s ≡ false) ⊎ ((get (written c.1) x ≡ Some o) × NoPageWaits v x)) (commits_in b (entries T) i) (commits_behind b U more) (g.own x o is) in
           (current-grown b T i s v w committed x o passes g.step c.1 owed-here none-here split.0 c.0, pages-grown b T i s v w x.page passes c.1)
+
+      still_none : (x : Oref) (o : Obj) (c : ℕ × Request) → (nat_eq c.1.session s ≡ false) ⊎ ((get (written c.1) x ≡ Some o) × NoPageWaits v x) → (nat_eq c.1.session s ≡ false) ⊎ ((get (written c.1) x ≡ Some o) × NoPageWaits w x)
+      still_none x o c (inl other) = inl other
+      still_none x o c (inr same) = inr (same.0, none-moved b s (state b (entries T)) i v x still (unfetched T s v g.before i g.others.0) same.1)
 
       rest : session_lives w ≡ true → GrowsByOthers b U more s w committed copies
       rest live = record {
@@ -197,7 +214,7 @@ module _ (b : Base) where
         step = step;
         others = subst (λ c. ByOthers b c U more) (sym client) g.others.1;
         none_aborted = subst (λ (V : List Item). NoneAborted b (entries V) committed) (sym again) g.none_aborted;
-        own = λ x o is. (parts (λ c. has_written c.1 x ≡ true → (nat_eq c.1.session s ≡ false) ⊎ (get (written c.1) x ≡ Some o)) (commits_in b (entries T) i) (commits_behind b U more) (g.own x o is)).1;
+        own = λ x o is n c at wrote. still_none x o c ((parts (λ c. has_written c.1 x ≡ true → (nat_eq c.1.session s ≡ false) ⊎ ((get (written c.1) x ≡ Some o) × NoPageWaits v x)) (commits_in b (entries T) i) (commits_behind b U more) (g.own x o is)).1 n c at wrote);
         current = current;
       }
 

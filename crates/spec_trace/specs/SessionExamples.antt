@@ -12,11 +12,11 @@ use Rattle.std.specs.Prelude.{Bool, List, Option, Some, [], false, true, ℕ, �
 use Rattle.thor_value.specs.Names.{same_ts}
 use Rattle.thor_value.specs.declared.names.Ts.{Ts}
 
--- both clients connect, the second one fetches page 0 and takes it, and the first one writes x
+-- both clients connect, fetch page 0 and take it, the second one first, and the first one writes x
 abbrev pub written_since : List Item
 written_since =
     E (Life 1) ∷ M (the.Connected 1 1) ∷ M (the.Connected 2 2) ∷ M (the.Fetched 2 0 1) ∷ M (the.Took 2 1)
-    ∷ E (read_x 1) ∷ E (set_x 2 7) ∷ []
+    ∷ M (the.Fetched 1 0 1) ∷ M (the.Took 1 1) ∷ E (read_x 1) ∷ E (set_x 2 7) ∷ []
 
 -- the second client takes the invalidation
 abbrev pub invalid_taken : List Item

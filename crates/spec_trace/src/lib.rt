@@ -28,7 +28,8 @@ pub use item_laws::{
 pub use mark::Mark;
 pub use session_laws::{
     commits_are_told, copies_are_current, copies_stay_right, current_copies_stay,
-    messages_are_in_order, messages_keep_copies, own_writes_stay, pages_stay, sessions_grow,
+    messages_are_in_order, messages_keep_copies, own_writes_stay, pages_bring_what_was_read,
+    pages_stay, sessions_grow,
 };
 pub use told_examples::{
     own_write_examples, session_examples, session_life_examples, trace_example,
