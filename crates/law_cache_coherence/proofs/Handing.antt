@@ -16,7 +16,7 @@ use Rattle.spec_history.specs.Sound.{sound}
 use Rattle.session_outbox.specs.declared.answers.Asked as answer
 use Rattle.session_outbox.specs.declared.answers.Verdict.{Verdict}
 use Rattle.client_port.specs.Growing.{Called}
-use Rattle.client_port.specs.Views.{Calm, Came, Halted, MayCome, Unsettled, View}
+use Rattle.client_port.specs.Views.{Calm, Halted, MayCome, Unsettled, View}
 use Rattle.client_port.specs.Works.{Answered, AskWork, CommitWork, DecideWork, Decides, Does, FinishWork, ForgetWork, OutageWith, PrepareWork, RequestRefused, alone_entry, is_prepared_by}
 use Rattle.spec_trace.specs.Current.{NoneAborted}
 use Rattle.spec_trace.specs.Notices.{lives}
@@ -107,14 +107,12 @@ module _ (old new : View) (r : ℕ) (committed : Ts → Bool) (seen : IsSeenRigh
   any_fits : {X : Type 0} (result : Result X Refusal) (work : Type 0) (m : Unsettled) → met ≡ m → Answered r result m at (new.seen r) (new.unsettled r) work → (work → Agrees (old.opened.base r) (entries (new.seen r)) keeping.session committed → Fits Calm at keeping → Fits (new.unsettled r) (new.seen r) keeping) → Fits (new.unsettled r) (new.seen r) keeping
   any_fits result work Calm e a f = so keeping.copies (λ calm live. f a (agrees_now old new r committed called.same seen keeping.session calm live) (calm_here e calm live))
   any_fits result work (MayCome d) e a f = stays (MayCome d) e a.1 a.2
-  any_fits result work Came e a f = stays Came e a.1 a.2
   any_fits result work Halted e a f = stays Halted e a.1 a.2
 
   -- a call that is answered Ok has done its work
   ok_fits : {X : Type 0} (x : X) (work : Type 0) (left : Copies) (m : Unsettled) → met ≡ m → Answered {X = X} r (Ok x) m at (new.seen r) (new.unsettled r) work → (work → While (Fits Calm at keeping → Fits (new.unsettled r) (new.seen r) (record keeping { copies = left }))) → Fits (new.unsettled r) (new.seen r) (record keeping { copies = left })
   ok_fits x work left Calm e a f = so left (λ calm live. f a calm live (calm_here e calm live))
   ok_fits x work left (MayCome d) e a f = absurd a.0
-  ok_fits x work left Came e a f = absurd a.0
   ok_fits x work left Halted e a f = absurd a.0
 
 -- ---- calls of a session

@@ -79,7 +79,6 @@ module _ (b : Base) where
   not_taken s taken (M (the.Took n k)) h = ap (λ (t : Bool). cond t (taken + 1) taken) h
   not_taken s taken (M (the.Fetched n page upto)) h = refl
   not_taken s taken (M (the.Granted n page)) h = refl
-  not_taken s taken (M (the.Entry k)) h = refl
   not_taken s taken (M (the.Connected n d)) h = refl
   not_taken s taken (M (the.Drew n t)) h = refl
   not_taken s taken (M (the.Forgot t)) h = refl

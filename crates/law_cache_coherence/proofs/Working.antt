@@ -15,7 +15,7 @@ use Rattle.session_outbox.specs.declared.answers.Asked as answer
 use Rattle.session_outbox.specs.declared.answers.Verdict.{Verdict}
 use Rattle.session_outbox.specs.declared.answers.Welcome.{Welcome}
 use Rattle.session_outbox.specs.declared.message.Message.{Message}
-use Rattle.client_port.specs.Views.{Calm, Came, Halted, MayCome, Unsettled}
+use Rattle.client_port.specs.Views.{Calm, Halted, MayCome, Unsettled}
 use Rattle.client_port.specs.Works.{AskWork, CommitWork, ConnectWork, DecideWork, Decides, DrawWork, FetchWork, FinishWork, ForgetWork, GrantWork, IsAsMet, IsBehind, IsHalted, MayHaveLeft, OutageWith, PrepareWork, ReceiveWork, RefusedMarked, RefusedUnmarked, RequestRefused, is_prepared_by}
 use Rattle.spec_trace.specs.Notices.{lives, notice_of}
 use Rattle.spec_trace.proofs.Taken.{after-mark}
@@ -92,7 +92,6 @@ module _ (c : ℕ) (b : Base) (committed : Ts → Bool) where
         by : (x : Unsettled) → MayHaveLeft e valid x → FitsAt c b x at committed kept
         by Calm l = absurd l
         by (MayCome d) l = record { v = h.v; there = h.there; own = h.own; keeps = λ f g. cc }
-        by Came l = absurd l
         by Halted l = halted at kept h
 
     pub request_any : (s : ℕ) (e : Entry) (q : Request) (r : Refusal) → RequestRefused e b at s q r after u → FitsAt c b u after committed kept

@@ -43,7 +43,7 @@ use Rattle.session_outbox.specs.declared.message.Message.{Message}
 use Rattle.paused_eval.specs.Copies.{AreAmong}
 use Rattle.client_port.specs.Acting.{Committed as has_committed, Connected as has_connected}
 use Rattle.client_port.specs.Views as views
-use Rattle.client_port.specs.Views.{Calm, Came, Halted, MayCome, Opened, View}
+use Rattle.client_port.specs.Views.{Calm, Halted, MayCome, Opened, View}
 use Rattle.client_port.specs.Works.{Answered, AskWork, CommitWork, DecideWork, Does, IsOutage, ReceiveWork, RefusedUnmarked, alone_entry}
 use Rattle.spec_trace.proofs.Taken.{after-mark}
 use Rattle.spec_trace.specs.Exact.{exact}
@@ -137,7 +137,6 @@ module _ (repo : ℕ) (old left : Contents) where
 -- a repository out of order has settled nothing
 out_of_order : (r s : ℕ) (k : Refusal) (b : Base) (met : views.Unsettled) (at after : List Item) (u : views.Unsettled) → IsOutage k → Answered {X = Option Message} r (Err k) met at after u (RefusedUnmarked b at s k after u) → u ≡ Calm → ⊥
 out_of_order r s k b (MayCome e) at after u outage a calm = let f : MayCome e ≡ Calm = sym a.2 ∙ calm in cc
-out_of_order r s k b Came at after u outage a calm = let f : Came ≡ Calm = sym a.2 ∙ calm in cc
 out_of_order r s k b Halted at after u outage a calm = let f : Halted ≡ Calm = sym a.2 ∙ calm in cc
 out_of_order r s (refused.Reason z) b Calm at after u outage a calm = absurd outage
 out_of_order r s (refused.Down n) b Calm at after u outage a calm = let f : Halted ≡ Calm = sym a.1.1 ∙ calm in cc
@@ -268,7 +267,6 @@ module _ (old new : View) (before after : Held) (committed later : Ts → Bool) 
             → IsSomeAnd (session (new.opened.base at.repo) (new.seen at.repo) at.session) (λ v. waits_for v ≡ [])
         nothing T Calm a = subst (λ (o : Opened). IsSomeAnd (session (o.base at.repo) (new.seen at.repo) at.session) (λ v. waits_for v ≡ [])) (sym d.called.same) (subst (λ (S : List Item). IsSomeAnd (session (old.opened.base at.repo) S at.session) (λ v. waits_for v ≡ [])) (sym a.2.0) a.0)
         nothing T (MayCome e) a = absurd a.0
-        nothing T Came a = absurd a.0
         nothing T Halted a = absurd a.0
 
     -- there is a place behind that of news
@@ -286,7 +284,6 @@ module _ (old new : View) (before after : Held) (committed later : Ts → Bool) 
             let most : length (entries d.at) < 2 ^ 64 = subst (λ (H : List Entry). length H < 2 ^ 64) same short in
             omega arith
         by (MayCome e) w = absurd w.0
-        by Came w = absurd w.0
         by Halted w = absurd w.0
 
     stops : (at : At) (k : Refusal) → Does {X = Option Message} old new at.repo (Err k) (ReceiveWork at.session (Err k)) → IsOutage k → StopsWaiting at.repo before after → LinksFit new later links copies → LinksFit new later after.links.items copies
@@ -332,7 +329,6 @@ module _ (old new : View) (before after : Held) (committed later : Ts → Bool) 
               → verdict base d.at s.at.session s.request ≡ None × (new.seen s.at.repo ≡ d.at ++ E (alone_entry s.request) ∷ [])
           by Calm w = (w.0, w.2.0)
           by (MayCome e) w = absurd w.0
-          by Came w = absurd w.0
           by Halted w = absurd w.0
 
       -- where the repository is there

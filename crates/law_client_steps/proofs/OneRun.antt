@@ -38,7 +38,7 @@ use Rattle.session_outbox.specs.declared.message.Message.TheVariants as messages
 use Rattle.session_outbox.specs.declared.message.Message.{Message}
 use Rattle.paused_eval.specs.Copies.{AreAmong, last_of}
 use Rattle.client_port.specs.Growing.{Called, Grew}
-use Rattle.client_port.specs.Views.{Calm, Came, MayCome}
+use Rattle.client_port.specs.Views.{Calm, Halted, MayCome}
 use Rattle.client_port.specs.Works.{AskWork, CommitWork, ConnectWork, Does, DrawWork, GrantWork, ReceiveWork}
 use Rattle.spec_trace.proofs.Exactness.{exact-beginning}
 use Rattle.spec_trace.proofs.Traces.{entries-append}
@@ -305,13 +305,13 @@ module _ (first joined drawn waits taken last : Held) (h : HoldsOnTheWay first j
   told = AskedOwn 0 (at 1) verdict does (h.commits.client ∙ sym h.takes.client, h.commits.links ∙ sym h.takes.links, λ x. inl (h.commits.copies_are x ∙ sym (written_seen x)))
     where
       does : Does {X = answer.Asked} (seeing restarted) (seeing restarted) 0 (Ok (answers.Settled verdict)) (AskWork (at 1) (Ok (answers.Settled verdict)))
-      does = record { at = restarted; met = Calm; called = called restarted restarted; answer = ((refl, refl), (refl, refl)) }
+      does = record { at = restarted; met = Calm; called = called restarted restarted; answer = ((refl, λ later. refl), (refl, refl)) }
 
   comes : (n : ℕ) → n < 1 → Grew only 1 (cond (nat_eq n 0) (MayCome (One made)) Calm) (cond (nat_eq n 0) (take 5 whole) []) Calm (cond (nat_eq n 0) restarted [])
   comes n low = by (nat_eq n 0)
     where
       by : (t : Bool) → Grew only 1 (cond t (MayCome (One made)) Calm) (cond t (take 5 whole) []) Calm (cond t restarted [])
-      by true = record { gap = E (One made) ∷ E (Life 2) ∷ []; gains = (Came, (refl, refl), (Calm, refl, tt)); ends = refl }
+      by true = record { gap = E (One made) ∷ E (Life 2) ∷ []; gains = (Halted, inl (refl, refl), (Calm, refl, tt)); ends = refl }
       by false = still only []
 
   pub run_stopped : Leads (position_after 5 taken) (stopped taken ∷ behind_it taken asking ∷ []) (behind_it last NonePending)

@@ -2,4 +2,5 @@ pub mod Agreed
 pub mod Grown
 pub mod Judged
 pub mod Meeting
+pub mod Restarting
 pub mod Stopping

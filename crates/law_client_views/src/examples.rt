@@ -4,7 +4,7 @@ ghost use Rattle.log_entries.specs.declared.entry.Entry.TheVariants.{Decided};
 ghost use Rattle.spec_history.specs.Examples.{at, home, x};
 ghost use Rattle.session_outbox.specs.declared.answers.Asked.TheVariants as answers;
 ghost use Rattle.session_outbox.specs.declared.message.Message.TheVariants as messages;
-ghost use Rattle.client_port.specs.Views.{Calm, Came, Halted, MayCome};
+ghost use Rattle.client_port.specs.Views.{Calm, Halted, MayCome};
 ghost use Rattle.client_port.specs.Works.{Answered, AskWork, CommitWork, ConnectWork, DecideWork, FetchWork, ForgetWork, ReceiveWork};
 ghost use Rattle.base_reasons.specs.declared.reason.Reason.TheVariants as reasons;
 ghost use Rattle.spec_trace.specs.ExactExamples.{deciding, forgetting, refusing};
@@ -33,11 +33,11 @@ pub fn what_calls_do()
     ensures waits { Answered {X = Unit {0}} 0 (Err (refused.Down 0)) (MayCome (Decided (at 1) true)) deciding deciding (MayCome (Decided (at 1) true)) ⊥ }
 {}
 
-/// What they don't do: an outage leaves it open that more comes, a message that waits isn't found, a decision comes without its
-/// answer, and what is decided is told as undecided.
+/// What they don't do: an outage leaves it open that more comes, a message that waits isn't found, a decision stops and leaves
+/// nothing unsettled, and what is decided is told as undecided.
 pub fn what_calls_do_not()
     ensures calm { ¬ FetchWork 2 0 3 (Err (refused.Down 0)) home invalid_taken invalid_taken Calm }
     ensures unseen { ¬ ReceiveWork 2 (Ok None) home written_since written_since Calm }
-    ensures came { ¬ DecideWork 1 (at 1) true (Err (refused.Stopped 0)) home (take 6 deciding) (take 6 deciding) Came }
+    ensures still_calm { ¬ DecideWork 1 (at 1) true (Err (refused.Stopped 0)) home (take 6 deciding) (take 6 deciding) Calm }
     ensures undecided { ¬ AskWork (at 1) (Ok answers.Undecided) home deciding deciding Calm }
 {}

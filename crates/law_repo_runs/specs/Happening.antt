@@ -114,7 +114,6 @@ WasRefused b x s (Some q) r = (q.session ≡ s) × RequestRefused b x q r
 
 -- what the call of a mark has found, and what becomes of the sessions
 abbrev pub MayMark : Base → Repository → Mark → Kept → Type 0
-MayMark b x (the.Entry place) K = ⊥
 MayMark b x (the.Connected s client) K = (s ≡ x.memory.sessions.last + 1) × (s < 2 ^ 32) × (K ≡ begun x.memory.sessions client s)
 MayMark b x (the.Fetched s page upto) K =
     (is_live x.memory.sessions s ≡ true)

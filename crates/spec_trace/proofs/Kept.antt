@@ -63,7 +63,6 @@ pub pages-extend : (s : ℕ) (S : State) (pages : Map nat_cmp ℕ) (i : Item) �
 pages-extend s S pages (E e) p c is = is
 pages-extend s S pages (M (the.Fetched n page upto)) p c is = cached-extends (nat_eq n s) pages page S.length p c is
 pages-extend s S pages (M (the.Granted n page)) p c is = cached-extends (nat_eq n s) pages page S.length p c is
-pages-extend s S pages (M (the.Entry k)) p c is = is
 pages-extend s S pages (M (the.Connected n d)) p c is = is
 pages-extend s S pages (M (the.Took n k)) p c is = is
 pages-extend s S pages (M (the.Drew n t)) p c is = is
@@ -121,7 +120,6 @@ meet-moves b s S v (M (the.Connected n c)) h = ap (λ (t : Bool). cond t (Some (
 meet-moves b s S v (M (the.Took n k)) h = refl
 meet-moves b s S v (M (the.Fetched n page upto)) h = refl
 meet-moves b s S v (M (the.Granted n page)) h = refl
-meet-moves b s S v (M (the.Entry k)) h = refl
 meet-moves b s S v (M (the.Drew n t)) h = refl
 meet-moves b s S v (M (the.Forgot t)) h = refl
 meet-moves b s S v (M (the.Refused n q r)) h = refl

@@ -52,7 +52,6 @@ module _ (b : Base) where
         by false e = e
         by true e = let low = known b T s v h in let same = eqb-true n s e in let up : last_session T < n = k.0 in absurd (omega arith)
     quiet (E e) other k = refl
-    quiet (M (the.Entry p)) other k = refl
     quiet (M (the.Fetched n page upto)) other k = refl
     quiet (M (the.Granted n page)) other k = refl
     quiet (M (the.Drew n t)) other k = refl
@@ -71,7 +70,6 @@ module _ (b : Base) where
     unacked (E (Finished t c)) other = refl
     unacked (E (Upgraded q)) other = by-other q.session (max v.acked q.upto) other
     unacked (M (the.Fetched n page upto)) other = by-other n (max v.acked upto) other
-    unacked (M (the.Entry p)) other = refl
     unacked (M (the.Connected n c)) other = refl
     unacked (M (the.Granted n page)) other = refl
     unacked (M (the.Took n place)) other = refl
@@ -83,7 +81,6 @@ module _ (b : Base) where
     unfetched : (i : Item) → maker b T i ≢ Some v.client → fetches s i ≡ false
     unfetched (E e) other = refl
     unfetched (M (the.Fetched n page upto)) other = apart T s n v h other
-    unfetched (M (the.Entry p)) other = refl
     unfetched (M (the.Connected n c)) other = refl
     unfetched (M (the.Granted n page)) other = refl
     unfetched (M (the.Took n place)) other = refl
@@ -106,7 +103,6 @@ module _ (b : Base) where
       by true e = let low = known b T s v h in let same = eqb-true n s e in let up : last_session T < n = k.0 in absurd (omega arith)
   unbegun T s v (E e) h k = goes-on T s v h (E e) refl
   unbegun T s v (M (the.Took n place)) h k = session-end b T (M (the.Took n place)) s ∙ ap (λ (u : Option Session). meet b s (state b (entries T)) u (M (the.Took n place))) h
-  unbegun T s v (M (the.Entry p)) h k = goes-on T s v h (M (the.Entry p)) refl
   unbegun T s v (M (the.Fetched n page upto)) h k = goes-on T s v h (M (the.Fetched n page upto)) refl
   unbegun T s v (M (the.Granted n page)) h k = goes-on T s v h (M (the.Granted n page)) refl
   unbegun T s v (M (the.Drew n t)) h k = goes-on T s v h (M (the.Drew n t)) refl

@@ -268,7 +268,6 @@ page-there b s S pages (M (the.Granted n q)) page at h is = absurd (by (nat_eq n
     by true e = cc
     by false e = cc
 page-there b s S pages (M (the.Took n k)) page at h is = cc
-page-there b s S pages (M (the.Entry k)) page at h is = cc
 page-there b s S pages (M (the.Connected n c)) page at h is = cc
 page-there b s S pages (M (the.Drew n t)) page at h is = cc
 page-there b s S pages (M (the.Forgot t)) page at h is = cc

@@ -92,8 +92,6 @@ RefusalIsExact b T s None r = CallIsRefused b T s r
 
 -- What a mark owes to the trace before it.
 abbrev pub MarkIsExact : Base → List Item → Mark → Type 0
--- (an entry is no mark of a trace)
-MarkIsExact b T (the.Entry place) = ⊥
 -- a session has a number above all before, and the repository was opened
 MarkIsExact b T (the.Connected s client) = (last_session T < s) × (s < 2 ^ 32) × (0 < length (entries T))
 MarkIsExact b T (the.Fetched s page upto) = IsLiveAnd b T s (λ v. upto ≤ length (entries T))

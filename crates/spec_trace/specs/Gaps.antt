@@ -28,7 +28,6 @@ maker b T (E (Prepared q)) = client_in b T q.session
 maker b T (E (Decided t c)) = option_and_then (λ o. client_in b T o.request.session) (known_by b (entries T) t)
 maker b T (E (Finished t c)) = None
 maker b T (E (Upgraded q)) = client_in b T q.session
-maker b T (M (the.Entry place)) = None
 maker b T (M (the.Connected s client)) = Some client
 maker b T (M (the.Fetched s page upto)) = client_in b T s
 maker b T (M (the.Granted s page)) = client_in b T s

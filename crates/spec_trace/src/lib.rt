@@ -12,6 +12,7 @@ mod item_laws;
 mod mark;
 mod session_laws;
 mod told_examples;
+mod trace_item;
 mod trace_laws;
 
 pub use acceptance_laws::{accepted_requests_are_current, verdicts_are_sound};
@@ -34,4 +35,5 @@ pub use session_laws::{
 pub use told_examples::{
     own_write_examples, session_examples, session_life_examples, trace_example,
 };
+pub use trace_item::TraceItem;
 pub use trace_laws::traces_grow;
