@@ -31,7 +31,7 @@ pub record Repository : Type 0 where
 abbrev pub IsInAgreement : Base → Repository → Type 0
 IsInAgreement b x = Agrees b x.trace x.held x.memory
 
--- a request comes: it is accepted, and its sender vouches for it
+-- a request comes: it is accepted, and owes nothing by itself
 pub record RequestComes (b : Base) (x : Repository) (q : Request) : Type 0 where
   pub session : ℕ
   pub sessions : SessionsAnswer b (trace_of x.trace) x.memory.sessions

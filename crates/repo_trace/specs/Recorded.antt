@@ -1,15 +1,15 @@
 -- What a repository records of what happens at it.
 use Rattle.log_entries.specs.declared.entry.Entry.{Entry}
 use Rattle.spec_trace.specs.declared.mark.Mark.{Mark}
-use Rattle.spec_trace.specs.declared.trace_item.TraceItem.TheVariants as kept
-use Rattle.spec_trace.specs.declared.trace_item.TraceItem.{TraceItem}
+use Rattle.spec_trace.specs.declared.kept_item.KeptItem.TheVariants as kept
+use Rattle.spec_trace.specs.declared.kept_item.KeptItem.{KeptItem}
 use Rattle.std.specs.Prelude.{List, [], length, ◌++◌, ◌∷◌}
 
 pub record Recorded : Type 0 where
   -- the entries of its history
   pub history : List Entry
   -- the items of its trace
-  pub marks : List TraceItem
+  pub marks : List KeptItem
 
 -- nothing has happened
 abbrev pub nothing : Recorded

@@ -5,7 +5,7 @@ use log_entries::Entry;
 use repo_refusals::Refusal;
 use schedule::EventKind;
 use serial_model::Cause;
-use spec_trace::{Mark, TraceItem};
+use spec_trace::{KeptItem, Mark};
 
 /// How many kinds of events there are, turns behind the last event included.
 pub const EVENTS: usize = 8;
@@ -227,13 +227,13 @@ pub(crate) fn deed_of_cause(cause: Cause) -> Deed {
 }
 
 /// What an item of a trace is, by the entries of its history.
-pub fn deed_of_item(item: &TraceItem, history: &[Entry]) -> Deed {
+pub fn deed_of_item(item: &KeptItem, history: &[Entry]) -> Deed {
     match item {
-        TraceItem::Entry { place } => match history.get(*place as usize) {
+        KeptItem::Entry { place } => match history.get(*place as usize) {
             Some(entry) => deed_of_entry(entry),
             None => Deed::Nothing,
         },
-        TraceItem::Mark { mark } => deed_of_mark(mark),
+        KeptItem::Mark { mark } => deed_of_mark(mark),
     }
 }
 

@@ -6,8 +6,8 @@ use Rattle.spec_history.specs.History.{Base}
 use Rattle.spec_trace.specs.Session.{Notice, Stage, invalid, session, upto_of, waiting}
 use Rattle.spec_trace.specs.Trace.{E, Item, M, entries}
 use Rattle.spec_trace.specs.declared.mark.Mark.TheVariants as the
-use Rattle.spec_trace.specs.declared.trace_item.TraceItem.TheVariants as kept
-use Rattle.spec_trace.specs.declared.trace_item.TraceItem.{TraceItem}
+use Rattle.spec_trace.specs.declared.kept_item.KeptItem.TheVariants as kept
+use Rattle.spec_trace.specs.declared.kept_item.KeptItem.{KeptItem}
 use Rattle.std.specs.Option.{option_and_then, option_map}
 use Rattle.std.specs.Prelude.{Bool, List, Option, Some, [], false, true, ℕ, ◌++◌, ◌∷◌}
 use Rattle.thor_value.specs.Names.{same_ts}
@@ -71,7 +71,7 @@ own_aborted = own_prepared ++ E (Finished (at 1) false) ∷ []
 
 -- ---- the marks beside a history
 
-abbrev pub kept_marks : List TraceItem
+abbrev pub kept_marks : List KeptItem
 kept_marks =
     kept.Entry 0 ∷ kept.Mark (the.Connected 1 1) ∷ kept.Mark (the.Fetched 1 0 1) ∷ kept.Entry 1 ∷ kept.Mark (the.Took 1 1)
     ∷ kept.Entry 2 ∷ kept.Entry 3 ∷ []

@@ -2,8 +2,8 @@
 -- keeps.
 use Rattle.log_entries.specs.declared.entry.Entry.{Entry}
 use Rattle.spec_trace.specs.declared.mark.Mark.{Mark}
-use Rattle.spec_trace.specs.declared.trace_item.TraceItem.TheVariants as kept
-use Rattle.spec_trace.specs.declared.trace_item.TraceItem.{TraceItem}
+use Rattle.spec_trace.specs.declared.kept_item.KeptItem.TheVariants as kept
+use Rattle.spec_trace.specs.declared.kept_item.KeptItem.{KeptItem}
 use Rattle.std.specs.List.{range_with_len, slice_get}
 use Rattle.std.specs.Prelude.{List, [], ◌∷◌, ◌++◌, Option, Some, None, length, ℕ, ◌≡◌}
 
@@ -17,12 +17,12 @@ item_at None = []
 item_at (Some e) = E e ∷ []
 
 -- the item that a kept one stands for, where H is the history beside it
-abbrev pub item_of : List Entry → TraceItem → List Item
+abbrev pub item_of : List Entry → KeptItem → List Item
 item_of H (kept.Entry place) = item_at (slice_get H place)
 item_of H (kept.Mark m) = M m ∷ []
 
 -- The trace that a history and the kept items beside it stand for. No other definition looks at the pair
-abbrev pub items : List Entry → List TraceItem → List Item
+abbrev pub items : List Entry → List KeptItem → List Item
 items H [] = []
 items H (k ∷ ks) = item_of H k ++ items H ks
 
@@ -36,11 +36,11 @@ entries [] = []
 entries (i ∷ is) = entry_of i ++ entries is
 
 -- the places that the kept items name, in order
-abbrev pub places : List TraceItem → List ℕ
+abbrev pub places : List KeptItem → List ℕ
 places [] = []
 places (kept.Entry place ∷ ks) = place ∷ places ks
 places (kept.Mark m ∷ ks) = places ks
 
 -- the kept items name each place of H once, in order
-abbrev pub IsTrace : List Entry → List TraceItem → Type 0
+abbrev pub IsTrace : List Entry → List KeptItem → Type 0
 IsTrace H ks = places ks ≡ range_with_len 0 (length H)

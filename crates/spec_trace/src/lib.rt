@@ -9,10 +9,10 @@ mod epoch_laws;
 mod gap_laws;
 mod item_examples;
 mod item_laws;
+mod kept_item;
 mod mark;
 mod session_laws;
 mod told_examples;
-mod trace_item;
 mod trace_laws;
 
 pub use acceptance_laws::{accepted_requests_are_current, verdicts_are_sound};
@@ -26,6 +26,7 @@ pub use item_laws::{
     accepted_requests_continue, answers_agree, exact_traces_grow, next_numbers_rise,
     pages_are_granted, sessions_are_numbered, stamps_are_drawn_once,
 };
+pub use kept_item::KeptItem;
 pub use mark::Mark;
 pub use session_laws::{
     commits_are_told, copies_are_current, copies_stay_right, current_copies_stay,
@@ -35,5 +36,4 @@ pub use session_laws::{
 pub use told_examples::{
     own_write_examples, session_examples, session_life_examples, trace_example,
 };
-pub use trace_item::TraceItem;
 pub use trace_laws::traces_grow;

@@ -4,7 +4,7 @@ use crate::mark::Mark;
 
 /// One item of a trace as it is kept beside a history: an entry of that history, by its place, or a mark.
 #[derive(Debug, Drop)]
-pub enum TraceItem {
+pub enum KeptItem {
     /// The next entry of the history.
     Entry {
         /// Its place, from 0.
