@@ -1,6 +1,6 @@
 -- The examples of what fits.
 use Rattle.law_cache_coherence.proofs.Committing.{some_at}
-use Rattle.law_cache_coherence.specs.Examples.{copy_of_x, keeping, no_copy}
+use Rattle.law_cache_coherence.specs.Examples.{awaiting, copy_of_x, keeping, newer_of_x, no_copy, page_waits}
 use Rattle.law_cache_coherence.specs.Fitting.{Copies, FitsAt, KeepsUp, StaysRight}
 use Rattle.spec_history.specs.Examples.{box, home, setting_x, x}
 use Rattle.spec_history.specs.History.{objects_at, writers}
@@ -190,4 +190,34 @@ stale h = by ((k.copies refl).current x (box 0) refl refl).0
     by (inl r) =
         let m : r.0 ≡ 3 = only r.0 (subst (λ (n : ℕ). n ≤ r.0) u r.1.unknown) r.1.there in
         not_written (ap (λ (n : ℕ). get (objects_at home (entries invalid_taken) n) x) (sym m) ∙ r.1.value)
+    by (inr y) = unsettled y.2.settled
+
+pub newer : ¬ FitsAt 2 home Calm page_waits nothing_committed (awaiting newer_of_x)
+newer h = by ((k.copies refl).current x (box 7) refl refl).0
+  where
+    of_session : (P : Session → Type 0) → IsSomeAnd (session home page_waits 2) P → P h.v
+    of_session P p = some_at P (session home page_waits 2) h.v h.there p
+
+    k : KeepsUp home page_waits nothing_committed h.v (awaiting newer_of_x)
+    k = h.keeps refl (of_session (λ v. session_lives v ≡ true) refl)
+
+    u : upto_of h.v ≡ 1
+    u = of_session (λ v. upto_of v ≡ 1) refl
+
+    first : slice_get h.v.sent 0 ≡ Some (Page 0 1)
+    first = of_session (λ v. slice_get v.sent 0 ≡ Some (Page 0 1)) refl
+
+    none : h.v.taken ≡ 0
+    none = of_session (λ v. v.taken ≡ 0) refl
+
+    low : (n : ℕ) → n ≡ 0 → n ≤ 0
+    low n e = omega arith
+
+    only : (m : ℕ) → 1 ≤ m → m ≤ 1 → m ≡ 1
+    only m l g = omega arith
+
+    by : IsCurrent home (entries page_waits) 2 h.v nothing_committed x (box 7) → ⊥
+    by (inl r) =
+        let m : r.0 ≡ 1 = only r.0 (subst (λ (n : ℕ). n ≤ r.0) u r.1.unknown) (r.1.before 0 1 (low h.v.taken none) first) in
+        not_written (sym (ap (λ (n : ℕ). get (objects_at home (entries page_waits) n) x) (sym m) ∙ r.1.value))
     by (inr y) = unsettled y.2.settled
