@@ -117,8 +117,11 @@ abbrev pub create_z : ℕ → Entry
 create_z n = One (creating_z n)
 
 -- t is prepared with the other repository: it reads x and writes k there
+abbrev pub preparing_x : ℕ → ℕ → Request
+preparing_x n k = request (at n) App 0 (x ∷ []) ((x, box k) ∷ []) [] (1 ∷ [])
+
 abbrev pub prepare_x : ℕ → ℕ → Entry
-prepare_x n k = Prepared (request (at n) App 0 (x ∷ []) ((x, box k) ∷ []) [] (1 ∷ []))
+prepare_x n k = Prepared (preparing_x n k)
 
 -- the part of t at repository 1, where repository 0 coordinates it: it reads the object there and writes k
 abbrev pub setting_far : ℕ → ℕ → Request

@@ -10,6 +10,7 @@ use Rattle.spec_history.specs.History.{writers}
 use Rattle.spec_history.specs.Requests.{has_written, written}
 use Rattle.spec_trace.specs.Session.{Page, begun, session}
 use Rattle.spec_trace.specs.Trace.{entries}
+use Rattle.spec_trace.proofs.ExactTraces.{exact_since}
 use Rattle.std.proofs.Common.{Bool, [], arith, cond, false, inl, refl, rules, subst, suc, sym, true, zero, ℕ, ◌++◌, ◌∷◌, ◌≡◌, ◌≤◌}
 use Rattle.std.proofs.lemmas.List.Elements.{All-cons, All-nil}
 use Rattle.std.proofs.lemmas.Map.Views.{tells_apart}
@@ -42,7 +43,7 @@ one_copy y o is = by (eq_by_cmp oref_cmp y x) refl is
     by false k e = cc
 
 kept : exact home (fetched ++ since_fetched)
-kept = search rules
+kept = exact_since
 
 none_since : OthersSince 2 1 (writers home (entries fetched) x)
 none_since = All-nil (λ c. 1 ≤ c.0 → nat_eq c.1.session 2 ≡ false)

@@ -18,5 +18,7 @@ pub mod Fences
 pub mod EpochsTold
 pub mod Thresholds
 pub mod Above
+pub mod WrittenPages
+pub mod ExactTraces
 pub mod OwnExample
 pub mod GapExample
