@@ -69,7 +69,7 @@ module _ (b : Base) (T : List Item) (q : Request) (kept_so : exact b (T ++ E (al
 
   -- what it writes lies on pages of the session
   pub writes_on_pages : (s : ℕ) → q.session ≡ s → WritesOnPages b T s q
-  writes_on_pages s own = subst (λ (n : ℕ). WritesOnPages b T n q) own (from_alone b T q (exact-owed b T (E (alone_entry q)) kept_so)).paged
+  writes_on_pages s own = subst (λ (n : ℕ). WritesOnPages b T n q) own ((from_alone b T q (exact-owed b T (E (alone_entry q)) kept_so)).paged)
 
 -- ---- what a transform writes
 

@@ -33,6 +33,7 @@ use Rattle.thor_value.specs.FiniteMap.{Map, get}
 use Rattle.thor_value.specs.Names.{oref_cmp}
 use Rattle.thor_value.specs.declared.names.Ts.{Ts}
 use Rattle.thor_value.specs.declared.values.Obj.{Obj}
+use Rattle.thor_value.specs.declared.names.Oref.{Oref}
 
 module _ (b : Base) where
   -- what others made is no item of the session

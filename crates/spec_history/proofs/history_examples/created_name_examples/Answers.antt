@@ -1,17 +1,16 @@
 use Rattle.spec_history.proofs.history_examples.created_name_examples.Goals as goal
 use Rattle.spec_history.specs.Examples.{at, box, created_twice, creating_z, home, z}
-use Rattle.spec_history.specs.History.{Committed, Known, known_by, state}
-use Rattle.spec_history.specs.Sound.{CreatesNew, each_creates_new}
+use Rattle.spec_history.specs.History.{Committed, Known}
+use Rattle.spec_history.specs.Sound.{each_creates_new}
 use Rattle.std.proofs.Common.{refl, ◌≡◌}
-use Rattle.std.specs.Prelude.{None, Option, Some, take}
-use Rattle.thor_value.specs.FiniteMap.{get}
+use Rattle.std.specs.Prelude.{None, Option, Some}
 use Rattle.thor_value.specs.declared.values.Obj.{Obj}
 
 -- how the second one stands
 second : Known
 second = record { place = 2; request = creating_z 2; fate = Committed 2 }
 
-there : Some (box 7) ≡ None {Obj} → ⊥
+there : ◌≡◌ {A = Option Obj} (Some (box 7)) None → ⊥
 there e = cc
 
 pub returns-clause-second : goal.returns-clause-second
