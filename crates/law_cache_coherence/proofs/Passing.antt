@@ -233,8 +233,10 @@ module _ (b : Base) where
                   let d = there_wrote (get (written c.1) x) wrote in
                   let own : g.o.request.session ≡ s = ap (λ (r : Request). r.session) g.request ∙ eqb-true c.1.session s e in
                   let w : IsOwnWrite b (entries T) s committed x d.0 g.t g.o = record { there = g.there; open' = g.open'; own = own; wrote = ap (λ (r : Request). get (written r) x) g.request ∙ d.1; settled = g.settled } in
-                  inr (d.1 ∙ ap (λ (z : Obj). Some z) (sym (f.own x o d.0 g.t g.o here w copy)),
-                    λ j k le at. (waiting_at (StaysRight b (entries T) s committed) v.taken v.sent j (Page x.page k) f.pages le at x refl).1 d.0 g.t g.o w)
+                  inr (
+                    d.1 ∙ ap (λ (z : Obj). Some z) (sym (f.own x o d.0 g.t g.o here w copy)),
+                    λ j k le at. (waiting_at (StaysRight b (entries T) s committed) v.taken v.sent j (Page x.page k) f.pages le at x refl).1 d.0 g.t g.o w,
+                  )
 
       -- the item commits nothing of the session's own on a page that waits
       others_write : (x : Oref) → ((d : Obj) (t : Ts) (w : Known) → ¬ IsOwnWrite b (entries T) s committed x d t w) → OthersWrite s x (commits_in b (entries T) i)
