@@ -8,15 +8,15 @@ use Rattle.spec_history.specs.Examples.{box, home, reading_x, setting_x, x}
 use Rattle.spec_trace.specs.Gaps.{AreCurrent, GrowsByOthers}
 use Rattle.spec_history.specs.History.{writers}
 use Rattle.spec_history.specs.Requests.{has_written, written}
-use Rattle.spec_trace.specs.Session.{Page, begun, session}
+use Rattle.spec_trace.specs.Session.{Page, Session, begun, session}
 use Rattle.spec_trace.specs.Trace.{entries}
 use Rattle.spec_trace.proofs.ExactTraces.{exact_since}
-use Rattle.std.proofs.Common.{Bool, [], arith, cond, false, inl, refl, rules, subst, suc, sym, true, zero, ℕ, ◌++◌, ◌∷◌, ◌≡◌, ◌≤◌}
+use Rattle.std.proofs.Common.{Bool, [], arith, cond, false, inl, refl, subst, suc, sym, true, zero, ℕ, ◌++◌, ◌∷◌, ◌≡◌, ◌≤◌}
 use Rattle.std.proofs.lemmas.List.Elements.{All-cons, All-nil}
 use Rattle.std.proofs.lemmas.Map.Views.{tells_apart}
-use Rattle.std.specs.Option.{IsSomeAnd, option_or}
+use Rattle.std.specs.Option.{IsSomeAnd}
 use Rattle.std.specs.Ordering.{eq_by_cmp}
-use Rattle.std.specs.Prelude.{None, Some, nat_eq, ◌⊎◌}
+use Rattle.std.specs.Prelude.{None, Option, Some, nat_eq, ◌⊎◌}
 use Rattle.std.specs.List.{slice_get}
 use Rattle.thor_value.proofs.NameOrders.{oref_exact}
 use Rattle.thor_value.specs.FiniteMap.{get, has}
@@ -24,8 +24,12 @@ use Rattle.thor_value.specs.Names.{oref_cmp}
 use Rattle.thor_value.specs.declared.names.Oref.{Oref}
 use Rattle.thor_value.specs.declared.values.Obj.{Obj}
 
+abbrev session_of : Option Session → Session
+session_of None = begun 2 0
+session_of (Some v) = v
+
 abbrev Other : Oref → Obj → ℕ × Request → Type 0
-Other y o c = has_written c.1 y ≡ true → (nat_eq c.1.session 2 ≡ false) ⊎ ((get (written c.1) y ≡ Some o) × NoPageWaits (option_or (session home fetched 2) (begun 2 0)) y)
+Other y o c = has_written c.1 y ≡ true → (nat_eq c.1.session 2 ≡ false) ⊎ ((get (written c.1) y ≡ Some o) × NoPageWaits (session_of (session home fetched 2)) y)
 
 -- the page was taken
 taken : (i k : ℕ) → 1 ≤ i → slice_get (Page 0 1 ∷ []) i ≡ Some (Page 0 k) → 1 ≤ k

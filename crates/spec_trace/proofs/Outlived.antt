@@ -24,7 +24,7 @@ use Rattle.spec_trace.specs.declared.mark.Mark.TheVariants as the
 use Rattle.spec_trace.proofs.Before.{fetches, none-moved}
 use Rattle.std.proofs.Common.{Bool, List, [], ap, append_assoc, arith, cond, false, inl, inr, max, refl, subst, sym, true, ℕ, ◌++◌, ◌<◌, ◌≡◌, ◌≢◌, ◌≤◌, ◌∙◌, ◌∷◌}
 use Rattle.std.proofs.lemmas.Bool.{eqb-true}
-use Rattle.std.proofs.lemmas.List.Elements.{All-cons, All-head, All-nil, All-tail}
+use Rattle.std.proofs.lemmas.List.Elements.{All-cons, All-head, All-nil, All-tail, All-weaker}
 use Rattle.std.proofs.lemmas.List.{append-nil}
 use Rattle.std.specs.List.{All}
 use Rattle.std.specs.Option.{option_map}
@@ -211,7 +211,8 @@ module _ (b : Base) where
         step = step;
         others = subst (λ c. ByOthers b c U more) (sym client) g.others.1;
         none_aborted = subst (λ (V : List Item). NoneAborted b (entries V) committed) (sym again) g.none_aborted;
-        own = λ x o is n c at wrote. still_none x o c ((parts (λ c. has_written c.1 x ≡ true → (nat_eq c.1.session s ≡ false) ⊎ ((get (written c.1) x ≡ Some o) × NoPageWaits v x)) (commits_in b (entries T) i) (commits_behind b U more) (g.own x o is)).1 n c at wrote);
+        own = λ x o is. All-weaker (λ c. has_written c.1 x ≡ true → (nat_eq c.1.session s ≡ false) ⊎ ((get (written c.1) x ≡ Some o) × NoPageWaits v x)) (λ c. has_written c.1 x ≡ true → (nat_eq c.1.session s ≡ false) ⊎ ((get (written c.1) x ≡ Some o) × NoPageWaits w x)) (λ c f wrote. still_none x o c (f wrote)) (commits_behind b U more)
+            (parts (λ c. has_written c.1 x ≡ true → (nat_eq c.1.session s ≡ false) ⊎ ((get (written c.1) x ≡ Some o) × NoPageWaits v x)) (commits_in b (entries T) i) (commits_behind b U more) (g.own x o is)).1;
         current = current;
       }
 

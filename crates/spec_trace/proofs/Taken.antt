@@ -157,7 +157,7 @@ module _ (b : Base) where
   waits-behind v w m page t order i k le at =
       let rise : InOrder w.began w.sent = subst (InOrder w.began) (sym t.sent) (subst (λ (a : ℕ). InOrder a v.sent) (sym t.began) order) in
       let new : WaitsByPlace w = waits-by-place w rise in
-      subst (λ (j : ℕ). j ≤ k) t.upto (new.waits i (Page page k) le at)
+      subst (λ (j : ℕ). j ≤ k) t.upto (new.waits i (Page page k) at le)
 
   before-taken : (v w : Session) (m : Notice) (x : Oref) (n : ℕ) → Took v w m → InOrder v.began v.sent → IsBefore v x n → IsBefore w x (max n (bound m))
   before-taken v w m x n t order before i k le at =
@@ -345,7 +345,7 @@ module _ (b : Base) where
         cached = subst (λ (p : Map nat_cmp ℕ). There p x.page k) (sym t.pages) cached;
         value = value;
         others = others;
-        before = λ i j l at. waits-behind v w (Page page k) x.page t order.rise i j l at;
+        before = λ i j l at. waits-behind b v w (Page page k) x.page t order.rise i j l at;
       })
     where
       le-trans : (i j k : ℕ) → i ≤ j → j ≤ k → i ≤ k

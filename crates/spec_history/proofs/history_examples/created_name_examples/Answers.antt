@@ -7,7 +7,7 @@ use Rattle.std.specs.Prelude.{None, Option, Some}
 use Rattle.thor_value.specs.declared.values.Obj.{Obj}
 
 -- how the second one stands
-second : Known
+abbrev second : Known
 second = record { place = 2; request = creating_z 2; fate = Committed 2 }
 
 there : ◌≡◌ {A = Option Obj} (Some (box 7)) None → ⊥
