@@ -134,6 +134,7 @@ is_part_kind None = false
 abbrev pub is_part : List Class → ExprType → Bool
 is_part classes (type.Class c) = is_part_kind (option_map (λ d. d.kind) (slice_get classes c))
 is_part classes type.Int = false
+is_part classes type.Text = false
 is_part classes type.Null = false
 is_part classes type.Untold = false
 
@@ -159,10 +160,17 @@ is_free_type classes (type_name.Class name) = is_free_class classes name
 -- class. A type that can't be told breaks nothing.
 abbrev pub fits : ExprType → ExprType → Bool
 fits type.Int type.Int = true
+fits type.Int type.Text = false
 fits type.Int type.Null = false
 fits type.Int (type.Class d) = false
 fits type.Int type.Untold = true
+fits type.Text type.Int = false
+fits type.Text type.Text = true
+fits type.Text type.Null = false
+fits type.Text (type.Class d) = false
+fits type.Text type.Untold = true
 fits (type.Class c) type.Int = false
+fits (type.Class c) type.Text = false
 fits (type.Class c) type.Null = true
 fits (type.Class c) (type.Class d) = c == d
 fits (type.Class c) type.Untold = true
