@@ -34,18 +34,25 @@ use Rattle.class_defs.specs.declared.types.ExprType.TheVariants as type
 abbrev pub class_of : (Oref → Option Object) → Oref → Option ℕ
 class_of objects x = option_map (λ o. o.class) (objects x)
 
--- A value of a type: a number; or null, or a reference to an object of just this class. Of a type that can't be
+-- A value of a type: a number; a text; or null, or a reference to an object of just this class. Of a type that can't be
 -- told there is none.
 abbrev pub ValueFits : (Oref → Option Object) → ExprType → Value → Type 0
 ValueFits objects type.Int (value.Int n) = Unit {0}
 ValueFits objects type.Int (value.Ref x) = ⊥
 ValueFits objects type.Int value.Null = ⊥
+ValueFits objects type.Int (value.Text w) = ⊥
+ValueFits objects type.Text (value.Int n) = ⊥
+ValueFits objects type.Text (value.Ref x) = ⊥
+ValueFits objects type.Text value.Null = ⊥
+ValueFits objects type.Text (value.Text w) = Unit {0}
 ValueFits objects type.Null (value.Int n) = ⊥
 ValueFits objects type.Null (value.Ref x) = ⊥
 ValueFits objects type.Null value.Null = Unit {0}
+ValueFits objects type.Null (value.Text w) = ⊥
 ValueFits objects (type.Class c) (value.Int n) = ⊥
 ValueFits objects (type.Class c) (value.Ref x) = class_of objects x ≡ Some c
 ValueFits objects (type.Class c) value.Null = Unit {0}
+ValueFits objects (type.Class c) (value.Text w) = ⊥
 ValueFits objects type.Untold v = ⊥
 
 -- as many values as fields, each of the field's type

@@ -9,7 +9,9 @@ ghost use Rattle.method_check.specs.Bodies.{sight};
 
 use crate::body::Body;
 use crate::judge::judge;
-use crate::kinds::{field_in_sight, field_type, fits, is_number, is_part, local_named, root_named};
+use crate::kinds::{
+    field_in_sight, field_type, fits, is_number, is_part, is_printable, local_named, root_named,
+};
 use crate::least::must;
 use crate::nodes::{is_class, line_of};
 use class_defs::{
@@ -33,7 +35,7 @@ pub fn must_fit(
     must(fits(declared, kind), Rule::T3, line_of(value), found);
 }
 
-/// What an expression breaks that gives a condition or is printed.
+/// What an expression breaks that gives a condition.
 #[tactic(auto, using(crate::proofs::Pieces::least_append))]
 pub fn must_be_number(
     body: &Body<'_>,
@@ -45,6 +47,20 @@ pub fn must_be_number(
 {
     let kind = judge(body, locals, value, Position::Value, found);
     must(is_number(kind), Rule::T3, line_of(value), found);
+}
+
+/// What an expression breaks that is printed.
+#[tactic(auto, using(crate::proofs::Pieces::least_append))]
+pub fn must_be_printable(
+    body: &Body<'_>,
+    locals: &NamedTypes,
+    value: &Expr,
+    found: &mut Option<RuleFault>,
+)
+    ensures { found.new ≡ least_with found.old (spec.must_be_printable (sight body.now locals.now) value.now) }
+{
+    let kind = judge(body, locals, value, Position::Value, found);
+    must(is_printable(kind), Rule::T3, line_of(value), found);
 }
 
 /// T2 and T5: the name is that of a class, and not of a part class.

@@ -23,7 +23,7 @@ pub fn is_part(classes: &Classes, kind: ExprType) -> bool
             },
             None => false,
         },
-        ExprType::Int | ExprType::Null | ExprType::Untold => false,
+        ExprType::Int | ExprType::Text | ExprType::Null | ExprType::Untold => false,
     }
 }
 
@@ -33,10 +33,17 @@ pub fn fits(declared: ExprType, given: ExprType) -> bool
 {
     match (declared, given) {
         (ExprType::Int, ExprType::Int) => true,
+        (ExprType::Int, ExprType::Text) => false,
         (ExprType::Int, ExprType::Null) => false,
         (ExprType::Int, ExprType::Class(_)) => false,
         (ExprType::Int, ExprType::Untold) => true,
+        (ExprType::Text, ExprType::Int) => false,
+        (ExprType::Text, ExprType::Text) => true,
+        (ExprType::Text, ExprType::Null) => false,
+        (ExprType::Text, ExprType::Class(_)) => false,
+        (ExprType::Text, ExprType::Untold) => true,
         (ExprType::Class(_), ExprType::Int) => false,
+        (ExprType::Class(_), ExprType::Text) => false,
         (ExprType::Class(_), ExprType::Null) => true,
         (ExprType::Class(class), ExprType::Class(other)) => class == other,
         (ExprType::Class(_), ExprType::Untold) => true,
@@ -52,17 +59,27 @@ pub fn is_number(kind: ExprType) -> bool
     fits(ExprType::Int, kind)
 }
 
+/// Whether an expression of this type can be printed: a number or a text.
+pub fn is_printable(kind: ExprType) -> bool
+    ensures { result ≡ expression_rules.is_printable kind }
+{
+    is_number(kind) || fits(ExprType::Text, kind)
+}
+
 /// Whether two values can be compared by `==` and `!=`.
 fn comparable(classes: &Classes, left: ExprType, right: ExprType) -> bool
     ensures { result ≡ expression_rules.comparable classes.now left right }
 {
     match (left, right) {
         (ExprType::Int, other) => is_number(other),
+        (ExprType::Text, other) => fits(ExprType::Text, other),
         (ExprType::Null, ExprType::Int) => false,
+        (ExprType::Null, ExprType::Text) => false,
         (ExprType::Null, ExprType::Null) => false,
         (ExprType::Null, ExprType::Class(_)) => true,
         (ExprType::Null, ExprType::Untold) => true,
         (ExprType::Class(_), ExprType::Int) => false,
+        (ExprType::Class(_), ExprType::Text) => false,
         (ExprType::Class(_), ExprType::Null) => true,
         (ExprType::Class(class), ExprType::Class(other)) => {
             class == other && !is_part(classes, left)
@@ -162,6 +179,6 @@ pub fn method_called<'a>(
             Some(found) => class_defs::method_of(&found.methods, name.text.as_slice()),
             None => None,
         },
-        ExprType::Int | ExprType::Null | ExprType::Untold => None,
+        ExprType::Int | ExprType::Text | ExprType::Null | ExprType::Untold => None,
     }
 }

@@ -23,7 +23,7 @@ pub fn line_of(expr: &Expr) -> u32
     ensures { result ≡ line_at (out-Expr expr.now) }
 {
     match expr {
-        Expr::Int { value: _, line } => *line,
+        Expr::Literal { value: _, line } => *line,
         Expr::Null { line } => *line,
         Expr::This { line } => *line,
         Expr::Field { name } => name.line,
@@ -206,7 +206,7 @@ fn is_told(kind: ExprType) -> bool
     ensures { result ≡ spec.is_told kind }
 {
     match kind {
-        ExprType::Int | ExprType::Null | ExprType::Class(_) => true,
+        ExprType::Int | ExprType::Text | ExprType::Null | ExprType::Class(_) => true,
         ExprType::Untold => false,
     }
 }

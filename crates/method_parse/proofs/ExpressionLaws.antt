@@ -17,6 +17,7 @@ use Rattle.class_defs.specs.declared.expressions.Operator.{Operator}
 use Rattle.class_defs.specs.declared.expressions.Operator.TheVariants as operators
 use Rattle.class_defs.specs.declared.expressions.Expr.{Expr}
 use Rattle.class_defs.specs.declared.expressions.Expr.TheVariants as e
+use Rattle.class_defs.specs.declared.literals.Literal.TheVariants as literal
 use Rattle.class_defs.specs.declared.places.Place.{Place}
 use Rattle.class_defs.specs.Words.{Word, Fixed, FixedAt, Numbered, name_word, symbol_of, with_commas}
 use Rattle.class_defs.specs.Spelling.{at_words, expr_words}
@@ -370,8 +371,8 @@ module _ (place : Place) (room : Room) (below : ℕ) (deeper : room.depth ≡ be
 
   by_start : (s : Start) → Allows s → Lawful (Here 4) (primary_by room inner s)
   unfolding primary_by
-  by_start starts.Number a = lawful_last (λ n. leaf (e.Int (pos n.0) n.1)) lawful_number (λ n f s.
-      leaf_read (e.Int (pos n.0) n.1) 0 true f (Numbered (pos n.0) n.1 ∷ []) (eq.words-Int (pos n.0) n.1) (eq.shape-Int place (pos n.0) n.1) (omega arith) refl s)
+  by_start starts.Number a = lawful_last (λ n. leaf (e.Literal (literal.Int (pos n.0)) n.1)) lawful_number (λ n f s.
+      leaf_read (e.Literal (literal.Int (pos n.0)) n.1) 0 true f (Numbered (pos n.0) n.1 ∷ []) (eq.words-Int (pos n.0) n.1) (eq.shape-Int place (pos n.0) n.1) (omega arith) refl s)
   by_start starts.Name a = lawful_last (λ n. leaf (e.Variable n)) lawful_name (λ n f s.
       leaf_read (e.Variable n) 0 true f (name_word n ∷ []) (eq.words-Variable n) (eq.shape-Variable place n) (omega arith) refl s)
   by_start starts.Null a = null_law

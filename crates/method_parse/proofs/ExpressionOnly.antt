@@ -12,6 +12,7 @@ use Rattle.class_defs.specs.declared.expressions.Operator.TheVariants as operato
 use Rattle.class_defs.specs.declared.expressions.Expr.{Expr, out-Expr, roll-Expr, roll-out-Expr}
 use Rattle.class_defs.specs.declared.expressions.Expr.TheOpen.{Expr-F}
 use Rattle.class_defs.specs.declared.expressions.Expr.TheVariants as e
+use Rattle.class_defs.specs.declared.literals.Literal.TheVariants as literal
 use Rattle.class_defs.specs.declared.places.Place.{Place}
 use Rattle.class_defs.specs.Words.{Word, Fixed, FixedAt, Numbered, name_word, with_commas}
 use Rattle.class_defs.specs.Spelling.{expr_words, at_words}
@@ -106,12 +107,12 @@ module _ (place : Place) (room : Room) (below : ℕ) (deeper : room.depth ≡ be
   abbrev Primary : Expr-F Expr → Expr → Type 0
   Primary o x = (ts rest : List Token) → AreWords ts (expr_words x) → Fit 5 x → Calm rest → NoDot o rest → primary_here (ts ++ rest) ≡ Ok (deep place x, rest)
 
-  natural_reads : (n l : ℕ) (ts rest : List Token) → AreWords ts (Numbered (pos n) l ∷ []) → primary_here (ts ++ rest) ≡ got (deep place (e.Int (pos n) l)) rest
+  natural_reads : (n l : ℕ) (ts rest : List Token) → AreWords ts (Numbered (pos n) l ∷ []) → primary_here (ts ++ rest) ≡ got (deep place (e.Literal (literal.Int (pos n)) l)) rest
   unfolding primary_by
   natural_reads n l ts rest k =
       by_start starts.Number (ts ++ rest) _ (starts_at place room ts rest _ [] starts.Number k (λ t w. number_starts place room t.kind t.text (pos n) w.0))
-      (number_then rest _ n l [] ts (λ m. give (leaf (e.Int (pos m.0) m.1))) k
-      (λ us m. ap (λ (u : List Token). got (leaf (e.Int (pos n) l)) (u ++ rest)) (nothing us m) ∙ read_is place (e.Int (pos n) l) 1 rest (depth_is (eq.shape-Int place (pos n) l))))
+      (number_then rest _ n l [] ts (λ m. give (leaf (e.Literal (literal.Int (pos m.0)) m.1))) k
+      (λ us m. ap (λ (u : List Token). got (leaf (e.Literal (literal.Int (pos n)) l)) (u ++ rest)) (nothing us m) ∙ read_is place (e.Literal (literal.Int (pos n)) l) 1 rest (depth_is (eq.shape-Int place (pos n) l))))
 
   int_by : (v : ℤ) (l : ℕ) (o : Option ℕ) (ts rest : List Token) → option_map pos o ≡ Some v → AreWords ts (Numbered v l ∷ []) → primary_here (ts ++ rest) ≡ got (deep place (e.Int v l)) rest
   int_by v l (Some n) ts rest is k =

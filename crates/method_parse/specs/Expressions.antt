@@ -6,6 +6,7 @@ use Rattle.class_defs.specs.declared.expressions.Operator.{Operator}
 use Rattle.class_defs.specs.declared.expressions.Operator.TheVariants as operators
 use Rattle.class_defs.specs.declared.expressions.Expr.{Expr}
 use Rattle.class_defs.specs.declared.expressions.Expr.TheVariants as e
+use Rattle.class_defs.specs.declared.literals.Literal.TheVariants as literal
 use Rattle.class_defs.specs.declared.places.Place.{Place}
 use Rattle.class_defs.specs.Shape.{in_method}
 use Rattle.script_text.specs.declared.token.Token.{Token}
@@ -144,7 +145,7 @@ parens inner = do
 unfoldable pub primary_by : Room → Reader Deep → Start → Reader Deep
 primary_by room inner starts.Number = do
   n ← number
-  give (leaf (e.Int (pos n.0) n.1))
+  give (leaf (e.Literal (literal.Int (pos n.0)) n.1))
 primary_by room inner starts.Name = do
   variable ← name
   give (leaf (e.Variable variable))

@@ -19,7 +19,7 @@ pub use error::ParseError;
 pub use expressions::operator;
 pub use parse::{parse_block, parse_setup, spellings_are_unique};
 pub use print_statements::{print_block, print_class, print_methods};
-pub use printing::{print_name, print_type, print_value, print_word, symbol};
+pub use printing::{print_literal, print_name, print_type, print_word, symbol};
 pub use printing_laws::printed_texts_are_read;
 pub use setups::{methods, next_begins_type};
 pub use starts::{operator_in, tighter};

@@ -7,6 +7,7 @@ use Rattle.std.proofs.lemmas.Bool.{ltb-true, le-leb, and_from, and_parts}
 use Rattle.class_defs.specs.Shape.{Shape, left_level, level_of, right_level}
 use Rattle.class_defs.specs.Words.{Word, Fixed, FixedAt, Numbered, in_turn, name_word, symbol_of}
 use Rattle.class_defs.specs.declared.expressions.Name.{Name}
+use Rattle.class_defs.specs.declared.literals.Literal.TheVariants as literal
 use Rattle.class_defs.specs.declared.upgrades.Tf.{Tf}
 use Rattle.class_defs.specs.declared.upgrades.Tf.TheVariants as tf
 use Rattle.script_text.specs.declared.token.Token.{Token}
@@ -110,8 +111,8 @@ module _ (room below : ℕ) (deeper : room ≡ below + 1) (parts : Parts)
 
   lawful_integer : Lawful (Here 3) integer
   unfolding integer
-  lawful_integer = lawful_last (λ n. leaf (tf.Int (pos n.0) n.1)) lawful_number (λ n f s.
-      leaf_read (tf.Int (pos n.0) n.1) true f (Numbered (pos n.0) n.1 ∷ []) (eq.words-Int (pos n.0) n.1) (eq.shape-Int (pos n.0) n.1) refl s)
+  lawful_integer = lawful_last (λ n. leaf (tf.Literal (literal.Int (pos n.0)) n.1)) lawful_number (λ n f s.
+      leaf_read (tf.Literal (literal.Int (pos n.0)) n.1) true f (Numbered (pos n.0) n.1 ∷ []) (eq.words-Int (pos n.0) n.1) (eq.shape-Int (pos n.0) n.1) refl s)
 
   lawful_parens : 0 < below → Lawful (Here 3) (parens (parts levels.Sum))
   unfolding parens

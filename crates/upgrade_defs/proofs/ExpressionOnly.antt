@@ -8,6 +8,7 @@ use Rattle.class_defs.specs.Words.{Word, Fixed, FixedAt, Numbered, in_turn, symb
 use Rattle.class_defs.specs.declared.expressions.Name.{Name}
 use Rattle.class_defs.specs.declared.expressions.Operator.{Operator}
 use Rattle.class_defs.specs.declared.expressions.Operator.TheVariants as operators
+use Rattle.class_defs.specs.declared.literals.Literal.TheVariants as literal
 use Rattle.class_defs.specs.declared.upgrades.Tf.{Tf, map-Tf, out-Tf, roll-Tf, roll-out-Tf}
 use Rattle.class_defs.specs.declared.upgrades.Tf.TheFolds.{fold-roll-Tf}
 use Rattle.class_defs.specs.declared.upgrades.Tf.TheOpen.{Tf-F}
@@ -112,11 +113,11 @@ path_reads (n ∷ ns) l ts rest h some ends =
     (λ front more p q. first_reads n front (more ++ rest) p)
     (λ vs m. ap (λ r. onward r (λ (names : List Name). give (leaf (tf.Path names l)))) (names_read ns (n ∷ []) vs rest m ends)))
 
-natural_reads : (n l : ℕ) (ts rest : List Token) → AreWords ts (Numbered (pos n) l ∷ []) → integer (ts ++ rest) ≡ got (leaf (tf.Int (pos n) l)) rest
+natural_reads : (n l : ℕ) (ts rest : List Token) → AreWords ts (Numbered (pos n) l ∷ []) → integer (ts ++ rest) ≡ got (leaf (tf.Literal (literal.Int (pos n)) l)) rest
 unfolding integer
 natural_reads n l ts rest k =
-    number_then rest _ n l [] ts (λ m. give (leaf (tf.Int (pos m.0) m.1))) k
-    (λ us m. ap (λ (u : List Token). got (leaf (tf.Int (pos n) l)) (u ++ rest)) (nothing us m))
+    number_then rest _ n l [] ts (λ m. give (leaf (tf.Literal (literal.Int (pos m.0)) m.1))) k
+    (λ us m. ap (λ (u : List Token). got (leaf (tf.Literal (literal.Int (pos n)) l)) (u ++ rest)) (nothing us m))
 
 int_by : (v : ℤ) (l : ℕ) (o : Option ℕ) (ts rest : List Token) → option_map pos o ≡ Some v → AreWords ts (Numbered v l ∷ [])
     → integer (ts ++ rest) ≡ got (leaf (tf.Int v l)) rest

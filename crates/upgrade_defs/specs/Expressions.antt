@@ -3,6 +3,7 @@ use Rattle.std.specs.Prelude.{◌+◌, ◌-◌, max, pos, ℕ, zero, suc, Bool, 
 use Rattle.std.specs.Option.{is_some}
 use Rattle.class_defs.specs.Grammar.{max_depth}
 use Rattle.class_defs.specs.declared.expressions.Name.{Name}
+use Rattle.class_defs.specs.declared.literals.Literal.TheVariants as literal
 use Rattle.class_defs.specs.declared.upgrades.Tf.{Tf}
 use Rattle.class_defs.specs.declared.upgrades.Tf.TheVariants as tf
 use Rattle.script_text.specs.declared.token.Token.{Token}
@@ -46,7 +47,7 @@ path = do
 unfoldable pub integer : Reader Deep
 integer = do
   n ← number
-  give (leaf (tf.Int (pos n.0) n.1))
+  give (leaf (tf.Literal (literal.Int (pos n.0)) n.1))
 
 abbrev pub in_parens : Deep → ℕ → Deep
 in_parens deep line = record { value = tf.Parens deep.value line; depth = deep.depth + 1 }

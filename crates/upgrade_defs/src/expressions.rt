@@ -9,7 +9,7 @@ ghost use Rattle.upgrade_defs.specs.Expressions.{all_names, at_level, dotted, ex
 
 use crate::deep::Deep;
 use crate::starts::{is_join, is_minus, is_open};
-use class_defs::{Name, Names, Operator, Tf};
+use class_defs::{Literal, Name, Names, Operator, Tf};
 use method_parse::{Level, ParseError, name, next_is, number, operator, tighter, word};
 use script_text::Token;
 use std::alloc::Global;
@@ -83,7 +83,8 @@ fn integer(tokens: &[Token]) -> Result<(Deep, &[Token]), ParseError>
 {
     let ((value, line), rest) = number(tokens)?;
     let value = value as i64;
-    Ok((leaf(Tf::Int { value, line }), rest))
+    let value = Literal::Int(value);
+    Ok((leaf(Tf::Literal { value, line }), rest))
 }
 
 /// An operand of an expression in a room.
