@@ -7,7 +7,8 @@ use Rattle.thor_value.specs.declared.names.Oref.{Oref}
 use Rattle.thor_value.specs.declared.values.Fault.TheVariants as fault
 use Rattle.thor_value.specs.declared.values.Value.{Value}
 use Rattle.class_defs.proofs.KeptRules.{ClassSound, nothing}
-use Rattle.class_defs.specs.ExpressionRules.{is_number, judged, line_of}
+use Rattle.class_defs.specs.ExpressionRules.{is_number, is_printable, judged, line_of}
+use Rattle.class_defs.specs.Kinds.{printed_as}
 use Rattle.class_defs.specs.Objects.{assign_field}
 use Rattle.class_defs.specs.Rules.{Sight, fits, is_free_type, is_part, local_named, must, root_named, scope_of}
 use Rattle.class_defs.specs.Run.{execute_all, meaning}
@@ -241,8 +242,8 @@ module _ (schema : Schema) (repos : ℕ) (sound : (c : ℕ) (d : Class) → slic
             let p = nothing (must_be_number here condition) (block_rules here body) ok in
             repeat_tells 100001 condition body m p.0 p.1 h
         node_tells (Stmt-F.Print e) m ok h =
-            let p = nothing ((judged here e).broken AsValue) (must (is_number (judged here e).kind) T3 (line_of e)) ok in
-            behind e AsValue _ m p.0 h (λ a o state. gives schema repos f g Any o (record o { printed = o.printed ++ number a ∷ [] }) Next refl tt)
+            let p = nothing ((judged here e).broken AsValue) (must (is_printable (judged here e).kind) T3 (line_of e)) ok in
+            behind e AsValue _ m p.0 h (λ a o state. gives schema repos f g Any o (record o { printed = o.printed ++ printed_as a }) Next refl tt)
         node_tells (Stmt-F.Evaluate e) m ok h = behind e AsValue _ m ok h (λ a o state. still schema repos f g Any o Next tt)
 
       -- a statement that breaks no rule

@@ -57,9 +57,15 @@ some_and (Some x) P h = (x, refl, h)
 -- a value of its kind, whose reference is to an object of the class
 value_fits : (f : Oref → Option Object) (t : ExprType) (w : Value) → IsDeclared t → fitted t w ≡ w → ((d : ℕ) (z : Oref) → t ≡ type.Class d → w ≡ value_form.Ref z → class_of f z ≡ Some d) → ValueFits f t w
 value_fits f type.Int (value_form.Int n) told is refers = tt
+value_fits f type.Text (value_form.Int n) told is refers = cc
+value_fits f type.Text (value_form.Text n) told is refers = tt
+value_fits f type.Int (value_form.Text n) told is refers = cc
 value_fits f type.Int (value_form.Ref x) told is refers = cc
+value_fits f type.Text (value_form.Ref x) told is refers = cc
 value_fits f type.Int value_form.Null told is refers = cc
+value_fits f type.Text value_form.Null told is refers = cc
 value_fits f (type.Class c) (value_form.Int n) told is refers = cc
+value_fits f (type.Class c) (value_form.Text n) told is refers = cc
 value_fits f (type.Class c) (value_form.Ref x) told is refers = refers c x refl refl
 value_fits f (type.Class c) value_form.Null told is refers = tt
 value_fits f type.Null w told is refers = absurd told

@@ -46,7 +46,7 @@ module _ (s : Sight) where
   same_step : (y : Expr-F ((e : Expr) × Same e))
       → type_step (scope_of s) (kinds_at (map-Expr Expr Judged (judged s) (bare y))) ≡ type_step (scope_of s)
       (map-Expr Expr ExprType (type_of (scope_of s)) (bare y))
-  same_step (Expr-F.Int value line) = refl
+  same_step (Expr-F.Literal value line) = refl
   same_step (Expr-F.Null line) = refl
   same_step (Expr-F.This line) = refl
   same_step (Expr-F.Field name) = refl

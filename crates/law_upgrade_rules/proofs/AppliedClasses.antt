@@ -68,6 +68,7 @@ module _ (u : Upgrade) where
   pub same_kind : (t : ExprType) (ds : List Class) → is_part (classes_behind u ds) t ≡ is_part ds t
   same_kind (type.Class c) ds = ap (λ (o : Option Class). is_part_kind (option_map (λ d. d.kind) o)) (slice_get-map step ds c) ∙ kind_of (slice_get ds c)
   same_kind type.Int ds = refl
+  same_kind type.Text ds = refl
   same_kind type.Null ds = refl
   same_kind type.Untold ds = refl
 

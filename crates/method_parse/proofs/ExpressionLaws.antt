@@ -372,7 +372,7 @@ module _ (place : Place) (room : Room) (below : ℕ) (deeper : room.depth ≡ be
   by_start : (s : Start) → Allows s → Lawful (Here 4) (primary_by room inner s)
   unfolding primary_by
   by_start starts.Number a = lawful_last (λ n. leaf (e.Literal (literal.Int (pos n.0)) n.1)) lawful_number (λ n f s.
-      leaf_read (e.Literal (literal.Int (pos n.0)) n.1) 0 true f (Numbered (pos n.0) n.1 ∷ []) (eq.words-Int (pos n.0) n.1) (eq.shape-Int place (pos n.0) n.1) (omega arith) refl s)
+      leaf_read (e.Literal (literal.Int (pos n.0)) n.1) 0 true f (Numbered (pos n.0) n.1 ∷ []) (eq.words-Literal (literal.Int (pos n.0)) n.1) (eq.shape-Literal place (literal.Int (pos n.0)) n.1) (omega arith) refl s)
   by_start starts.Name a = lawful_last (λ n. leaf (e.Variable n)) lawful_name (λ n f s.
       leaf_read (e.Variable n) 0 true f (name_word n ∷ []) (eq.words-Variable n) (eq.shape-Variable place n) (omega arith) refl s)
   by_start starts.Null a = null_law

@@ -13,8 +13,9 @@ use Rattle.class_defs.specs.declared.expressions.Expr.{Expr, out-Expr, roll-Expr
 use Rattle.class_defs.specs.declared.expressions.Expr.TheOpen.{Expr-F}
 use Rattle.class_defs.specs.declared.expressions.Expr.TheVariants as e
 use Rattle.class_defs.specs.declared.literals.Literal.TheVariants as literal
+use Rattle.class_defs.specs.declared.literals.Literal.{Literal}
 use Rattle.class_defs.specs.declared.places.Place.{Place}
-use Rattle.class_defs.specs.Words.{Word, Fixed, FixedAt, Numbered, name_word, with_commas}
+use Rattle.class_defs.specs.Words.{Word, Fixed, FixedAt, Numbered, Quoted, name_word, with_commas}
 use Rattle.class_defs.specs.Spelling.{expr_words, at_words}
 use Rattle.class_defs.specs.Shape.{Shape, shape, deepest, most_nested, all_proper, in_method, level_of}
 use Rattle.script_text.specs.Marks.{number_by, number_in}
@@ -112,20 +113,31 @@ module _ (place : Place) (room : Room) (below : ℕ) (deeper : room.depth ≡ be
   natural_reads n l ts rest k =
       by_start starts.Number (ts ++ rest) _ (starts_at place room ts rest _ [] starts.Number k (λ t w. number_starts place room t.kind t.text (pos n) w.0))
       (number_then rest _ n l [] ts (λ m. give (leaf (e.Literal (literal.Int (pos m.0)) m.1))) k
-      (λ us m. ap (λ (u : List Token). got (leaf (e.Literal (literal.Int (pos n)) l)) (u ++ rest)) (nothing us m) ∙ read_is place (e.Literal (literal.Int (pos n)) l) 1 rest (depth_is (eq.shape-Int place (pos n) l))))
+      (λ us m. ap (λ (u : List Token). got (leaf (e.Literal (literal.Int (pos n)) l)) (u ++ rest)) (nothing us m) ∙ read_is place (e.Literal (literal.Int (pos n)) l) 1 rest (depth_is (eq.shape-Literal place (literal.Int (pos n)) l))))
 
-  int_by : (v : ℤ) (l : ℕ) (o : Option ℕ) (ts rest : List Token) → option_map pos o ≡ Some v → AreWords ts (Numbered v l ∷ []) → primary_here (ts ++ rest) ≡ got (deep place (e.Int v l)) rest
+  int_by : (v : ℤ) (l : ℕ) (o : Option ℕ) (ts rest : List Token) → option_map pos o ≡ Some v → AreWords ts (Numbered v l ∷ []) → primary_here (ts ++ rest) ≡ got (deep place (e.Literal (literal.Int v) l)) rest
   int_by v l (Some n) ts rest is k =
       let same : pos n ≡ v = cc in
-      subst (λ (w : ℤ). primary_here (ts ++ rest) ≡ got (deep place (e.Int w l)) rest) same
+      subst (λ (w : ℤ). primary_here (ts ++ rest) ≡ got (deep place (e.Literal (literal.Int w) l)) rest) same
       (natural_reads n l ts rest (subst (λ (w : ℤ). AreWords ts (Numbered w l ∷ [])) (sym same) k))
   int_by v l None ts rest is k = absurd cc
 
-  int_reads : (v : ℤ) (l : ℕ) → Primary (Expr-F.Int v l) (e.Int v l)
+  int_reads : (v : ℤ) (l : ℕ) → Primary (Expr-F.Literal (literal.Int v) l) (e.Literal (literal.Int v) l)
   int_reads v l ts rest h fit calm dot =
-      let k : AreWords ts (Numbered v l ∷ []) = subst (λ (w : List Word). AreWords ts w) (eq.words-Int v l) h in
+      let k : AreWords ts (Numbered v l ∷ []) = subst (λ (w : List Word). AreWords ts w) (eq.words-Literal (literal.Int v) l) h in
       let f = first ts (Numbered v l) [] k in
       int_by v l (number_in f.token) ts rest f.is.0 k
+
+  -- no tokens are a text literal
+  text_reads : (v : List ℕ) (l : ℕ) → Primary (Expr-F.Literal (literal.Text v) l) (e.Literal (literal.Text v) l)
+  text_reads v l ts rest h fit calm dot =
+      let k : AreWords ts (Quoted v l ∷ []) = subst (λ (w : List Word). AreWords ts w) (eq.words-Literal (literal.Text v) l) h in
+      let f = first ts (Quoted v l) [] k in
+      absurd f.is
+
+  literal_reads : (v : Literal) (l : ℕ) → Primary (Expr-F.Literal v l) (e.Literal v l)
+  literal_reads (literal.Int v) l = int_reads v l
+  literal_reads (literal.Text v) l = text_reads v l
 
   null_reads : (l : ℕ) → Primary (Expr-F.Null l) (e.Null l)
   unfolding primary_by
@@ -341,7 +353,7 @@ module _ (place : Place) (room : Room) (below : ℕ) (deeper : room.depth ≡ be
 
   -- at the form, from its claim at the variant
   spine_form : (m : ℕ) → SpineTo m → (o : Expr-F Expr) → (shape place (roll-Expr o)).depth ≤ suc m → Fit 4 (roll-Expr o) → Spine o (roll-Expr o)
-  spine_form m to (Expr-F.Int v l) le fit = subst (λ (y : Expr). Spine (Expr-F.Int v l) y) (sym (e.rolls-Int v l)) (spine_base _ _ (λ ts rest h calm dot. int_reads v l ts rest h (five _ _ (eq.shape-Int place v l) (omega arith) (subst (λ (y : Expr). Fit 4 y) (e.rolls-Int v l) fit)) calm dot))
+  spine_form m to (Expr-F.Literal v l) le fit = subst (λ (y : Expr). Spine (Expr-F.Literal v l) y) (sym (e.rolls-Literal v l)) (spine_base _ _ (λ ts rest h calm dot. literal_reads v l ts rest h (five _ _ (eq.shape-Literal place v l) (omega arith) (subst (λ (y : Expr). Fit 4 y) (e.rolls-Literal v l) fit)) calm dot))
   spine_form m to (Expr-F.Null l) le fit = subst (λ (y : Expr). Spine (Expr-F.Null l) y) (sym (e.rolls-Null l)) (spine_base _ _ (λ ts rest h calm dot. null_reads l ts rest h (five _ _ (eq.shape-Null place l) (omega arith) (subst (λ (y : Expr). Fit 4 y) (e.rolls-Null l) fit)) calm dot))
   spine_form m to (Expr-F.This l) le fit = subst (λ (y : Expr). Spine (Expr-F.This l) y) (sym (e.rolls-This l)) (spine_base _ _ (λ ts rest h calm dot. this_reads l ts rest h (five _ _ (eq.shape-This place l) (omega arith) (subst (λ (y : Expr). Fit 4 y) (e.rolls-This l) fit)) calm dot))
   spine_form m to (Expr-F.Field n) le fit = subst (λ (y : Expr). Spine (Expr-F.Field n) y) (sym (e.rolls-Field n)) (spine_base _ _ (λ ts rest h calm dot. field_reads n ts rest h (five _ _ (eq.shape-Field place n) (omega arith) (subst (λ (y : Expr). Fit 4 y) (e.rolls-Field n) fit)) calm dot))

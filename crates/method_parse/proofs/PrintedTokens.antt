@@ -8,7 +8,7 @@ use Rattle.script_text.specs.declared.token.TokenKind.TheVariants as kinds
 use Rattle.script_text.specs.Tokens.{line_at}
 use Rattle.script_text.specs.Laws.{AreSpelled}
 use Rattle.script_text.specs.Grammar.{IsToken, Part, Separator, Lexeme, bytes_of, EndsBefore, AreParts, tokens_in, AreTokensOf}
-use Rattle.class_defs.specs.Words.{Word, Fixed, FixedAt, Named, Numbered}
+use Rattle.class_defs.specs.Words.{Word, Fixed, FixedAt, Named, Numbered, Quoted}
 use Rattle.class_defs.specs.Printed.{word_text, spaced_words, with_spaces}
 use Rattle.script_text.specs.Marks.{number_by}
 use Rattle.method_parse.specs.Matching.{AreWords, IsWord}
@@ -21,6 +21,7 @@ first_line (Fixed text) = Fixed text
 first_line (FixedAt text line) = FixedAt text 1
 first_line (Named text line) = Named text 1
 first_line (Numbered value line) = Numbered value 1
+first_line (Quoted text line) = Quoted text 1
 
 -- what a token of a kind is, wherever its text stands
 abbrev Again : TokenKind → Word → Type 0
@@ -61,6 +62,7 @@ word_printed t (Named text line) spelled is = record {
   again = λ from to. (is.0, refl, refl);
 }
 word_printed t (Numbered value line) spelled is = number_printed t.kind t.text _ value line refl is.0
+word_printed t (Quoted text line) spelled is = absurd is
 
 -- words, each with the kind of its token
 abbrev pub Kinds : Type 0
@@ -180,6 +182,7 @@ text_lined (Fixed text) = refl
 text_lined (FixedAt text line) = refl
 text_lined (Named text line) = refl
 text_lined (Numbered value line) = refl
+text_lined (Quoted text line) = refl
 
 spaced_lined : (ws : List Word) → spaced_words (map first_line ws) ≡ spaced_words ws
 spaced_lined [] = refl

@@ -216,7 +216,7 @@ module _ (place : Place) (brackets : ℕ) where
       rw (head_fails (codes ";") (codes "=") us rest [] h refl) (evaluated_reads (e.Variable n) us rest h ∙ ap (λ (y : Expr). gives (s.Evaluate y) rest) (sym (e.rolls-Variable n) ∙ is))
   evaluate_by x (Expr-F.Field n) is us rest h =
       rw (head_fails (codes ";") (codes "=") us rest [] h refl) (evaluated_reads (e.Field n) us rest h ∙ ap (λ (y : Expr). gives (s.Evaluate y) rest) (sym (e.rolls-Field n) ∙ is))
-  evaluate_by x (Expr-F.Int v l) is us rest h = evaluated_reads x us rest h
+  evaluate_by x (Expr-F.Literal v l) is us rest h = evaluated_reads x us rest h
   evaluate_by x (Expr-F.Null l) is us rest h = evaluated_reads x us rest h
   evaluate_by x (Expr-F.This l) is us rest h = evaluated_reads x us rest h
   evaluate_by x (Expr-F.New n a) is us rest h = evaluated_reads x us rest h

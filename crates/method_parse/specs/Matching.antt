@@ -5,7 +5,7 @@ use Rattle.script_text.specs.declared.token.Token.{Token}
 use Rattle.script_text.specs.declared.token.TokenKind.{TokenKind}
 use Rattle.script_text.specs.declared.token.TokenKind.TheVariants as kinds
 use Rattle.script_text.specs.Marks.{number_in}
-use Rattle.class_defs.specs.Words.{Word, Fixed, FixedAt, Named, Numbered}
+use Rattle.class_defs.specs.Words.{Word, Fixed, FixedAt, Named, Numbered, Quoted}
 
 abbrev pub is_name_kind : TokenKind → Bool
 is_name_kind kinds.Name = true
@@ -24,12 +24,13 @@ is_fixed_kind kinds.Symbol = true
 abbrev pub is : List ℕ → Token → Bool
 is text token = is_fixed_kind token.kind && bytes_eq token.text text
 
--- the token is the word
+-- The token is the word. No token is a text literal as yet.
 abbrev pub IsWord : Token → Word → Type 0
 IsWord token (Fixed text) = (is_fixed_kind token.kind ≡ true) × (token.text ≡ text)
 IsWord token (FixedAt text line) = (is_fixed_kind token.kind ≡ true) × (token.text ≡ text) × (token.line ≡ line)
 IsWord token (Named text line) = (is_name_kind token.kind ≡ true) × (token.text ≡ text) × (token.line ≡ line)
 IsWord token (Numbered value line) = (option_map pos (number_in token) ≡ Some value) × (token.line ≡ line)
+IsWord token (Quoted text line) = ⊥
 
 -- the tokens are the words, one for one
 abbrev pub AreWords : List Token → List Word → Type 0

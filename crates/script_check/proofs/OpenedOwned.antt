@@ -38,6 +38,7 @@ use Rattle.script_check.specs.Opened.{class_of, opened, root_object, root_of, ro
 
 no_ref : (t : ExprType) (z : Oref) → beginning t ≡ value.Ref z → ⊥
 no_ref type.Int z h = cc
+no_ref type.Text z h = cc
 no_ref type.Null z h = cc
 no_ref (type.Class c) z h = cc
 no_ref type.Untold z h = cc
@@ -60,12 +61,19 @@ roots_apart s (r ∷ rs) = (begun_apart s.classes (fields_of s.classes (class_of
 
 of_kind : (f : Oref → Option Object) (t : ExprType) (w : Value) → ValueFits f t w → fitted t w ≡ w
 of_kind f type.Int (value.Int n) h = refl
+of_kind f type.Text (value.Int n) h = absurd h
+of_kind f type.Text (value.Text n) h = refl
+of_kind f type.Int (value.Text n) h = absurd h
 of_kind f type.Int (value.Ref x) h = absurd h
+of_kind f type.Text (value.Ref x) h = absurd h
 of_kind f type.Int value.Null h = absurd h
+of_kind f type.Text value.Null h = absurd h
 of_kind f type.Null (value.Int n) h = absurd h
+of_kind f type.Null (value.Text n) h = absurd h
 of_kind f type.Null (value.Ref x) h = absurd h
 of_kind f type.Null value.Null h = refl
 of_kind f (type.Class c) (value.Int n) h = absurd h
+of_kind f (type.Class c) (value.Text n) h = absurd h
 of_kind f (type.Class c) (value.Ref x) h = refl
 of_kind f (type.Class c) value.Null h = refl
 of_kind f type.Untold w h = absurd h

@@ -6,7 +6,7 @@ use Rattle.std.specs.Prelude.{◌&&◌, codes, option_map, nat_eq}
 use Rattle.std.specs.List.{AllByRecursion, list_any}
 use Rattle.std.specs.Str.{bytes_eq}
 use Rattle.class_defs.specs.Spelling.{stmt_words}
-use Rattle.class_defs.specs.Words.{Word, Fixed, FixedAt, Named, Numbered, in_turn}
+use Rattle.class_defs.specs.Words.{Word, Fixed, FixedAt, Named, Numbered, Quoted, in_turn}
 use Rattle.class_defs.specs.declared.statements.Stmt.{Stmt}
 use Rattle.class_defs.specs.declared.upgrades.Upgrade.{Upgrade}
 use Rattle.method_parse.specs.Matching.{AreWords, IsWord, is_fixed_kind, is_name_kind}
@@ -132,6 +132,7 @@ made_proper_word token (Fixed text) is = (still_fixed token.kind token.text is.0
 made_proper_word token (FixedAt text line) is = (still_fixed token.kind token.text is.0, is.1, is.2)
 made_proper_word token (Named text line) is = (still_name token.kind token.text is.0, is.1, is.2)
 made_proper_word token (Numbered value line) is = (still_number token.kind token.text (Some value) value refl is.0, is.1)
+made_proper_word token (Quoted text line) is = absurd is
 
 -- words that go on so go on with proper tokens
 pub made_proper_words : (front more : List Token) (words : List Word) → AreWords (front ++ more) words → AreWords (front ++ map made_proper more) words
@@ -173,6 +174,7 @@ mark_is token (Fixed text) proper is = proper is.0 ∙ ap text_mark is.1
 mark_is token (FixedAt text line) proper is = proper is.0 ∙ ap text_mark is.1
 mark_is token (Named text line) proper is = name_mark token.kind token.text is.0
 mark_is token (Numbered value line) proper is = number_mark token.kind token.text value is.0
+mark_is token (Quoted text line) proper is = absurd is
 
 none_some : (k : ℕ) → None ≡ Some k → ⊥
 none_some k e = cc

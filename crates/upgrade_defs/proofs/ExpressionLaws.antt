@@ -112,7 +112,7 @@ module _ (room below : ℕ) (deeper : room ≡ below + 1) (parts : Parts)
   lawful_integer : Lawful (Here 3) integer
   unfolding integer
   lawful_integer = lawful_last (λ n. leaf (tf.Literal (literal.Int (pos n.0)) n.1)) lawful_number (λ n f s.
-      leaf_read (tf.Literal (literal.Int (pos n.0)) n.1) true f (Numbered (pos n.0) n.1 ∷ []) (eq.words-Int (pos n.0) n.1) (eq.shape-Int (pos n.0) n.1) refl s)
+      leaf_read (tf.Literal (literal.Int (pos n.0)) n.1) true f (Numbered (pos n.0) n.1 ∷ []) (eq.words-Literal (literal.Int (pos n.0)) n.1) (eq.shape-Literal (literal.Int (pos n.0)) n.1) refl s)
 
   lawful_parens : 0 < below → Lawful (Here 3) (parens (parts levels.Sum))
   unfolding parens

@@ -4,7 +4,7 @@ use Rattle.std.specs.Prelude.{codes, ◌&&◌, nat_lt, nat_le, option_map}
 use Rattle.std.specs.Option.{is_some}
 use Rattle.std.proofs.lemmas.Bool.{leb-true, leb-false, lt-ltb, and_from, and_parts}
 use Rattle.class_defs.specs.Shape.{Shape, left_level, level_of, right_level}
-use Rattle.class_defs.specs.Words.{Word, Fixed, FixedAt, Numbered, in_turn, symbol_of}
+use Rattle.class_defs.specs.Words.{Word, Fixed, FixedAt, Numbered, Quoted, in_turn, symbol_of}
 use Rattle.class_defs.specs.declared.expressions.Name.{Name}
 use Rattle.class_defs.specs.declared.expressions.Operator.{Operator}
 use Rattle.class_defs.specs.declared.expressions.Operator.TheVariants as operators
@@ -42,7 +42,8 @@ depth_of o = ap (λ (s : Shape). s.depth) (fold-roll-Tf Shape tf_shape_step o)
 
 positive_roll : (o : Tf-F Tf) → 0 < (tf_shape (roll-Tf o)).depth
 positive_roll (Tf-F.Null l) = omega (arith, depth_of (Tf-F.Null l))
-positive_roll (Tf-F.Int v l) = omega (arith, depth_of (Tf-F.Int v l))
+positive_roll (Tf-F.Literal (literal.Int v) l) = omega (arith, depth_of (Tf-F.Literal (literal.Int v) l))
+positive_roll (Tf-F.Literal (literal.Text v) l) = omega (arith, depth_of (Tf-F.Literal (literal.Text v) l))
 positive_roll (Tf-F.Path ns l) = omega (arith, depth_of (Tf-F.Path ns l))
 positive_roll (Tf-F.Parens x l) = omega (arith, depth_of (Tf-F.Parens x l))
 positive_roll (Tf-F.Negate x l) = omega (arith, depth_of (Tf-F.Negate x l))
@@ -120,14 +121,14 @@ natural_reads n l ts rest k =
     (λ us m. ap (λ (u : List Token). got (leaf (tf.Literal (literal.Int (pos n)) l)) (u ++ rest)) (nothing us m))
 
 int_by : (v : ℤ) (l : ℕ) (o : Option ℕ) (ts rest : List Token) → option_map pos o ≡ Some v → AreWords ts (Numbered v l ∷ [])
-    → integer (ts ++ rest) ≡ got (leaf (tf.Int v l)) rest
+    → integer (ts ++ rest) ≡ got (leaf (tf.Literal (literal.Int v) l)) rest
 int_by v l (Some n) ts rest is k =
     let same : pos n ≡ v = cc in
-    subst (λ (w : ℤ). integer (ts ++ rest) ≡ got (leaf (tf.Int w l)) rest) same
+    subst (λ (w : ℤ). integer (ts ++ rest) ≡ got (leaf (tf.Literal (literal.Int w) l)) rest) same
     (natural_reads n l ts rest (subst (λ (w : ℤ). AreWords ts (Numbered w l ∷ [])) (sym same) k))
 int_by v l None ts rest is k = absurd cc
 
-integer_reads : (v : ℤ) (l : ℕ) (ts rest : List Token) → AreWords ts (Numbered v l ∷ []) → integer (ts ++ rest) ≡ got (leaf (tf.Int v l)) rest
+integer_reads : (v : ℤ) (l : ℕ) (ts rest : List Token) → AreWords ts (Numbered v l ∷ []) → integer (ts ++ rest) ≡ got (leaf (tf.Literal (literal.Int v) l)) rest
 integer_reads v l ts rest k =
     let f = first ts (Numbered v l) [] k in
     int_by v l (number_in f.token) ts rest f.is.0 k
@@ -160,14 +161,14 @@ module _ (room below : ℕ) (deeper : room ≡ below + 1) (parts : Parts)
   abbrev unary_here : Reader Deep
   unary_here = unary room parts
 
-  int_case : (v : ℤ) (l : ℕ) (ts rest : List Token) → AreWords ts (tf_words (tf.Int v l)) → unary_here (ts ++ rest) ≡ got (deep (tf.Int v l)) rest
+  int_case : (v : ℤ) (l : ℕ) (ts rest : List Token) → AreWords ts (tf_words (tf.Literal (literal.Int v) l)) → unary_here (ts ++ rest) ≡ got (deep (tf.Literal (literal.Int v) l)) rest
   unfolding unary primary
   int_case v l ts rest h =
-      let k : AreWords ts (Numbered v l ∷ []) = subst (λ (w : List Word). AreWords ts w) (eq.words-Int v l) h in
+      let k : AreWords ts (Numbered v l ∷ []) = subst (λ (w : List Word). AreWords ts w) (eq.words-Literal (literal.Int v) l) h in
       rw (test_fails (codes "-") (ts ++ rest) (number_fails v l (codes "-") ts rest [] k))
       (rw (number_fails v l (codes "old") ts rest [] k)
       (rw (test_fails (codes "(") (ts ++ rest) (number_fails v l (codes "(") ts rest [] k))
-      (integer_reads v l ts rest k ∙ read_is (tf.Int v l) 1 rest (depth_is (eq.shape-Int v l)))))
+      (integer_reads v l ts rest k ∙ read_is (tf.Literal (literal.Int v) l) 1 rest (depth_is (eq.shape-Literal (literal.Int v) l)))))
 
   path_case : (ns : List Name) (l : ℕ) → Fit 3 (tf.Path ns l) → (ts rest : List Token) → AreWords ts (tf_words (tf.Path ns l))
       → next (is (codes ".")) rest ≡ false → unary_here (ts ++ rest) ≡ got (deep (tf.Path ns l)) rest
@@ -242,8 +243,10 @@ module _ (room below : ℕ) (deeper : room ≡ below + 1) (parts : Parts)
       → unary_here (ts ++ rest) ≡ got (deep x) rest
   unary_variant (Tf-F.Null l) x is fit ts rest h stops = absurd
       (too_loose x _ (ap tf_shape (sym is ∙ tf.rolls-Null l) ∙ eq.shape-Null l) (omega arith) fit)
-  unary_variant (Tf-F.Int v l) x is fit ts rest h stops =
-      let back : tf.Int v l ≡ x = sym (tf.rolls-Int v l) ∙ is in
+  unary_variant (Tf-F.Literal (literal.Text v) l) x is fit ts rest h stops = absurd
+      (too_loose x _ (ap tf_shape (sym is ∙ tf.rolls-Literal (literal.Text v) l) ∙ eq.shape-Literal (literal.Text v) l) (omega arith) fit)
+  unary_variant (Tf-F.Literal (literal.Int v) l) x is fit ts rest h stops =
+      let back : tf.Literal (literal.Int v) l ≡ x = sym (tf.rolls-Literal (literal.Int v) l) ∙ is in
       subst (λ (z : Tf). unary_here (ts ++ rest) ≡ got (deep z) rest) back
       (int_case v l ts rest (subst (λ (z : Tf). AreWords ts (tf_words z)) (sym back) h))
   unary_variant (Tf-F.Path ns l) x is fit ts rest h stops =
@@ -384,7 +387,10 @@ module _ (room below : ℕ) (deeper : room ≡ below + 1) (parts : Parts)
     row_form : (m : ℕ) → RowTo m → (o : Tf-F Tf) (x : Tf) → roll-Tf o ≡ x → (tf_shape x).depth ≤ suc m → Fit (tightness level) x → Row x
     row_form m to (Tf-F.Null l) x is le fit = absurd
         (null_none x (ap (λ (s : Shape). s.level) (ap tf_shape (sym is ∙ tf.rolls-Null l) ∙ eq.shape-Null l)) fit)
-    row_form m to (Tf-F.Int v l) x is le fit = row_base x (raise x _ (ap tf_shape (sym is ∙ tf.rolls-Int v l) ∙ eq.shape-Int v l) (omega arith) fit)
+    row_form m to (Tf-F.Literal (literal.Text v) l) x is le fit = absurd
+        (null_none x (ap (λ (s : Shape). s.level) (ap tf_shape (sym is ∙ tf.rolls-Literal (literal.Text v) l) ∙ eq.shape-Literal (literal.Text v) l)) fit)
+    row_form m to (Tf-F.Literal (literal.Int v) l) x is le fit = row_base x
+        (raise x _ (ap tf_shape (sym is ∙ tf.rolls-Literal (literal.Int v) l) ∙ eq.shape-Literal (literal.Int v) l) (omega arith) fit)
     row_form m to (Tf-F.Path ns l) x is le fit = row_base x
         (raise x _ (ap tf_shape (sym is ∙ tf.rolls-Path ns l) ∙ eq.shape-Path ns l) (omega arith) fit)
     row_form m to (Tf-F.Parens y l) x is le fit = row_base x
@@ -468,9 +474,12 @@ no_null_form : (m : ℕ) → NoNull m → (o : Tf-F Tf) (x : Tf) → roll-Tf o �
 no_null_form m to (Tf-F.Null l) x at le fit ts rest h =
     let level : (tf_shape x).level ≡ 0 = ap (λ (s : Shape). s.level) (ap tf_shape (sym at ∙ tf.rolls-Null l) ∙ eq.shape-Null l) in
     absurd (omega (arith, fit.tight))
-no_null_form m to (Tf-F.Int v l) x at le fit ts rest h =
+no_null_form m to (Tf-F.Literal (literal.Text v) l) x at le fit ts rest h =
+    let level : (tf_shape x).level ≡ 0 = ap (λ (s : Shape). s.level) (ap tf_shape (sym at ∙ tf.rolls-Literal (literal.Text v) l) ∙ eq.shape-Literal (literal.Text v) l) in
+    absurd (omega (arith, fit.tight))
+no_null_form m to (Tf-F.Literal (literal.Int v) l) x at le fit ts rest h =
     number_fails v l (codes "null") ts rest []
-    (subst (λ (w : List Word). AreWords ts w) (ap tf_words (sym at ∙ tf.rolls-Int v l) ∙ eq.words-Int v l) h)
+    (subst (λ (w : List Word). AreWords ts w) (ap tf_words (sym at ∙ tf.rolls-Literal (literal.Int v) l) ∙ eq.words-Literal (literal.Int v) l) h)
 no_null_form m to (Tf-F.Path ns l) x at le fit ts rest h =
     head_fails (codes "old") (codes "null") ts rest _
     (weak ts (codes "old") l _ (subst (λ (w : List Word). AreWords ts w) (ap tf_words (sym at ∙ tf.rolls-Path ns l) ∙ eq.words-Path ns l) h)) refl
@@ -522,8 +531,12 @@ value_form : (o : Tf-F Tf) (x : Tf) → roll-Tf o ≡ x → IsTf x → (ts rest 
 value_form (Tf-F.Null l) x at is ts rest h stops =
     let back : tf.Null l ≡ x = sym (tf.rolls-Null l) ∙ at in
     subst (λ (z : Tf). value (ts ++ rest) ≡ gives z rest) back (null_case l ts rest (subst (λ (z : Tf). AreWords ts (tf_words z)) (sym back) h))
-value_form (Tf-F.Int v l) x at is ts rest h stops = sum_case x
-    (raised x _ (ap tf_shape (sym at ∙ tf.rolls-Int v l) ∙ eq.shape-Int v l) (omega arith) is) ts rest h stops
+value_form (Tf-F.Literal (literal.Text v) l) x at is ts rest h stops =
+    let k : AreWords ts (Quoted v l ∷ []) = subst (λ (w : List Word). AreWords ts w) (ap tf_words (sym at ∙ tf.rolls-Literal (literal.Text v) l) ∙ eq.words-Literal (literal.Text v) l) h in
+    let f = first ts (Quoted v l) [] k in
+    absurd f.is
+value_form (Tf-F.Literal (literal.Int v) l) x at is ts rest h stops = sum_case x
+    (raised x _ (ap tf_shape (sym at ∙ tf.rolls-Literal (literal.Int v) l) ∙ eq.shape-Literal (literal.Int v) l) (omega arith) is) ts rest h stops
 value_form (Tf-F.Path ns l) x at is ts rest h stops = sum_case x
     (raised x _ (ap tf_shape (sym at ∙ tf.rolls-Path ns l) ∙ eq.shape-Path ns l) (omega arith) is) ts rest h stops
 value_form (Tf-F.Parens y l) x at is ts rest h stops = sum_case x
