@@ -31,18 +31,18 @@ as_reference (value.Text w) = value.Null
 -- ---- types
 
 -- What is known of the values of a type.
-pub record Kind : Type 0 where
+pub record TypeRow : Type 0 where
   -- the value with which a field of the type begins, and the result of a method that ends without one
   pub begins : Value
   -- what a value counts as in a field of the type: itself, where it is of the type's kind
   pub counts : Value → Value
 
-abbrev pub kind_of : ExprType → Kind
-kind_of type.Int = record { begins = value.Int (pos 0); counts = as_int }
-kind_of type.Text = record { begins = value.Text []; counts = as_text }
-kind_of (type.Class c) = record { begins = value.Null; counts = as_reference }
-kind_of type.Null = record { begins = value.Null; counts = λ _. value.Null }
-kind_of type.Untold = record { begins = value.Null; counts = λ _. value.Null }
+abbrev pub row_of : ExprType → TypeRow
+row_of type.Int = record { begins = value.Int (pos 0); counts = as_int }
+row_of type.Text = record { begins = value.Text []; counts = as_text }
+row_of (type.Class c) = record { begins = value.Null; counts = as_reference }
+row_of type.Null = record { begins = value.Null; counts = λ _. value.Null }
+row_of type.Untold = record { begins = value.Null; counts = λ _. value.Null }
 
 -- ---- literals
 

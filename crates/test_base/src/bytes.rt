@@ -129,7 +129,7 @@ const SPELLED: &[u8] = &[
 const NO_VALUES: &[(&[u8], ReadFault)] = &[
     (&[], ReadFault::Short),
     (&[0], ReadFault::BadTag),
-    (&[4], ReadFault::BadTag),
+    (&[5], ReadFault::BadTag),
     (&[1, 0], ReadFault::Short),
     (&[2, 8], ReadFault::BadTag),
     (&[2, 7, 0, 1], ReadFault::BadTag),

@@ -6,8 +6,8 @@ use Rattle.std.proofs.lemmas.List.{length-append, length-take, take_all, take_at
 use Rattle.std.proofs.lemmas.List.Folds.{list_all-append}
 use Rattle.std.proofs.Math.Seq.{take-append-add}
 use Rattle.thor_value.specs.Formats.{BeginsOne, ◌>>=◌}
-use Rattle.thor_value.specs.Words.{is_letter, is_word}
-use Rattle.thor_value.specs.Reading.{below_at, letters_at, word_at}
+use Rattle.thor_value.specs.Words.{is_text_byte, fits_word}
+use Rattle.thor_value.specs.Reading.{below_at, word_bytes_at, word_at}
 use Rattle.thor_value.specs.Spelling.{word_bytes}
 use Rattle.thor_value.specs.declared.bytes.ReadFault.{ReadFault}
 use Rattle.thor_value.specs.declared.bytes.ReadFault.TheVariants.{Short, BadTag}
@@ -32,20 +32,20 @@ then_false : (b c : Bool) → c ≡ false → (b && c) ≡ false
 then_false true c e = e
 then_false false c e = refl
 
-pub few_letters : (w : List ℕ) → is_word w ≡ true → length w ≤ 32
-few_letters w e = leb-true (length w) 32 (both_true (leb (length w) 32) (list_all is_letter w) e).0
+pub few_letters : (w : List ℕ) → fits_word w ≡ true → length w ≤ 32
+few_letters w e = leb-true (length w) 32 (both_true (leb (length w) 32) (list_all is_text_byte w) e).0
 
-pub all_letters : (w : List ℕ) → is_word w ≡ true → list_all is_letter w ≡ true
-all_letters w e = (both_true (leb (length w) 32) (list_all is_letter w) e).1
+pub all_letters : (w : List ℕ) → fits_word w ≡ true → list_all is_text_byte w ≡ true
+all_letters w e = (both_true (leb (length w) 32) (list_all is_text_byte w) e).1
 
-pub makes_word : (w : List ℕ) → length w ≤ 32 → list_all is_letter w ≡ true → is_word w ≡ true
-makes_word w few all = and_from (leb (length w) 32) (list_all is_letter w) (le-leb (length w) 32 few) all
+pub makes_word : (w : List ℕ) → length w ≤ 32 → list_all is_text_byte w ≡ true → fits_word w ≡ true
+makes_word w few all = and_from (leb (length w) 32) (list_all is_text_byte w) (le-leb (length w) 32 few) all
 
-no_letters : (w : List ℕ) → length w ≤ 32 → is_word w ≡ false → list_all is_letter w ≡ false
-no_letters w few e = second_false (leb (length w) 32) (list_all is_letter w) (le-leb (length w) 32 few) e
+no_letters : (w : List ℕ) → length w ≤ 32 → fits_word w ≡ false → list_all is_text_byte w ≡ false
+no_letters w few e = second_false (leb (length w) 32) (list_all is_text_byte w) (le-leb (length w) 32 few) e
 
-no_word : (w : List ℕ) → list_all is_letter w ≡ false → is_word w ≡ false
-no_word w e = then_false (leb (length w) 32) (list_all is_letter w) e
+no_word : (w : List ℕ) → list_all is_text_byte w ≡ false → fits_word w ≡ false
+no_word w e = then_false (leb (length w) 32) (list_all is_text_byte w) e
 
 -- so many letters
 letters : ℕ → List ℕ
@@ -56,7 +56,7 @@ length-letters : (n : ℕ) → length (letters n) ≡ n
 length-letters zero = refl
 length-letters (suc n) = ap suc (length-letters n)
 
-letters_are : (n : ℕ) → list_all is_letter (letters n) ≡ true
+letters_are : (n : ℕ) → list_all is_text_byte (letters n) ≡ true
 letters_are zero = refl
 letters_are (suc n) = letters_are n
 
@@ -80,39 +80,39 @@ bad_is_not_short e = cc
 
 -- a text of so many bytes
 abbrev HasLetters : ℕ → List ℕ → Type 0
-HasLetters n w = (is_word w ≡ true) × (length w ≡ n)
+HasLetters n w = (fits_word w ≡ true) × (length w ≡ n)
 
-letters_found : (n : ℕ) (bytes : List ℕ) (x : Read) → IsBytes bytes → letters_at n bytes ≡ Ok x → HasLetters n x.0 × (bytes ≡ x.0 ++ x.1)
+letters_found : (n : ℕ) (bytes : List ℕ) (x : Read) → IsBytes bytes → word_bytes_at n bytes ≡ Ok x → HasLetters n x.0 × (bytes ≡ x.0 ++ x.1)
 letters_found n bytes x b e =
-    let p = chosen_ok (is_word (take n bytes)) (ltb (length bytes) n) (take n bytes, drop n bytes) x e in
+    let p = chosen_ok (fits_word (take n bytes)) (ltb (length bytes) n) (take n bytes, drop n bytes) x e in
     let long : n ≤ length bytes = ltb-false (length bytes) n p.1 in
     subst (λ (y : Read). HasLetters n y.0 × (bytes ≡ y.0 ++ y.1)) p.2 ((p.0, omega (arith, length-take n bytes, long)), sym (take-append-drop n bytes))
 
-letters_again : (n : ℕ) (w rest : List ℕ) → HasLetters n w → letters_at n (w ++ rest) ≡ Ok (w, rest)
+letters_again : (n : ℕ) (w rest : List ℕ) → HasLetters n w → word_bytes_at n (w ++ rest) ≡ Ok (w, rest)
 letters_again n w rest h =
     let long : ltb (length (w ++ rest)) n ≡ false = le-ltb (length (w ++ rest)) n (omega (arith, length-append w rest, h.1)) in
     rw (take_at w rest n h.1, drop_at w rest n h.1, h.0, long) refl
 
-begun : (n : ℕ) (bytes : List ℕ) → n ≤ 32 → is_word bytes ≡ true → length bytes < n → BeginsOne (HasLetters n) (λ w. w) bytes
+begun : (n : ℕ) (bytes : List ℕ) → n ≤ 32 → fits_word bytes ≡ true → length bytes < n → BeginsOne (HasLetters n) (λ w. w) bytes
 begun n bytes few word lt =
     let more = letters (n - length bytes) in
     let long : length (bytes ++ more) ≡ n = omega (arith, length-append bytes more, length-letters (n - length bytes), lt) in
-    let all : list_all is_letter (bytes ++ more) ≡ true = list_all-append is_letter bytes more ∙ and_from (list_all is_letter bytes) (list_all is_letter more) (all_letters bytes word) (letters_are (n - length bytes)) in
+    let all : list_all is_text_byte (bytes ++ more) ≡ true = list_all-append is_text_byte bytes more ∙ and_from (list_all is_text_byte bytes) (list_all is_text_byte more) (all_letters bytes word) (letters_are (n - length bytes)) in
     (bytes ++ more, more, (makes_word (bytes ++ more) (omega (arith, long, few)) all, long), refl, omega (arith, length-letters (n - length bytes), lt))
 
-letters_begin : (n : ℕ) → n ≤ 32 → (bytes : List ℕ) → IsBytes bytes → letters_at n bytes ≡ Err Short → BeginsOne (HasLetters n) (λ w. w) bytes
+letters_begin : (n : ℕ) → n ≤ 32 → (bytes : List ℕ) → IsBytes bytes → word_bytes_at n bytes ≡ Err Short → BeginsOne (HasLetters n) (λ w. w) bytes
 letters_begin n few bytes b e =
-    elim (chosen_err (is_word (take n bytes)) (ltb (length bytes) n) (take n bytes, drop n bytes) Short e) [
+    elim (chosen_err (fits_word (take n bytes)) (ltb (length bytes) n) (take n bytes, drop n bytes) Short e) [
       | inl s ↦
           let lt : length bytes < n = ltb-true (length bytes) n s.1 in
-          begun n bytes few (ap is_word (sym (take_all n bytes (omega (arith, lt)))) ∙ s.0) lt
+          begun n bytes few (ap fits_word (sym (take_all n bytes (omega (arith, lt)))) ∙ s.0) lt
       | inr t ↦ absurd (bad_is_not_short t.1)
     ]
 
 -- behind bytes that are no letters, whatever follows
-cut_off : (n : ℕ) (bytes more : List ℕ) → n ≤ 32 → is_word (take n bytes) ≡ false → is_word (take n (bytes ++ more)) ≡ false
+cut_off : (n : ℕ) (bytes more : List ℕ) → n ≤ 32 → fits_word (take n bytes) ≡ false → fits_word (take n (bytes ++ more)) ≡ false
 cut_off n bytes more few e =
-    let none : list_all is_letter (take n bytes) ≡ false = no_letters (take n bytes) (omega (arith, length-take n bytes, few)) e in
+    let none : list_all is_text_byte (take n bytes) ≡ false = no_letters (take n bytes) (omega (arith, length-take n bytes, few)) e in
     let parts : bytes ++ more ≡ take n bytes ++ (drop n bytes ++ more) = ap (λ (t : List ℕ). t ++ more) (sym (take-append-drop n bytes)) ∙ append_assoc (take n bytes) (drop n bytes) more in
     let rest : List ℕ = take (n - length (take n bytes)) (drop n bytes ++ more) in
     let count : n ≡ length (take n bytes) + (n - length (take n bytes)) = omega (arith, length-take n bytes) in
@@ -120,17 +120,17 @@ cut_off n bytes more few e =
     ap (λ (t : List ℕ). take n t) parts
     ∙ ap (λ (k : ℕ). take k (take n bytes ++ (drop n bytes ++ more))) count
     ∙ take-append-add (take n bytes) (drop n bytes ++ more) (n - length (take n bytes)) in
-    let all : list_all is_letter (take n bytes ++ rest) ≡ false = list_all-append is_letter (take n bytes) rest ∙ first_false (list_all is_letter (take n bytes)) (list_all is_letter rest) none in
-    ap is_word cut ∙ no_word (take n bytes ++ rest) all
+    let all : list_all is_text_byte (take n bytes ++ rest) ≡ false = list_all-append is_text_byte (take n bytes) rest ∙ first_false (list_all is_text_byte (take n bytes)) (list_all is_text_byte rest) none in
+    ap fits_word cut ∙ no_word (take n bytes ++ rest) all
 
-letters_stay : (n : ℕ) → n ≤ 32 → (bytes more : List ℕ) (d : ReadFault) → IsBytes bytes → letters_at n bytes ≡ Err d → (d ≡ Short → ⊥) → letters_at n (bytes ++ more) ≡ Err d
+letters_stay : (n : ℕ) → n ≤ 32 → (bytes more : List ℕ) (d : ReadFault) → IsBytes bytes → word_bytes_at n bytes ≡ Err d → (d ≡ Short → ⊥) → word_bytes_at n (bytes ++ more) ≡ Err d
 letters_stay n few bytes more d b e other =
-    elim (chosen_err (is_word (take n bytes)) (ltb (length bytes) n) (take n bytes, drop n bytes) d e) [
+    elim (chosen_err (fits_word (take n bytes)) (ltb (length bytes) n) (take n bytes, drop n bytes) d e) [
       | inl s ↦ absurd (other (sym s.2))
       | inr t ↦ rw (cut_off n bytes more few t.0) (ap (λ (f : ReadFault). Err f) t.1)
     ]
 
-exact_letters : (n : ℕ) → n ≤ 32 → IsExact (HasLetters n) (λ w. w) Short (letters_at n)
+exact_letters : (n : ℕ) → n ≤ 32 → IsExact (HasLetters n) (λ w. w) Short (word_bytes_at n)
 exact_letters n few = record { found = letters_found n; again = letters_again n; begins = letters_begin n few; stays = letters_stay n few }
 
 -- ---- a text
@@ -138,10 +138,10 @@ exact_letters n few = record { found = letters_found n; again = letters_again n;
 exact_count : IsExact (λ b. b < 33) (λ b. b ∷ []) Short (below_at 33)
 exact_count = exact_byte Short (λ b. ltb b 33) (λ _. BadTag) (λ b. b < 33) (λ b h. lt-ltb b 33 h) (λ b h. ltb-true b 33 h) (0, omega arith) (λ b e. bad_is_not_short e)
 
-pub exact_word : IsExact (λ w. is_word w ≡ true) word_bytes Short word_at
+pub exact_word : IsExact (λ w. fits_word w ≡ true) word_bytes Short word_at
 unfolding word_at
 exact_word =
-    exact_then (λ b. b < 33) (λ b. b ∷ []) (λ w. is_word w ≡ true) (λ w. w) word_bytes length Short (below_at 33) letters_at
+    exact_then (λ b. b < 33) (λ b. b ∷ []) (λ w. fits_word w ≡ true) (λ w. w) word_bytes length Short (below_at 33) word_bytes_at
     exact_count
     (λ n h. exact_letters n (omega (arith, h)))
     (λ w h. let few = few_letters w h in (omega (arith, few), refl))
@@ -150,9 +150,9 @@ exact_word =
 -- ---- what the reader does
 
 -- where the bytes end too early
-pub letters_cut : (n : ℕ) (bytes : List ℕ) → length bytes < n → letters_at n bytes ≡ cond (is_word bytes) (Err Short) (Err BadTag)
+pub letters_cut : (n : ℕ) (bytes : List ℕ) → length bytes < n → word_bytes_at n bytes ≡ cond (fits_word bytes) (Err Short) (Err BadTag)
 letters_cut n bytes lt = rw (take_all n bytes (omega (arith, lt)), lt-ltb (length bytes) n lt) refl
 
 -- where there are enough
-pub letters_there : (n : ℕ) (bytes : List ℕ) → n ≤ length bytes → letters_at n bytes ≡ cond (is_word (take n bytes)) (Ok (take n bytes, drop n bytes)) (Err BadTag)
+pub letters_there : (n : ℕ) (bytes : List ℕ) → n ≤ length bytes → word_bytes_at n bytes ≡ cond (fits_word (take n bytes)) (Ok (take n bytes, drop n bytes)) (Err BadTag)
 letters_there n bytes le = rw (le-ltb (length bytes) n le) refl

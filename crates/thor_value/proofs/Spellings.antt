@@ -9,7 +9,7 @@ use Rattle.std.proofs.lemmas.Int.{to_z-of_z, of_z-to_z}
 use Rattle.std.proofs.Math.Facts.{sfits_to_z, Fits-of_lt, Fits-of_z}
 use Rattle.thor_value.specs.Reading.{number_at, below_at, page_at, oref_at, time_at, ts_at, is_tag, tag_at, behind_tag, value_at, word_at}
 use Rattle.thor_value.specs.Spelling.{OrefFits, oref_bytes, TsFits, ts_bytes, ValueFits, value_bytes, word_bytes}
-use Rattle.thor_value.specs.Words.{is_word}
+use Rattle.thor_value.specs.Words.{fits_word}
 use Rattle.thor_value.specs.declared.names.Ts.{Ts}
 use Rattle.thor_value.specs.declared.values.Value.{Value}
 use Rattle.thor_value.specs.declared.values.Value.TheVariants.{Int, Ref, Null, Text}
@@ -280,7 +280,7 @@ word_only t n e (Ref o) h = absurd (omega (arith, e, h.0.1))
 word_only t n e Null h = absurd (omega (arith, e, h.0.1))
 word_only t n e (Text w) h = ap (λ (y : List ℕ). Text y) h.1
 
-word_keyed : (t : ℕ) → t ≡ 4 → (v : Value) → ValueFits v × (tag_of v ≡ t) → (is_word (word_in v) ≡ true) × (tail_of v ≡ word_bytes (word_in v) ++ [])
+word_keyed : (t : ℕ) → t ≡ 4 → (v : Value) → ValueFits v × (tag_of v ≡ t) → (fits_word (word_in v) ≡ true) × (tail_of v ≡ word_bytes (word_in v) ++ [])
 word_keyed t e (Int z) h = absurd (omega (arith, e, h.1))
 word_keyed t e (Ref o) h = absurd (omega (arith, e, h.1))
 word_keyed t e Null h = absurd (omega (arith, e, h.1))
@@ -288,7 +288,7 @@ word_keyed t e (Text w) h = (h.0, sym (append-nil (word_bytes w)))
 
 word_exact : (t : ℕ) → t ≡ 4 → IsExact (λ v. ValueFits v × (tag_of v ≡ t)) tail_of Short (λ rest. word_at rest >>= λ w. Ok (Text w.0, w.1))
 word_exact t e =
-    exact_then (λ w. is_word w ≡ true) word_bytes (λ v. ValueFits v × (tag_of v ≡ t)) (λ _. []) tail_of word_in Short word_at (λ w rest. Ok (Text w, rest))
+    exact_then (λ w. fits_word w ≡ true) word_bytes (λ v. ValueFits v × (tag_of v ≡ t)) (λ _. []) tail_of word_in Short word_at (λ w rest. Ok (Text w, rest))
     exact_word
     (λ w hw. exact_done (λ v. (ValueFits v × (tag_of v ≡ t)) × (word_in v ≡ w)) Short (Text w) ((hw, sym e), refl) (word_only t w e))
     (word_keyed t e)

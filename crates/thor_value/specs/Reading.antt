@@ -3,7 +3,7 @@
 use Rattle.std.specs.Prelude.{ℕ, zero, suc, List, [], ◌∷◌, length, take, drop, Result, Ok, Err, nat_lt, if◌then◌else◌, Bool, false}
 use Rattle.std.specs.Int.{Width, w16, w32, w64, byte_len, from_be_bytes, cast_signed}
 use Rattle.thor_value.specs.Formats.{◌>>=◌}
-use Rattle.thor_value.specs.Words.{is_word}
+use Rattle.thor_value.specs.Words.{fits_word}
 use Rattle.thor_value.specs.declared.names.Oref.{Oref}
 use Rattle.thor_value.specs.declared.names.Ts.{Ts}
 use Rattle.thor_value.specs.declared.values.Value.{Value}
@@ -60,15 +60,15 @@ abbrev pub tag_at : List ℕ → Result (ℕ × List ℕ) ReadFault
 tag_at bytes = byte_at Short is_tag (λ _. BadTag) bytes
 
 -- so many bytes of a text, of which those that are there come first
-abbrev pub letters_at : ℕ → List ℕ → Result (List ℕ × List ℕ) ReadFault
-letters_at count bytes =
-    if is_word (take count bytes) then (if nat_lt (length bytes) count then Err Short else Ok (take count bytes, drop count bytes)) else Err BadTag
+abbrev pub word_bytes_at : ℕ → List ℕ → Result (List ℕ × List ℕ) ReadFault
+word_bytes_at count bytes =
+    if fits_word (take count bytes) then (if nat_lt (length bytes) count then Err Short else Ok (take count bytes, drop count bytes)) else Err BadTag
 
 -- a text of at most 32 bytes
 unfoldable pub word_at : List ℕ → Result (List ℕ × List ℕ) ReadFault
 word_at bytes = do
   count ← below_at 33 bytes
-  letters_at count.0 count.1
+  word_bytes_at count.0 count.1
 
 -- what stands behind that byte
 unfoldable pub behind_tag : ℕ → List ℕ → Result (Value × List ℕ) ReadFault

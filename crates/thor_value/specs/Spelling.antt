@@ -6,7 +6,7 @@ use Rattle.thor_value.specs.declared.names.Oref.{Oref}
 use Rattle.thor_value.specs.declared.names.Ts.{Ts}
 use Rattle.thor_value.specs.declared.values.Value.{Value}
 use Rattle.thor_value.specs.declared.values.Value.TheVariants.{Int, Ref, Null, Text}
-use Rattle.thor_value.specs.Words.{is_word}
+use Rattle.thor_value.specs.Words.{fits_word}
 
 -- the names that a store can have: up to 8 repositories, 65,536 pages in each, 12 slots in each
 pub record OrefFits (o : Oref) : Type 0 where
@@ -32,7 +32,7 @@ abbrev pub ValueFits : Value → Type 0
 ValueFits (Int z) = FitsSigned w64 z
 ValueFits (Ref o) = OrefFits o
 ValueFits Null = Unit {0}
-ValueFits (Text w) = is_word w ≡ true
+ValueFits (Text w) = fits_word w ≡ true
 
 -- a name: one byte of repository, four of page, one of slot
 abbrev pub oref_bytes : Oref → List ℕ

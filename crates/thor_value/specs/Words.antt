@@ -5,31 +5,31 @@ use Rattle.std.specs.List.{list_all}
 use Rattle.thor_value.specs.declared.words.Word.TheInside.{Inside}
 
 -- the most bytes of a text
-abbrev pub most_letters : ℕ
-most_letters = 32
+abbrev pub most_word_bytes : ℕ
+most_word_bytes = 32
 
 -- a byte that a text can have: it can be printed, and is no quotation mark
-abbrev pub is_letter : ℕ → Bool
-is_letter b = (nat_le 32 b && nat_le b 126) && not (b == 34)
+abbrev pub is_text_byte : ℕ → Bool
+is_text_byte b = (nat_le 32 b && nat_le b 126) && not (b == 34)
 
 -- whether bytes are those of a text
-abbrev pub is_word : List ℕ → Bool
-is_word bytes = nat_le (length bytes) most_letters && list_all is_letter bytes
+abbrev pub fits_word : List ℕ → Bool
+fits_word bytes = nat_le (length bytes) most_word_bytes && list_all is_text_byte bytes
 
 -- the text that bytes are, where they are one
 abbrev pub word_from : List ℕ → Option (List ℕ)
-word_from bytes = if is_word bytes then Some bytes else None
+word_from bytes = if fits_word bytes then Some bytes else None
 
 -- a text as it lies in memory: behind its bytes stand zeros
 abbrev pub padded : List ℕ → List ℕ
-padded bytes = bytes ++ replicate (most_letters - length bytes) 0
+padded bytes = bytes ++ replicate (most_word_bytes - length bytes) 0
 
 -- the bytes of a text as it lies in memory
-abbrev pub letters_of : Inside → List ℕ
-letters_of w = take w.len w.room
+abbrev pub bytes_in : Inside → List ℕ
+bytes_in w = take w.len w.room
 
 -- what holds of each text in memory
 pub record IsPadded (w : Inside) : Type 0 where
   pub room : w.room ≡ padded (take w.len w.room)
   pub len : w.len ≡ length (take w.len w.room)
-  pub word : is_word (take w.len w.room) ≡ true
+  pub word : fits_word (take w.len w.room) ≡ true

@@ -5,8 +5,8 @@ ghost use Rattle.std.specs.Int.{w16, w32, w64};
 ghost use Rattle.thor_value.specs.Formats.{AreApart, BeginsOne, BeginsWithOne, Counts, Gives, IsAtFront};
 ghost use Rattle.thor_value.specs.Spelling.{NameFits, OrefFits, TsFits, ValueFits, oref_bytes, ts_bytes, value_bytes};
 ghost use Rattle.thor_value.specs.declared.values.Value.TheVariants.{Text as TextOf};
-ghost use Rattle.thor_value.specs.Words.{is_word};
-ghost use Rattle.thor_value.specs.Reading.{behind_tag, below_at, letters_at, number_at, oref_at, page_at, tag_at, time_at, ts_at, value_at, word_at};
+ghost use Rattle.thor_value.specs.Words.{fits_word};
+ghost use Rattle.thor_value.specs.Reading.{behind_tag, below_at, word_bytes_at, number_at, oref_at, page_at, tag_at, time_at, ts_at, value_at, word_at};
 
 use crate::lists::Text;
 use crate::memory::NoMemory;
@@ -218,11 +218,11 @@ fn word_of(bytes: &[u8]) -> Result<(Word, &[u8]), ReadFault>
     ensures { Gives (λ x. (x.0, x.1.now)) result (word_at bytes.now) }
 {
     let (count, rest) = below_of(bytes, 33)?;
-    letters_of(count, rest)
+    word_bytes_of(count, rest)
 }
 
-fn letters_of(count: u8, bytes: &[u8]) -> Result<(Word, &[u8]), ReadFault>
-    ensures { Gives (λ x. (x.0, x.1.now)) result (letters_at count bytes.now) }
+fn word_bytes_of(count: u8, bytes: &[u8]) -> Result<(Word, &[u8]), ReadFault>
+    ensures { Gives (λ x. (x.0, x.1.now)) result (word_bytes_at count bytes.now) }
 {
     let count = count as usize;
     if bytes.len() < count {
@@ -237,7 +237,7 @@ fn letters_of(count: u8, bytes: &[u8]) -> Result<(Word, &[u8]), ReadFault>
 
 /// What is wrong where the bytes of a text end too early.
 fn cut_fault(bytes: &[u8]) -> ReadFault
-    ensures { result ≡ if is_word bytes.now then ReadFault.Short else ReadFault.BadTag }
+    ensures { result ≡ if fits_word bytes.now then ReadFault.Short else ReadFault.BadTag }
 {
     match Word::new(bytes) {
         Some(_) => ReadFault::Short,

@@ -4,13 +4,13 @@ ghost use Rattle.std.specs.Prelude.{◌≡◌, ◌≤◌, ℕ, List, [], length,
 ghost use Rattle.std.specs.List.{list_all};
 ghost use Rattle.std.specs.Cmp.{on_equiv, on_per, partial_equiv_from_equiv};
 ghost use Rattle.std.specs.Cmp.Lexicographic.{pointwise, nat_list_eq_equiv};
-ghost use Rattle.thor_value.specs.Words.{is_letter, is_word, padded, word_from};
+ghost use Rattle.thor_value.specs.Words.{is_text_byte, fits_word, padded, word_from};
 
 use std::fmt;
 use std::marker::Model;
 
 /// The most bytes of a text.
-const MOST_LETTERS: usize = 32;
+const MOST_BYTES: usize = 32;
 
 /// A text that a field, a local or an expression holds: at most 32 bytes, each from 32 to 126 and none of them 34. It
 /// is copied like a number, and contracts see it as the list of its bytes.
@@ -28,9 +28,9 @@ impl Model for Word {
 
     ghost coded = { coded_list coded_ℕ };
 
-    ghost use Rattle.thor_value.specs.Words.{IsPadded, letters_of, padded};
+    ghost use Rattle.thor_value.specs.Words.{IsPadded, bytes_in, padded};
 
-    ghost view = { letters_of };
+    ghost view = { bytes_in };
 
     ghost invariant = { IsPadded };
 
@@ -55,7 +55,7 @@ impl Word {
     pub fn new(bytes: &[u8]) -> Option<Word>
         ensures { result ≡ word_from bytes.now }
     {
-        if bytes.len() > MOST_LETTERS || !are_letters(bytes) {
+        if bytes.len() > MOST_BYTES || !are_text_bytes(bytes) {
             return None;
         }
         Some(Word {
@@ -67,7 +67,7 @@ impl Word {
     /// Its bytes.
     pub fn bytes(&self) -> &[u8]
         ensures bytes { result.now ≡ self.now }
-        ensures word { is_word self.now ≡ true }
+        ensures word { fits_word self.now ≡ true }
     {
         self.room.split_at(self.len as usize).0
     }
@@ -102,16 +102,16 @@ impl fmt::Debug for Word {
     }
 }
 
-fn is_letter(byte: u8) -> bool
-    ensures { result ≡ is_letter byte }
+fn is_text_byte(byte: u8) -> bool
+    ensures { result ≡ is_text_byte byte }
 {
     byte >= 32 && byte <= 126 && byte != 34
 }
 
-fn are_letters(bytes: &[u8]) -> bool
-    ensures { result ≡ list_all is_letter bytes.now }
+fn are_text_bytes(bytes: &[u8]) -> bool
+    ensures { result ≡ list_all is_text_byte bytes.now }
 {
-    bytes.iter().all(|byte| is_letter(*byte))
+    bytes.iter().all(|byte| is_text_byte(*byte))
 }
 
 /// Bytes in their room, with zeros behind them.
