@@ -161,4 +161,4 @@ pub out_call : (receiver : Expr) (method : Name) (arguments : List Expr) → out
 out_call receiver method arguments = ap out-Expr (sym (expr.rolls-Call receiver method arguments)) ∙ out-roll-Expr (Expr-F.Call receiver method arguments)
 
 -- the forms of both
-pub ruleset the_forms = (judged_int, judged_null, judged_this, judged_field, judged_variable, judged_new, judged_parens, judged_negate, judged_binary, judged_call, ruled_var, names_var, ruled_assign, names_assign, ruled_field_assign, names_field_assign, ruled_return, names_return, ruled_if, names_if, ruled_if_else, names_if_else, ruled_while, names_while, ruled_print, names_print, ruled_evaluate, names_evaluate, out_int, out_null, out_this, out_field, out_variable, out_new, out_parens, out_negate, out_binary, out_call)
+pub ruleset the_forms = (judged_literal, judged_null, judged_this, judged_field, judged_variable, judged_new, judged_parens, judged_negate, judged_binary, judged_call, ruled_var, names_var, ruled_assign, names_assign, ruled_field_assign, names_field_assign, ruled_return, names_return, ruled_if, names_if, ruled_if_else, names_if_else, ruled_while, names_while, ruled_print, names_print, ruled_evaluate, names_evaluate, out_literal, out_null, out_this, out_field, out_variable, out_new, out_parens, out_negate, out_binary, out_call)
