@@ -26,7 +26,7 @@ pub fn field_read(node: &ExprNode) -> Option<&Shared<Text>>
 {
     match node {
         ExprNode::Field { name, line: _ } => Some(name),
-        ExprNode::Int { value: _, line: _ } => None,
+        ExprNode::Literal { value: _, line: _ } => None,
         ExprNode::Null { line: _ } => None,
         ExprNode::This { line: _ } => None,
         ExprNode::Variable { name: _, line: _ } => None,

@@ -1,12 +1,13 @@
 -- The reader of texts is exact.
-use Rattle.std.proofs.Common.{◌≡◌, ◌⊎◌, ℕ, zero, suc, ◌+◌, ◌-◌, ◌<◌, ◌≤◌, Bool, true, false, cond, ◌&&◌, ltb, leb, List, [], ◌∷◌, ◌++◌, length, take, drop, Result, Ok, Err, refl, sym, ap, subst, ◌∙◌, append_assoc, arith, inl, inr}
+use Rattle.std.proofs.Common.{◌≡◌, ◌⊎◌, ℕ, zero, suc, ◌+◌, ◌-◌, ◌<◌, ◌≤◌, Bool, true, false, cond, ◌&&◌, ltb, leb, List, [], ◌∷◌, ◌++◌, length, take, drop, Option, Some, None, Result, Ok, Err, refl, sym, ap, subst, ◌∙◌, append_assoc, arith, inl, inr}
 use Rattle.std.specs.List.{list_all}
+use Rattle.std.specs.Prelude.{replicate}
 use Rattle.std.proofs.lemmas.Bool.{ltb-false, ltb-true, le-ltb, lt-ltb, leb-true, le-leb, and_from}
-use Rattle.std.proofs.lemmas.List.{length-append, length-take, take_all, take_at, drop_at, take-append-drop}
+use Rattle.std.proofs.lemmas.List.{length-append, length-replicate, length-take, take_all, take_at, drop_at, take-append-drop}
 use Rattle.std.proofs.lemmas.List.Folds.{list_all-append}
-use Rattle.std.proofs.Math.Seq.{take-append-add}
+use Rattle.std.proofs.Math.Seq.{take-append-add, take-append_seam}
 use Rattle.thor_value.specs.Formats.{BeginsOne, ◌>>=◌}
-use Rattle.thor_value.specs.Words.{is_text_byte, fits_word}
+use Rattle.thor_value.specs.Words.{IsPadded, fits_word, is_text_byte, padded, word_from}
 use Rattle.thor_value.specs.Reading.{below_at, word_bytes_at, word_at}
 use Rattle.thor_value.specs.Spelling.{word_bytes}
 use Rattle.thor_value.specs.declared.bytes.ReadFault.{ReadFault}
@@ -64,6 +65,12 @@ letters_are (suc n) = letters_are n
 
 abbrev Read : Type 0
 Read = List ℕ × List ℕ
+
+abbrev bad : ReadFault → Result Read ReadFault
+bad d = Err d
+
+abbrev none : Option (List ℕ)
+none = None
 
 chosen_ok : (b c : Bool) (p x : Read) → cond b (cond c (Err Short) (Ok p)) (Err BadTag) ≡ Ok x → (b ≡ true) × (c ≡ false) × (p ≡ x)
 chosen_ok true true p x e = absurd cc
@@ -149,10 +156,41 @@ exact_word =
 
 -- ---- what the reader does
 
--- where the bytes end too early
-pub letters_cut : (n : ℕ) (bytes : List ℕ) → length bytes < n → word_bytes_at n bytes ≡ cond (fits_word bytes) (Err Short) (Err BadTag)
-letters_cut n bytes lt = rw (take_all n bytes (omega (arith, lt)), lt-ltb (length bytes) n lt) refl
+one_fault : (b : Bool) → cond b (bad Short) (bad BadTag) ≡ bad (cond b Short BadTag)
+one_fault true = refl
+one_fault false = refl
 
--- where there are enough
-pub letters_there : (n : ℕ) (bytes : List ℕ) → n ≤ length bytes → word_bytes_at n bytes ≡ cond (fits_word (take n bytes)) (Ok (take n bytes, drop n bytes)) (Err BadTag)
-letters_there n bytes le = rw (le-ltb (length bytes) n le) refl
+-- where the bytes end too early
+pub word_cut : (n : ℕ) (bytes : List ℕ) → length bytes < n → word_bytes_at n bytes ≡ Err (cond (fits_word bytes) Short BadTag)
+word_cut n bytes lt = rw (take_all n bytes (omega (arith, lt)), lt-ltb (length bytes) n lt) (one_fault (fits_word bytes))
+
+from_some : (b : Bool) (front w : List ℕ) → Some w ≡ cond b (Some front) None → (b ≡ true) × (front ≡ w)
+from_some true front w e = (refl, cc)
+from_some false front w e = absurd cc
+
+from_none : (b : Bool) (front : List ℕ) → none ≡ cond b (Some front) None → b ≡ false
+from_none true front e = absurd cc
+from_none false front e = refl
+
+-- where there are enough, and they are a text or none
+pub word_there : (n : ℕ) (bytes w : List ℕ) → n ≤ length bytes → Some w ≡ word_from (take n bytes) → word_bytes_at n bytes ≡ Ok (w, drop n bytes)
+word_there n bytes w le e =
+    let p = from_some (fits_word (take n bytes)) (take n bytes) w e in
+    rw (p.0, le-ltb (length bytes) n le) (ap (λ (t : List ℕ). Ok (t, drop n bytes)) p.1)
+
+pub word_not_there : (n : ℕ) (bytes : List ℕ) → none ≡ word_from (take n bytes) → word_bytes_at n bytes ≡ Err BadTag
+word_not_there n bytes e = rw (from_none (fits_word (take n bytes)) (take n bytes) e) refl
+
+-- ---- in memory
+
+-- a text in its room
+pub is_padded : (bytes : List ℕ) → length bytes ≤ 32 → fits_word bytes ≡ true → IsPadded (record { room = padded bytes; len = length bytes })
+is_padded bytes few word =
+    let front : take (length bytes) (padded bytes) ≡ bytes = take-append_seam bytes (replicate (32 - length bytes) 0) in
+    record {
+      room = ap padded (sym front);
+      len = ap length (sym front);
+      whole = omega (arith, length-append bytes (replicate (32 - length bytes) 0), length-replicate {A = ℕ} (32 - length bytes) 0, few);
+      few = few;
+      word = ap fits_word front ∙ word;
+    }

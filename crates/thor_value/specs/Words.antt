@@ -1,6 +1,6 @@
 -- The texts that a field can hold (this project's): they are short, and their bytes can be printed and stand between
 -- quotation marks.
-use Rattle.std.specs.Prelude.{◌≡◌, ℕ, ◌-◌, ◌&&◌, ◌==◌, not, nat_le, Bool, true, List, ◌++◌, length, take, replicate, Option, Some, None, if◌then◌else◌}
+use Rattle.std.specs.Prelude.{◌≡◌, ℕ, ◌-◌, ◌≤◌, ◌&&◌, ◌==◌, not, nat_le, Bool, true, List, ◌++◌, length, take, replicate, Option, Some, None, if◌then◌else◌}
 use Rattle.std.specs.List.{list_all}
 use Rattle.thor_value.specs.declared.words.Word.TheInside.{Inside}
 
@@ -30,6 +30,8 @@ bytes_in w = take w.len w.room
 
 -- what holds of each text in memory
 pub record IsPadded (w : Inside) : Type 0 where
-  pub room : w.room ≡ padded (take w.len w.room)
-  pub len : w.len ≡ length (take w.len w.room)
-  pub word : fits_word (take w.len w.room) ≡ true
+  pub room : w.room ≡ padded (bytes_in w)
+  pub len : w.len ≡ length (bytes_in w)
+  pub whole : length w.room ≡ most_word_bytes
+  pub few : w.len ≤ most_word_bytes
+  pub word : fits_word (bytes_in w) ≡ true

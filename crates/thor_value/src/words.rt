@@ -1,10 +1,10 @@
 //! Texts that fields hold.
 
-ghost use Rattle.std.specs.Prelude.{◌≡◌, ◌≤◌, ℕ, List, [], length, true, nat_eq, IfSome};
+ghost use Rattle.std.specs.Prelude.{◌≡◌, ◌≤◌, [], length, true, nat_eq, IsTrue};
 ghost use Rattle.std.specs.List.{list_all};
 ghost use Rattle.std.specs.Cmp.{on_equiv, on_per, partial_equiv_from_equiv};
 ghost use Rattle.std.specs.Cmp.Lexicographic.{pointwise, nat_list_eq_equiv};
-ghost use Rattle.thor_value.specs.Words.{is_text_byte, fits_word, padded, word_from};
+ghost use Rattle.thor_value.specs.Words.{fits_word, is_text_byte, padded, word_from};
 
 use std::fmt;
 use std::marker::Model;
@@ -44,10 +44,7 @@ impl Word {
     pub fn empty() -> Word
         ensures { result ≡ [] }
     {
-        Word {
-            room: [0; 32],
-            len: 0,
-        }
+        padded(&[])
     }
 
     /// The text that bytes are, or `None` where they are none: where they are more than 32, or one of them is below 32,
@@ -55,13 +52,11 @@ impl Word {
     pub fn new(bytes: &[u8]) -> Option<Word>
         ensures { result ≡ word_from bytes.now }
     {
-        if bytes.len() > MOST_BYTES || !are_text_bytes(bytes) {
-            return None;
+        if fits_word(bytes) {
+            Some(padded(bytes))
+        } else {
+            None
         }
-        Some(Word {
-            room: room_of(bytes),
-            len: bytes.len() as u8,
-        })
     }
 
     /// Its bytes.
@@ -112,6 +107,29 @@ fn are_text_bytes(bytes: &[u8]) -> bool
     ensures { result ≡ list_all is_text_byte bytes.now }
 {
     bytes.iter().all(|byte| is_text_byte(*byte))
+}
+
+/// Whether bytes are those of a text.
+fn fits_word(bytes: &[u8]) -> bool
+    ensures value { result ≡ fits_word bytes.now }
+    ensures few { IsTrue result → length bytes.now ≤ 32 }
+{
+    if bytes.len() > MOST_BYTES {
+        return false;
+    }
+    are_text_bytes(bytes)
+}
+
+/// The text of these bytes.
+fn padded(bytes: &[u8]) -> Word
+    requires few { length bytes.now ≤ 32 }
+    requires word { fits_word bytes.now ≡ true }
+    ensures { result ≡ bytes.now }
+{
+    Word {
+        room: room_of(bytes),
+        len: bytes.len() as u8,
+    }
 }
 
 /// Bytes in their room, with zeros behind them.
