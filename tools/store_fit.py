@@ -240,6 +240,8 @@ def misfit(objects, schemas, kind, value):
         return None if isinstance(value, int) else f"is {said(value)}, and has to be an int"
     if isinstance(value, int):
         return f"is the int {value}, and has to be of class {kind}"
+    if isinstance(value, str):
+        return f"is {said(value)}, and has to be of class {kind}"
     if value is None:
         return None
     if value not in objects:
@@ -249,7 +251,7 @@ def misfit(objects, schemas, kind, value):
 
 
 def said(value):
-    return "null" if value is None else f"the object {value}" if isinstance(value, Name) else f"{value}"
+    return "null" if value is None else f"the object {value}" if isinstance(value, Name) else f'the text "{value}"' if isinstance(value, str) else f"{value}"
 
 
 def namings(objects, schemas):
