@@ -101,7 +101,9 @@ pub fn push_printed(value: Value, out: &mut Ints) -> Result<(), NoMemory>
     ensures { OnOk result (out.new ≡ out.old ++ printed_as value) }
 {
     match value {
-        Value::Int(_) | Value::Ref(_) | Value::Null => out.push(number(value)),
+        Value::Int(n) => out.push(n),
+        Value::Ref(_) => out.push(0),
+        Value::Null => out.push(0),
         Value::Text(word) => {
             out.push(i64::from(word.len()))?;
             push_bytes(word.bytes(), out)

@@ -3,7 +3,7 @@ use Rattle.std.proofs.Common.{◌≡◌, ◌⊎◌, ℕ, zero, suc, ◌+◌, ◌
 use Rattle.std.specs.List.{list_all}
 use Rattle.std.specs.Prelude.{replicate}
 use Rattle.std.proofs.lemmas.Bool.{ltb-false, ltb-true, le-ltb, lt-ltb, leb-true, le-leb, and_from}
-use Rattle.std.proofs.lemmas.List.{length-append, length-replicate, length-take, take_all, take_at, drop_at, take-append-drop}
+use Rattle.std.proofs.lemmas.List.{drop-replicate, length-append, length-replicate, length-take, take_all, take_at, drop_at, take-append-drop}
 use Rattle.std.proofs.lemmas.List.Folds.{list_all-append}
 use Rattle.std.proofs.Math.Seq.{take-append-add, take-append_seam}
 use Rattle.thor_value.specs.Formats.{BeginsOne, ◌>>=◌}
@@ -182,6 +182,10 @@ pub word_not_there : (n : ℕ) (bytes : List ℕ) → none ≡ word_from (take n
 word_not_there n bytes e = rw (from_none (fits_word (take n bytes)) (take n bytes) e) refl
 
 -- ---- in memory
+
+-- what is left of the room behind so many bytes
+pub room_rest : (n : ℕ) → drop n (replicate {A = ℕ} 32 0) ≡ replicate {A = ℕ} (32 - n) 0
+room_rest n = drop-replicate n 32 0
 
 -- a text in its room
 pub is_padded : (bytes : List ℕ) → length bytes ≤ 32 → fits_word bytes ≡ true → IsPadded (record { room = padded bytes; len = length bytes })
