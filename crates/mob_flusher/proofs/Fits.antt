@@ -12,7 +12,7 @@ use Rattle.thor_value.specs.declared.values.Obj.{Obj}
 use Rattle.thor_value.specs.declared.values.Value.{Value}
 use Rattle.thor_value.specs.declared.values.Value.TheVariants.{Int, Ref, Null, Text}
 use Rattle.thor_value.specs.Spelling.{ValueFits, value_bytes}
-use Rattle.thor_value.proofs.Letters.{few_letters}
+use Rattle.thor_value.proofs.TextBytes.{few_letters}
 use Rattle.object_codec.specs.Spelling.{Answered, ObjFits, obj_bytes}
 use Rattle.object_codec.specs.declared.fault.ObjFault.{ObjFault}
 use Rattle.page_format.specs.Pages.{Contents, ObjectsFit, Passes, Rises, entries, object_entry}

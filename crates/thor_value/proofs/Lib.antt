@@ -1,7 +1,7 @@
 pub mod Exactness
 pub mod Fields
 pub mod FiniteMap
-pub mod Letters
 pub mod NameOrders
 pub mod ReadClauses
 pub mod Spellings
+pub mod TextBytes

@@ -18,7 +18,7 @@ use Rattle.thor_value.specs.declared.bytes.ReadFault.{ReadFault}
 use Rattle.thor_value.specs.declared.bytes.ReadFault.TheVariants.{Short, BadTag}
 use Rattle.thor_value.proofs.Exactness.{IsBytes, IsExact, exact_done, exact_then, exact_as, exact_spelled, bind_ok, bind_err, ok_on, err_on}
 use Rattle.std.proofs.lemmas.List.{append-nil}
-use Rattle.thor_value.proofs.Letters.{exact_word}
+use Rattle.thor_value.proofs.TextBytes.{exact_word}
 use Rattle.thor_value.proofs.Fields.{exact_byte, exact_number, wide16, wide32, wide64}
 
 apart_from_short : BadTag ≡ Short → ⊥

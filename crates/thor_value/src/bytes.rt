@@ -221,7 +221,7 @@ fn word_of(bytes: &[u8]) -> Result<(Word, &[u8]), ReadFault>
     word_bytes_of(count, rest)
 }
 
-#[tactic(auto, using(crate::proofs::Letters::word_cut, crate::proofs::Letters::word_there, crate::proofs::Letters::word_not_there))]
+#[tactic(auto, using(crate::proofs::TextBytes::word_cut, crate::proofs::TextBytes::word_there, crate::proofs::TextBytes::word_not_there))]
 fn word_bytes_of(count: u8, bytes: &[u8]) -> Result<(Word, &[u8]), ReadFault>
     ensures { Gives (λ x. (x.0, x.1.now)) result (word_bytes_at count bytes.now) }
 {

@@ -133,7 +133,7 @@ fn padded(bytes: &[u8]) -> Word
 }
 
 /// Bytes in their room, with zeros behind them.
-#[tactic(auto, using(crate::proofs::Letters::room_rest))]
+#[tactic(auto, using(crate::proofs::TextBytes::room_rest))]
 fn room_of(bytes: &[u8]) -> [u8; 32]
     requires { length bytes.now ≤ 32 }
     ensures { result ≡ padded bytes.now }

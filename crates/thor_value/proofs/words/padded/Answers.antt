@@ -1,6 +1,6 @@
 use Rattle.std.specs.Prelude.{replicate, length, ◌-◌}
 use Rattle.std.proofs.Math.Seq.{take-append_seam}
-use Rattle.thor_value.proofs.Letters.{is_padded}
+use Rattle.thor_value.proofs.TextBytes.{is_padded}
 use Rattle.thor_value.proofs.words.padded.Goals as goal
 
 pub invariant_of-result : goal.invariant_of-result
