@@ -11,7 +11,7 @@ use Rattle.class_defs.specs.Types.{IsDeclared, field_named, type_named}
 use Rattle.class_defs.specs.KeptOwnership.{IsHanded, handed, handed_path, handed_step, is_owned_path, owned_step, part_class, reads_owned}
 use Rattle.class_defs.specs.Ownership.{type_at}
 use Rattle.class_defs.specs.Rules.{is_part}
-use Rattle.class_defs.specs.UpgradeRules.{as_list, field_at_path, field_behind, field_read, field_rules, gives_int, gives_reference, goes_through_parts, handed_as, handed_once, hands_over, int_step, is_field_of, is_int, is_new, is_of_class, max_names, may_go_on, part_step, path_type, reads_parts, value_rules}
+use Rattle.class_defs.specs.UpgradeRules.{as_list, field_at_path, field_behind, field_read, field_rules, gives_int, gives_reference, gives_text, goes_through_parts, handed_as, handed_once, hands_over, int_step, is_field_of, is_int, is_new, is_text_field, is_of_class, max_names, may_go_on, part_step, path_type, reads_parts, value_rules}
 use Rattle.class_defs.specs.declared.classes.Class.{Class}
 use Rattle.class_defs.specs.declared.expressions.Name.{Name}
 use Rattle.class_defs.specs.declared.types.ExprType.{ExprType}
@@ -111,6 +111,19 @@ module _ (classes : List Class) where
     layer_owned d (Tf-F.Negate operand line) h = cc
     layer_owned d (Tf-F.Binary operator left right line) h = cc
 
+    text_path_owned : (names : List Name) → is_text_field classes c names ≡ true → is_owned_path classes (Some c) names ≡ true
+    text_path_owned [] h = refl
+    text_path_owned (name ∷ []) h = refl
+    text_path_owned (name ∷ next ∷ names) h = cc
+
+    layer_worded : (x : Tf-F Tf) → gives_text classes c x ≡ true → owned_layer x ≡ true
+    layer_worded (Tf-F.Null line) h = cc
+    layer_worded (Tf-F.Literal n line) h = refl
+    layer_worded (Tf-F.Path names line) h = text_path_owned names h
+    layer_worded (Tf-F.Parens inner line) h = cc
+    layer_worded (Tf-F.Negate operand line) h = cc
+    layer_worded (Tf-F.Binary operator left right line) h = cc
+
     one_handed : (d : ℕ) (i : Option ℕ) → is_of_class d (option_and_then (type_at classes c) i) ≡ true → IsHanded classes c d (Some i)
     one_handed d None h = tt
     one_handed d (Some j) h = of_class d (type_at classes c j) h
@@ -164,7 +177,7 @@ module _ (classes : List Class) where
     owned_by_type : (t : ExprType) (e : Tf) → IsDeclared t → value_rules classes c t e ≡ [] → reads_parts classes c e ≡ true
         → reads_owned classes c e ≡ true
     owned_by_type type.Int e declared h g = int_reads_owned e g (held _ _ _ h)
-    owned_by_type type.Text e declared h g = int_reads_owned e g (held _ _ _ h)
+    owned_by_type type.Text e declared h g = owned_out e ∙ layer_worded (out-Tf e) (held _ _ _ h)
     owned_by_type (type.Class d) e declared h g = owned_out e ∙ layer_owned d (out-Tf e) (held _ _ _ h)
     owned_by_type type.Null e declared h g = absurd declared
     owned_by_type type.Untold e declared h g = absurd declared
