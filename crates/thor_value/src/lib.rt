@@ -28,4 +28,4 @@ pub use pairing::both;
 pub use sequence::Sequence;
 pub use step_count::StepCount;
 pub use values::{Answer, Fault, Obj, Value, Who};
-pub use words::Word;
+pub use words::{WORD_BYTES, Word, is_text_byte};

@@ -10,7 +10,7 @@ use std::fmt;
 use std::marker::Model;
 
 /// The most bytes of a text.
-const MOST_BYTES: usize = 32;
+pub const WORD_BYTES: usize = 32;
 
 /// A text that a field, a local or an expression holds: at most 32 bytes, each from 32 to 126 and none of them 34. It
 /// is copied like a number, and contracts see it as the list of its bytes.
@@ -97,7 +97,8 @@ impl fmt::Debug for Word {
     }
 }
 
-fn is_text_byte(byte: u8) -> bool
+/// Whether a text can have the byte: it is from 32 to 126, and not 34.
+pub fn is_text_byte(byte: u8) -> bool
     ensures { result ≡ is_text_byte byte }
 {
     byte >= 32 && byte <= 126 && byte != 34
@@ -114,7 +115,7 @@ fn fits_word(bytes: &[u8]) -> bool
     ensures value { result ≡ fits_word bytes.now }
     ensures few { IsTrue result → length bytes.now ≤ 32 }
 {
-    if bytes.len() > MOST_BYTES {
+    if bytes.len() > WORD_BYTES {
         return false;
     }
     are_text_bytes(bytes)
