@@ -2,7 +2,7 @@
 use Rattle.std.specs.Prelude.{ℕ, List, codes, Option, None, if◌then◌else◌}
 use Rattle.std.specs.Str.{bytes_eq}
 use Rattle.script_text.specs.declared.token.TokenKind.{TokenKind}
-use Rattle.script_text.specs.declared.token.TokenKind.TheVariants.{Name, Number, Keyword, Symbol}
+use Rattle.script_text.specs.declared.token.TokenKind.TheVariants.{Name, Number, Keyword, Symbol, Quoted}
 use Rattle.script_text.specs.declared.token.Token.{Token}
 use Rattle.script_text.specs.declared.mark.Mark.{Mark}
 use Rattle.script_text.specs.declared.mark.Mark.TheVariants.{Setup, Client, Tx, Upgrade, Schedule, Open, Close, End, Other}
@@ -29,6 +29,7 @@ mark_by Keyword text = keyword_mark text
 mark_by Symbol text = symbol_mark text
 mark_by Name text = Other
 mark_by Number text = Other
+mark_by Quoted text = Other
 
 -- what the token is
 unfoldable pub mark_of : Token → Mark
@@ -38,12 +39,13 @@ mark_of token = mark_by token.kind token.text
 abbrev pub max_number : ℕ
 max_number = 9223372036854775807
 
--- the number that a text of the kind is; names, keywords and symbols are none
+-- the number that a text of the kind is; names, keywords, symbols and text literals are none
 abbrev pub number_by : TokenKind → List ℕ → Option ℕ
 number_by Number text = digits_value max_number text
 number_by Name text = None
 number_by Keyword text = None
 number_by Symbol text = None
+number_by Quoted text = None
 
 -- the number that the token is
 abbrev pub number_in : Token → Option ℕ

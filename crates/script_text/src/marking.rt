@@ -50,7 +50,7 @@ pub fn mark(token: &Token) -> Mark
     match token.kind {
         TokenKind::Keyword => keyword_mark(token.text.as_slice()),
         TokenKind::Symbol => symbol_mark(token.text.as_slice()),
-        TokenKind::Name | TokenKind::Number => Mark::Other,
+        TokenKind::Name | TokenKind::Number | TokenKind::Quoted => Mark::Other,
     }
 }
 
