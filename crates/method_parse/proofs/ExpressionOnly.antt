@@ -18,7 +18,7 @@ use Rattle.class_defs.specs.declared.places.Place.{Place}
 use Rattle.class_defs.specs.Words.{Word, Fixed, FixedAt, Numbered, Quoted, name_word, with_commas}
 use Rattle.class_defs.specs.Spelling.{expr_words, at_words}
 use Rattle.class_defs.specs.Shape.{Shape, shape, deepest, most_nested, all_proper, in_method, level_of}
-use Rattle.script_text.specs.Marks.{number_by, number_in}
+use Rattle.script_text.specs.Marks.{number_by, number_in, text_by}
 use Rattle.method_parse.specs.declared.deep.Deep.{Deep}
 use Rattle.method_parse.specs.declared.deep.Level.{Level}
 use Rattle.method_parse.specs.declared.deep.Room.{Room}
@@ -30,7 +30,7 @@ use Rattle.method_parse.specs.Expressions.{at, arguments, call, leaf, may_call, 
 use Rattle.method_parse.proofs.Repeats.{no_turn}
 use Rattle.method_parse.proofs.Fits.{tightness}
 use Rattle.method_parse.proofs.Equations as eq
-use Rattle.method_parse.proofs.Eats.{fixed_is, first, split, nothing, word_then, line_then, name_then, number_then, part_then, stops_before, stop_close}
+use Rattle.method_parse.proofs.Eats.{fixed_is, first, split, nothing, word_then, line_then, name_then, number_then, quoted_then, part_then, stops_before, stop_close}
 use Rattle.method_parse.proofs.Heads.{positive}
 use Rattle.method_parse.proofs.ListOnly.{deep, Suits, ReadsAll, SuitAll, bind_assoc, head_passes, head_fails, turn, arguments_then}
 
@@ -49,12 +49,14 @@ at_reads (Some a) (t ∷ ts) rest h none =
 fixed_starts : (place : Place) (room : Room) (k : TokenKind) (text known : List ℕ) → is_fixed_kind k ≡ true → text ≡ known → start_by place room k text ≡ fixed_start place room known
 fixed_starts place room kinds.Name text known f same = absurd cc
 fixed_starts place room kinds.Number text known f same = absurd cc
+fixed_starts place room kinds.Quoted text known f same = absurd cc
 fixed_starts place room kinds.Keyword text known f same = ap (fixed_start place room) same
 fixed_starts place room kinds.Symbol text known f same = ap (fixed_start place room) same
 
 name_starts : (place : Place) (room : Room) (k : TokenKind) (text : List ℕ) → is_name_kind k ≡ true → start_by place room k text ≡ starts.Name
 name_starts place room kinds.Name text f = refl
 name_starts place room kinds.Number text f = absurd cc
+name_starts place room kinds.Quoted text f = absurd cc
 name_starts place room kinds.Keyword text f = absurd cc
 name_starts place room kinds.Symbol text f = absurd cc
 
@@ -63,6 +65,14 @@ number_starts place room kinds.Name text v f = absurd cc
 number_starts place room kinds.Number text v f = refl
 number_starts place room kinds.Keyword text v f = absurd cc
 number_starts place room kinds.Symbol text v f = absurd cc
+number_starts place room kinds.Quoted text v f = absurd cc
+
+quoted_starts : (place : Place) (room : Room) (k : TokenKind) (text w : List ℕ) → text_by k text ≡ Some w → start_by place room k text ≡ starts.Quoted
+quoted_starts place room kinds.Name text w f = absurd cc
+quoted_starts place room kinds.Number text w f = absurd cc
+quoted_starts place room kinds.Keyword text w f = absurd cc
+quoted_starts place room kinds.Symbol text w f = absurd cc
+quoted_starts place room kinds.Quoted text w f = refl
 
 starts_at : (place : Place) (room : Room) (ts rest : List Token) (w : Word) (ws : List Word) (s : Start) → AreWords ts (w ∷ ws) → ((t : Token) → IsWord t w → start_by place room t.kind t.text ≡ s) → start place room (ts ++ rest) ≡ s
 unfolding start
@@ -128,12 +138,13 @@ module _ (place : Place) (room : Room) (below : ℕ) (deeper : room.depth ≡ be
       let f = first ts (Numbered v l) [] k in
       int_by v l (number_in f.token) ts rest f.is.0 k
 
-  -- no tokens are a text literal
   text_reads : (v : List ℕ) (l : ℕ) → Primary (Expr-F.Literal (literal.Text v) l) (e.Literal (literal.Text v) l)
+  unfolding primary_by
   text_reads v l ts rest h fit calm dot =
       let k : AreWords ts (Quoted v l ∷ []) = subst (λ (w : List Word). AreWords ts w) (eq.words-Literal (literal.Text v) l) h in
-      let f = first ts (Quoted v l) [] k in
-      absurd f.is
+      by_start starts.Quoted (ts ++ rest) _ (starts_at place room ts rest _ [] starts.Quoted k (λ t w. quoted_starts place room t.kind t.text v w.0))
+      (quoted_then rest _ v l [] ts (λ m. give (leaf (e.Literal (literal.Text m.0) m.1))) k
+      (λ us m. ap (λ (u : List Token). got (leaf (e.Literal (literal.Text v) l)) (u ++ rest)) (nothing us m) ∙ read_is place (e.Literal (literal.Text v) l) 1 rest (depth_is (eq.shape-Literal place (literal.Text v) l))))
 
   literal_reads : (v : Literal) (l : ℕ) → Primary (Expr-F.Literal v l) (e.Literal v l)
   literal_reads (literal.Int v) l = int_reads v l

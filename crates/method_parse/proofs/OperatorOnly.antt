@@ -17,7 +17,7 @@ use Rattle.class_defs.specs.declared.places.Place.{Place}
 use Rattle.class_defs.specs.Words.{Word, Fixed, FixedAt, symbol_of}
 use Rattle.class_defs.specs.Spelling.{expr_words, literal_word}
 use Rattle.class_defs.specs.Shape.{Shape, shape, level_of, left_level, right_level}
-use Rattle.script_text.specs.Marks.{number_by}
+use Rattle.script_text.specs.Marks.{number_by, text_by}
 use Rattle.method_parse.specs.declared.deep.Deep.{Deep}
 use Rattle.method_parse.specs.declared.deep.Level.{Level}
 use Rattle.method_parse.specs.declared.deep.Level.TheVariants as levels
@@ -64,6 +64,7 @@ by_symbol levels.Comparison operators.Less of = refl
 pub operator_found : (level : Level) (o : Operator) (k : TokenKind) (text : List ℕ) → is_fixed_kind k ≡ true → text ≡ symbol_of o → tightness level ≡ level_of o → operator_by level k text ≡ Some o
 operator_found level o kinds.Name text f same of = absurd cc
 operator_found level o kinds.Number text f same of = absurd cc
+operator_found level o kinds.Quoted text f same of = absurd cc
 operator_found level o kinds.Keyword text f same of = ap (operator_of level) same ∙ by_symbol level o of
 operator_found level o kinds.Symbol text f same of = ap (operator_of level) same ∙ by_symbol level o of
 
@@ -111,16 +112,25 @@ name_plain kinds.Name e = refl
 name_plain kinds.Number e = absurd cc
 name_plain kinds.Keyword e = absurd cc
 name_plain kinds.Symbol e = absurd cc
+name_plain kinds.Quoted e = refl
 
 pub number_plain : (k : TokenKind) (text : List ℕ) (v : ℤ) → option_map pos (number_by k text) ≡ Some v → is_fixed_kind k ≡ false
 number_plain kinds.Name text v e = refl
 number_plain kinds.Number text v e = refl
 number_plain kinds.Keyword text v e = absurd cc
 number_plain kinds.Symbol text v e = absurd cc
+number_plain kinds.Quoted text v e = refl
+
+pub quoted_plain : (k : TokenKind) (text w : List ℕ) → text_by k text ≡ Some w → is_fixed_kind k ≡ false
+quoted_plain kinds.Name text w e = refl
+quoted_plain kinds.Number text w e = refl
+quoted_plain kinds.Keyword text w e = absurd cc
+quoted_plain kinds.Symbol text w e = absurd cc
+quoted_plain kinds.Quoted text w e = refl
 
 pub literal_plain : (t : Token) (v : Literal) (l : ℕ) → IsWord t (literal_word v l) → is_fixed_kind t.kind ≡ false
 literal_plain t (literal.Int v) l w = number_plain t.kind t.text v w.0
-literal_plain t (literal.Text v) l w = absurd w
+literal_plain t (literal.Text v) l w = quoted_plain t.kind t.text v w.0
 
 pub operator_takes : {B : Type 0} (level : Level) (o : Operator) (line : ℕ) (ws : List Word) (ts rest : List Token) (result : Result (B × List Token) ℕ) (next : Operator × ℕ → Reader B)
     → tightness level ≡ level_of o → AreWords ts (FixedAt (symbol_of o) line ∷ ws) → ((us : List Token) → AreWords us ws → next (o, line) (us ++ rest) ≡ result) → (operator level >>= next) (ts ++ rest) ≡ result

@@ -258,6 +258,7 @@ module _ (place : Place) (brackets : ℕ) where
     kind_allows : (k : TokenKind) (text : List ℕ) → Allows (start_by place brackets k text)
     kind_allows kinds.Name text = tt
     kind_allows kinds.Number text = tt
+    kind_allows kinds.Quoted text = tt
     kind_allows kinds.Keyword text = fixed_allows text
     kind_allows kinds.Symbol text = fixed_allows text
 

@@ -1,6 +1,7 @@
--- What a token is for the parts of a script, and the number that it writes. This project's.
-use Rattle.std.specs.Prelude.{ℕ, List, codes, Option, None, if◌then◌else◌}
+-- What a token is for the parts of a script, and the number or text that it writes. This project's.
+use Rattle.std.specs.Prelude.{ℕ, ◌-◌, List, [], ◌∷◌, length, take, codes, Option, None, if◌then◌else◌}
 use Rattle.std.specs.Str.{bytes_eq}
+use Rattle.thor_value.specs.Words.{word_from}
 use Rattle.script_text.specs.declared.token.TokenKind.{TokenKind}
 use Rattle.script_text.specs.declared.token.TokenKind.TheVariants.{Name, Number, Keyword, Symbol, Quoted}
 use Rattle.script_text.specs.declared.token.Token.{Token}
@@ -50,3 +51,20 @@ number_by Quoted text = None
 -- the number that the token is
 abbrev pub number_in : Token → Option ℕ
 number_in token = number_by token.kind token.text
+
+-- bytes without the first and the last of them
+abbrev pub inside : List ℕ → List ℕ
+inside [] = []
+inside (b ∷ bs) = take (length bs - 1) bs
+
+-- the text that a text literal writes; other tokens write none
+abbrev pub text_by : TokenKind → List ℕ → Option (List ℕ)
+text_by Quoted text = word_from (inside text)
+text_by Name text = None
+text_by Number text = None
+text_by Keyword text = None
+text_by Symbol text = None
+
+-- the text that the token writes
+abbrev pub text_in : Token → Option (List ℕ)
+text_in token = text_by token.kind token.text
