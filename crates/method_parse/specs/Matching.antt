@@ -22,6 +22,17 @@ is_fixed_kind kinds.Keyword = true
 is_fixed_kind kinds.Symbol = true
 is_fixed_kind kinds.Quoted = false
 
+abbrev pub is_quoted_kind : TokenKind → Bool
+is_quoted_kind kinds.Name = false
+is_quoted_kind kinds.Number = false
+is_quoted_kind kinds.Keyword = false
+is_quoted_kind kinds.Symbol = false
+is_quoted_kind kinds.Quoted = true
+
+-- whether a token is a text literal
+abbrev pub is_quoted : Token → Bool
+is_quoted token = is_quoted_kind token.kind
+
 -- whether a token is this keyword or symbol
 abbrev pub is : List ℕ → Token → Bool
 is text token = is_fixed_kind token.kind && bytes_eq token.text text

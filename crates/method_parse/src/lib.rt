@@ -23,5 +23,5 @@ pub use printing::{print_literal, print_name, print_type, print_word, symbol};
 pub use printing_laws::printed_texts_are_read;
 pub use setups::{methods, next_begins_type};
 pub use starts::{operator_in, tighter};
-pub use take::{name, next_is, number, type_word, word};
+pub use take::{name, next_is, next_is_quoted, number, quoted, type_word, word};
 pub use whole::error_of;

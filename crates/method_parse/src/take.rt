@@ -1,7 +1,7 @@
 //! One token from the front.
 
 ghost use Rattle.std.specs.Prelude.{◌≡◌, ◌≤◌, IfOk};
-ghost use Rattle.method_parse.specs.Matching.{is, is_name_kind};
+ghost use Rattle.method_parse.specs.Matching.{is, is_name_kind, is_quoted};
 ghost use Rattle.method_parse.specs.Reader.{Gives, next, word, name, number, quoted, type_word};
 
 use crate::error::ParseError;
@@ -30,6 +30,16 @@ pub fn is_name(token: &Token) -> bool
     ensures { result ≡ is_name_kind token.now.kind }
 {
     matches!(token.kind, TokenKind::Name)
+}
+
+/// Whether the next token is a text literal.
+pub fn next_is_quoted(tokens: &[Token]) -> bool
+    ensures { result ≡ next is_quoted tokens.now }
+{
+    match tokens.split_first() {
+        None => false,
+        Some((token, _)) => matches!(token.kind, TokenKind::Quoted),
+    }
 }
 
 /// Takes a keyword or symbol, and gives its line.
