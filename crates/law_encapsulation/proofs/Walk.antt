@@ -34,6 +34,7 @@ use Rattle.class_defs.specs.declared.store.RootDeclaration.{RootDeclaration}
 use Rattle.class_defs.specs.declared.store.Schema.{Schema}
 use Rattle.class_defs.specs.declared.types.ExprType.TheVariants as type
 use Rattle.class_defs.specs.declared.types.ExprType.{ExprType}
+use Rattle.class_defs.specs.declared.expressions.TypeName.TheVariants as type_name
 use Rattle.law_type_soundness.proofs.FitArguments.{ArgumentsFit, Told, Unbroken, ValuesFit, arguments_fit, bound_fits, kinds, one_more_fits, unbroken, values_keep}
 use Rattle.law_type_soundness.proofs.FitActions.{touch_goes as typed_touch}
 use Rattle.law_type_soundness.proofs.FitCalls.{BlocksGo as TypedBlocks, ValuesGo as TypedValues, sight_of}
@@ -66,7 +67,7 @@ same_this : (p q : Receiver) → ◌≡◌ {A = Option Receiver} (Some p) (Some 
 same_this p q e = cc
 
 module _ (schema : Schema) (repos : ℕ) (sound : (c : ℕ) (d : Class) → slice_get schema.classes c ≡ Some d → ClassSound schema repos c d)
-    (roots : AllByRecursion (λ (r : RootDeclaration). is_part schema.classes (class_or_untold (class_named schema.classes r.class.text)) ≡ false) schema.roots)
+    (roots : AllByRecursion (λ (r : RootDeclaration). is_part schema.classes (type_named schema.classes (type_name.Class r.class)) ≡ false) schema.roots)
     (E : Oref → Option Object)
     (v : Expr → Action Value) (u : Expr → Sure Value) (b : List Stmt → Action Flow) (d : List Stmt → Sure Flow)
     (values : TypedValues schema repos E v u) (blocks : TypedBlocks schema repos E b d)
@@ -93,7 +94,7 @@ module _ (schema : Schema) (repos : ℕ) (sound : (c : ℕ) (d : Class) → slic
     kind_of n = n.kind
 
     abbrev root_kind : RootDeclaration → ExprType
-    root_kind q = class_or_untold (class_named schema.classes q.class.text)
+    root_kind q = type_named schema.classes (type_name.Class q.class)
 
     root_free : (u : Option ℕ) (P : RootDeclaration → Bool) (o : Option RootDeclaration) → find P (roots_in_sight schema u) ≡ o → is_part schema.classes (unwrap_or (option_map root_kind o) type.Untold) ≡ false
     root_free None P (Some q) is = found (λ (x : RootDeclaration). is_part schema.classes (root_kind x) ≡ false) P schema.roots q roots is

@@ -22,7 +22,7 @@ use Rattle.class_defs.specs.SchemaRules.{in_method, parameter_named}
 use Rattle.class_defs.specs.StatementRules.{block_rules}
 use Rattle.class_defs.specs.Statements.{block_of}
 use Rattle.class_defs.specs.Steps.{Action, World, after, step}
-use Rattle.class_defs.specs.Types.{class_named, class_or_untold, method_of, type_named, type_of}
+use Rattle.class_defs.specs.Types.{method_of, type_named, type_of}
 use Rattle.class_defs.specs.declared.classes.Class.{Class}
 use Rattle.class_defs.specs.declared.classes.ClassKind.{ClassKind}
 use Rattle.class_defs.specs.declared.classes.ClassKind.TheVariants.{Free, Part}
@@ -46,6 +46,7 @@ use Rattle.class_defs.specs.declared.store.RootDeclaration.{RootDeclaration}
 use Rattle.class_defs.specs.declared.store.Schema.{Schema}
 use Rattle.class_defs.specs.declared.types.ExprType.{ExprType}
 use Rattle.class_defs.specs.declared.types.ExprType.TheVariants as type
+use Rattle.class_defs.specs.declared.expressions.TypeName.TheVariants as type_name
 use Rattle.law_eval.proofs.Above.{AreAbove, State, Tells, above_on, choose, create_tells, faults, gives, here, on, same_run, same_stop, still, steps, whole}
 use Rattle.law_eval.proofs.Ends.{AllKnown, all_grow, known as is_known_here}
 use Rattle.law_eval.proofs.EndsCalls.{owners_known}
@@ -75,7 +76,7 @@ use Rattle.law_frame.proofs.AlikeRun.{block_alike, statement_alike}
 use Rattle.law_frame.proofs.AlikeSteps.{Alike, failing}
 
 module _ (schema : Schema) (repos : ℕ) (sound : (c : ℕ) (d : Class) → slice_get schema.classes c ≡ Some d → ClassSound schema repos c d)
-    (roots : AllByRecursion (λ (r : RootDeclaration). is_part schema.classes (class_or_untold (class_named schema.classes r.class.text)) ≡ false) schema.roots)
+    (roots : AllByRecursion (λ (r : RootDeclaration). is_part schema.classes (type_named schema.classes (type_name.Class r.class)) ≡ false) schema.roots)
     (f g : Oref → Option Object) (agrees : (x : Oref) → is_some (f x) ≡ true → g x ≡ f x) where
   abbrev pub In : Sight → Machine → Type 0
   In s m = State schema repos f g s m

@@ -16,7 +16,7 @@ use Rattle.class_defs.specs.SchemaRules.{in_item}
 use Rattle.class_defs.specs.StatementRules.{Ruled, assigned_fits, block_rules, broken_at, gives_part, in_turn, must_be_number, place_for, ruled}
 use Rattle.class_defs.specs.Statements.{assign_local, block_of, declare, holds, in_order, repeat, statement, statement_at, unless_returned}
 use Rattle.class_defs.specs.Steps.{Action, World, number, pure, step, ◌>>=◌, ◌>>◌}
-use Rattle.class_defs.specs.Types.{class_named, class_or_untold, field_of, field_type, type_named}
+use Rattle.class_defs.specs.Types.{field_of, field_type, type_named}
 use Rattle.class_defs.specs.declared.classes.Class.{Class}
 use Rattle.class_defs.specs.declared.expressions.Expr.{Expr, out-Expr}
 use Rattle.class_defs.specs.declared.machine.Flow.{Flow}
@@ -33,6 +33,7 @@ use Rattle.class_defs.specs.declared.store.Object.{Object}
 use Rattle.class_defs.specs.declared.store.RootDeclaration.{RootDeclaration}
 use Rattle.class_defs.specs.declared.store.Schema.{Schema}
 use Rattle.class_defs.specs.declared.types.ExprType.{ExprType}
+use Rattle.class_defs.specs.declared.expressions.TypeName.TheVariants as type_name
 use Rattle.law_eval.proofs.Above.{State, above_on, assign_this, choose, faults, gives, on, same_run, still, steps}
 use Rattle.law_eval.proofs.AboveCalls.{BlocksTell, Owed, ValuesTell, alike_at, all, at_hand, blocks_over, expression_tells, parts_over, value_goes}
 use Rattle.law_eval.proofs.EndsRun.{both as ends_at, block_goes as ends_blocks}
@@ -46,7 +47,7 @@ use Rattle.law_encapsulation.proofs.Steps.{Any, AreFree, GrowsTo, TidyAt}
 use Rattle.law_frame.proofs.AlikeRun.{block_alike}
 
 module _ (schema : Schema) (repos : ℕ) (sound : (c : ℕ) (d : Class) → slice_get schema.classes c ≡ Some d → ClassSound schema repos c d)
-    (roots : AllByRecursion (λ (r : RootDeclaration). is_part schema.classes (class_or_untold (class_named schema.classes r.class.text)) ≡ false) schema.roots)
+    (roots : AllByRecursion (λ (r : RootDeclaration). is_part schema.classes (type_named schema.classes (type_name.Class r.class)) ≡ false) schema.roots)
     (f g : Oref → Option Object) (agrees : (x : Oref) → is_some (f x) ≡ true → g x ≡ f x) where
   abbrev Held : Sight → Machine → Type 0
   Held s m = State schema repos f g s m

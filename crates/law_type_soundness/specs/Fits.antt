@@ -9,7 +9,7 @@ use Rattle.thor_value.specs.declared.values.Value.TheVariants as value
 use Rattle.class_defs.specs.Objects.{seen, stand_in_name}
 use Rattle.class_defs.specs.Rules.{Sight}
 use Rattle.class_defs.specs.Steps.{World}
-use Rattle.class_defs.specs.Types.{IsDeclared, class_named, class_or_untold, fields_of, type_named}
+use Rattle.class_defs.specs.Types.{IsDeclared, fields_of, type_named}
 use Rattle.class_defs.specs.declared.classes.Class.{Class}
 use Rattle.class_defs.specs.declared.classes.Field.{Field}
 use Rattle.class_defs.specs.declared.machine.Flow.{Flow}
@@ -27,6 +27,7 @@ use Rattle.class_defs.specs.declared.store.RootDeclaration.{RootDeclaration}
 use Rattle.class_defs.specs.declared.store.Schema.{Schema}
 use Rattle.class_defs.specs.declared.types.ExprType.{ExprType}
 use Rattle.class_defs.specs.declared.types.ExprType.TheVariants as type
+use Rattle.class_defs.specs.declared.expressions.TypeName.TheVariants as type_name
 
 -- ---- values and objects
 
@@ -69,7 +70,7 @@ pub record ObjectFits (objects : Oref → Option Object) (classes : List Class) 
 
 -- the root's object is there, and of its class
 abbrev pub RootFits : (Oref → Option Object) → List Class → RootDeclaration → Type 0
-RootFits objects classes r = ValueFits objects (class_or_untold (class_named classes r.class.text)) (value.Ref r.oref)
+RootFits objects classes r = ValueFits objects (type_named classes (type_name.Class r.class)) (value.Ref r.oref)
 
 -- objects that refer to one another, and to which the roots refer, as the classes say
 pub record ObjectsFit (schema : Schema) (objects : Oref → Option Object) : Type 0 where

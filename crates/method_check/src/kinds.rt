@@ -8,8 +8,29 @@ ghost use Rattle.method_check.specs.Bodies.{sight};
 use crate::body::Body;
 use class_defs::{
     ClassKind, Classes, ExprType, Field, Method, Name, NamedType, NamedTypes, Operator,
-    RootDeclaration, class_type, type_named,
+    RootDeclaration, type_named, word_type,
 };
+
+/// Whether a type can be told.
+pub fn is_told(kind: ExprType) -> bool
+    ensures { result ≡ rules.is_told kind }
+{
+    match kind {
+        ExprType::Int | ExprType::Text | ExprType::Null | ExprType::Class(_) => true,
+        ExprType::Untold => false,
+    }
+}
+
+/// Whether a type may be that of a root: it is neither a part class nor that of texts.
+pub fn is_root_type(classes: &Classes, kind: ExprType) -> bool
+    ensures { result ≡ rules.is_root_type classes.now kind }
+{
+    match kind {
+        ExprType::Text => false,
+        ExprType::Class(_) => !is_part(classes, kind),
+        ExprType::Int | ExprType::Null | ExprType::Untold => true,
+    }
+}
 
 /// Whether a type is a part class.
 pub fn is_part(classes: &Classes, kind: ExprType) -> bool
@@ -160,7 +181,7 @@ pub fn type_in_sight(body: &Body<'_>, locals: &NamedTypes, name: &Name) -> Optio
     match local_named(locals, name) {
         Some(local) => Some(local.kind),
         None => match root_named(body, locals, name) {
-            Some(root) => Some(class_type(&body.schema.classes, &root.class)),
+            Some(root) => Some(word_type(&body.schema.classes, &root.class)),
             None => None,
         },
     }

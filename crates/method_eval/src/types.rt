@@ -7,7 +7,7 @@ ghost use Rattle.class_defs.specs.Types.{type_named, field_type, name_type, resu
 use crate::world::Program;
 use class_defs::{
     Expr, ExprType, Field, Local, Machine, Method, RootDeclaration, TypeName, class_type,
-    literal_type,
+    literal_type, word_type,
 };
 
 /// The type that a type's word names.
@@ -89,7 +89,7 @@ pub fn name_type(program: &Program<'_>, machine: &Machine, name: &[u8]) -> ExprT
     match local_named(machine, name) {
         Some(local) => local.kind,
         None => match root_named(program, machine, name) {
-            Some(root) => class_type(&program.schema.classes, &root.class),
+            Some(root) => word_type(&program.schema.classes, &root.class),
             None => ExprType::Untold,
         },
     }
