@@ -3,7 +3,8 @@ ghost use Rattle.std.specs.Option.{option_copied};
 ghost use Rattle.std.specs.Str.{bytes_eq};
 ghost use Rattle.thor_value.specs.FiniteMap.{get};
 ghost use Rattle.class_defs.specs.Objects.{fitted_or_beginning};
-ghost use Rattle.class_defs.specs.Types.{class_named, type_named};
+ghost use Rattle.class_defs.specs.Types.{class_named, class_or_word, type_named};
+ghost use Rattle.class_defs.specs.declared.types.ExprType.TheVariants as type;
 ghost use Rattle.class_defs.specs.Upgrades.{tf_value, transformed, upgrade_of};
 
 use crate::field_values::{fitted_or_beginning, tf_value};

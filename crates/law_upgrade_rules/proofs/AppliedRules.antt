@@ -7,7 +7,7 @@ use Rattle.law_upgrade_rules.proofs.AppliedClasses.{keeps_name, same_kind, same_
 use Rattle.class_defs.proofs.KeptRules.{each_nothing, nothing}
 use Rattle.law_upgrade_rules.proofs.KeptByRules.{Sound, at_place}
 use Rattle.class_defs.specs.Applied.{applied, class_behind, classes_behind, said_of}
-use Rattle.class_defs.specs.Rules.{is_part, is_root_class, is_root_type, is_told, is_type, must, stand_once}
+use Rattle.class_defs.specs.Rules.{is_root_class, is_root_type, is_told, is_type, must, stand_once}
 use Rattle.class_defs.specs.SchemaRules.{class_names, class_rules, classes_from, item_rules, member_names, method_rules, root_at_rules, root_names, root_rules, schema_rules}
 use Rattle.class_defs.specs.Types.{type_named}
 use Rattle.class_defs.specs.UpgradeOrder.{inside_class, inside_rules, outside_class, outside_rules, over_classes}
