@@ -8,7 +8,7 @@ import re
 
 from store_files import Name, Place, Wrong, file_name
 
-WORD = re.compile(r"[A-Za-z][A-Za-z0-9_]{0,31}|[0-9]+|==|!=|[{}();,.=<+*-]")
+WORD = re.compile(r'"[ !#-~]{0,32}"|[A-Za-z][A-Za-z0-9_]{0,31}|[0-9]+|==|!=|[{}();,.=<+*-]')
 CLASS_END = 1 << 16
 
 
