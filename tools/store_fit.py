@@ -238,6 +238,8 @@ def misfit(objects, schemas, kind, value):
     """Why a value isn't one of a field's type; None where it is."""
     if kind == "int":
         return None if isinstance(value, int) else f"is {said(value)}, and has to be an int"
+    if kind == "text" and kind not in schemas.number:
+        return None if isinstance(value, str) else f"is {said(value)}, and has to be a text"
     if isinstance(value, int):
         return f"is the int {value}, and has to be of class {kind}"
     if isinstance(value, str):
