@@ -1,6 +1,6 @@
 -- The rules that an expression breaks (this project's).
 use Rattle.std.specs.Prelude.{ℕ, ◌||◌, ◌&&◌, ◌==◌, nat_lt, not, List, [], ◌∷◌, ◌++◌, length, Bool, true, false, Option, Some, None, is_some, is_none, option_and_then, drop, slice_get}
-use Rattle.class_defs.specs.Rules.{Sight, must, scope_of, type_in_sight, is_part, is_class, fits}
+use Rattle.class_defs.specs.Rules.{Sight, must, scope_of, type_in_sight, is_part, is_class, fits, is_told}
 use Rattle.class_defs.specs.Types.{class_named, class_or_untold, field_of, field_type, method_of, type_named, type_step}
 use Rattle.class_defs.specs.declared.classes.Class.{Class}
 use Rattle.class_defs.specs.declared.classes.Method.{Method}
@@ -180,13 +180,6 @@ method_called classes type.Int method = None
 method_called classes type.Text method = None
 method_called classes type.Null method = None
 method_called classes type.Untold method = None
-
-abbrev pub is_told : ExprType → Bool
-is_told type.Int = true
-is_told type.Text = true
-is_told type.Null = true
-is_told (type.Class c) = true
-is_told type.Untold = false
 
 -- T2 and T4: the receiver's class has the method, with as many parameters as there are arguments
 abbrev pub called_rules : ExprType → Option Method → Name → ℕ → List RuleFault

@@ -211,16 +211,6 @@ pub fn new_rules(
     kind
 }
 
-/// Whether the type of a receiver is told.
-fn is_told(kind: ExprType) -> bool
-    ensures { result ≡ spec.is_told kind }
-{
-    match kind {
-        ExprType::Int | ExprType::Text | ExprType::Null | ExprType::Class(_) => true,
-        ExprType::Untold => false,
-    }
-}
-
 /// What the method of a call breaks.
 pub fn called_rules(
     receiver: ExprType,
