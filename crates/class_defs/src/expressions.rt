@@ -1,5 +1,3 @@
-ghost use Rattle.std.specs.Prelude.{◌≡◌, IfOk};
-
 use thor_value::{Boxed, NoMemory, Sequence, Text, TryCopy};
 
 /// A name as it stands in the text.
@@ -104,78 +102,5 @@ impl TryCopy for TypeName {
             TypeName::Int { line } => Ok(TypeName::Int { line: *line }),
             TypeName::Class { name } => Ok(TypeName::Class { name: name.copy()? }),
         }
-    }
-}
-
-impl TryCopy for Expr {
-    fn copy(&self) -> Result<Expr, NoMemory> {
-        copy_expr(self)
-    }
-}
-
-#[cycle(copy_expression)]
-fn copy_boxed(expr: &Boxed<Expr>) -> Result<Boxed<Expr>, NoMemory>
-    ensures { IfOk result (λ copied. copied ≡ expr.now) }
-{
-    let copied = copy_expr(expr.get())?;
-    Boxed::new(expr.allocator(), copied)
-}
-
-#[cycle(copy_expression)]
-fn copy_exprs(exprs: &Exprs) -> Result<Exprs, NoMemory>
-    ensures { IfOk result (λ copied. copied ≡ exprs.now) }
-{
-    let mut copied = Sequence::new(exprs.allocator());
-    for expr in exprs.as_slice() {
-        copied.push(copy_expr(expr)?)?;
-    }
-    Ok(copied)
-}
-
-#[cycle(copy_expression)]
-fn copy_expr(expr: &Expr) -> Result<Expr, NoMemory>
-    ensures { IfOk result (λ copied. copied ≡ expr.now) }
-{
-    match expr {
-        Expr::Int { value, line } => Ok(Expr::Int {
-            value: *value,
-            line: *line,
-        }),
-        Expr::Null { line } => Ok(Expr::Null { line: *line }),
-        Expr::This { line } => Ok(Expr::This { line: *line }),
-        Expr::Field { name } => Ok(Expr::Field { name: name.copy()? }),
-        Expr::Variable { name } => Ok(Expr::Variable { name: name.copy()? }),
-        Expr::New { class, at } => Ok(Expr::New {
-            class: class.copy()?,
-            at: *at,
-        }),
-        Expr::Parens { inner, line } => Ok(Expr::Parens {
-            inner: copy_boxed(inner)?,
-            line: *line,
-        }),
-        Expr::Negate { operand, line } => Ok(Expr::Negate {
-            operand: copy_boxed(operand)?,
-            line: *line,
-        }),
-        Expr::Binary {
-            operator,
-            left,
-            right,
-            line,
-        } => Ok(Expr::Binary {
-            operator: *operator,
-            left: copy_boxed(left)?,
-            right: copy_boxed(right)?,
-            line: *line,
-        }),
-        Expr::Call {
-            receiver,
-            method,
-            arguments,
-        } => Ok(Expr::Call {
-            receiver: copy_boxed(receiver)?,
-            method: method.copy()?,
-            arguments: copy_exprs(arguments)?,
-        }),
     }
 }

@@ -17,7 +17,7 @@ use Rattle.class_defs.proofs.machine.Receiver.TheSendSync as receiver
 use Rattle.class_defs.proofs.types.ExprType.TheSendSync as expr_type
 use Rattle.lang_small_steps.proofs.nodes.ExprNode.TheLaws.TheKnot as expr_node
 use Rattle.lang_small_steps.proofs.nodes.StmtNode.TheLaws.TheKnot as stmt_node
-use Rattle.lang_small_steps.proofs.shared.Shared.TheSendSync as shared
+use Rattle.thor_value.proofs.shared.Shared.TheSendSync as shared
 use Rattle.lang_small_steps.proofs.stack.Stack.TheSendSync as stack
 use Rattle.lang_small_steps.specs.contracts.frames.Doing as Doing
 use Rattle.lang_small_steps.specs.contracts.frames.Frame as Frame
@@ -26,7 +26,7 @@ use Rattle.lang_small_steps.specs.contracts.methods.SharedMethod as SharedMethod
 use Rattle.lang_small_steps.specs.contracts.nodes.ExprNode as ExprNode
 use Rattle.lang_small_steps.specs.contracts.nodes.StmtNode as StmtNode
 use Rattle.lang_small_steps.specs.contracts.parameters.TypedParameter as TypedParameter
-use Rattle.lang_small_steps.specs.contracts.shared.Shared as Shared
+use Rattle.thor_value.specs.contracts.shared.Shared as Shared
 use Rattle.lang_small_steps.specs.contracts.syntax.SharedBlock as SharedBlock
 use Rattle.lang_small_steps.specs.contracts.syntax.SharedExpr as SharedExpr
 use Rattle.lang_small_steps.specs.contracts.syntax.SharedExprs as SharedExprs

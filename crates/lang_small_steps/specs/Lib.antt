@@ -1,4 +1,3 @@
-pub mod formers
 pub mod Methods
 pub mod Typed
 pub mod Plain

@@ -1,7 +1,6 @@
-use crate::shared::Shared;
 use crate::syntax::{SharedBlock, SharedExpr, SharedExprs, SharedStmt};
 use class_defs::{At, ExprType, Flow, Locals, Operator, Receiver};
-use thor_value::{Oref, Text, Value, Values};
+use thor_value::{Oref, Shared, Text, Value, Values};
 
 /// What is done next.
 #[derive(Drop)]

@@ -6,7 +6,6 @@ mod laws;
 mod methods;
 mod nodes;
 mod parameters;
-mod shared;
 mod sharing;
 mod stack;
 mod syntax;
@@ -22,7 +21,6 @@ pub use methods::{
 };
 pub use nodes::{ExprNode, ExprNodes, StmtNode, StmtNodes};
 pub use parameters::{TypedParameter, TypedParameters};
-pub use shared::Shared;
 pub use sharing::calls_in;
 pub use stack::Stack;
 pub use syntax::{SharedBlock, SharedExpr, SharedExprs, SharedStmt};

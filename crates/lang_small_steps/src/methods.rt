@@ -11,7 +11,6 @@ ghost use Rattle.lang_small_steps.specs.Typed.{IsTyped, typed};
 
 use crate::nodes::StmtNodes;
 use crate::parameters::{TypedParameters, locals_of, typed_parameters};
-use crate::shared::Shared;
 use crate::sharing::stmt_nodes;
 use class_defs::{
     Classes, ExprType, Locals, Method, Methods, Name, Schemas, TypeName, UpgradedSchemas,
@@ -19,7 +18,7 @@ use class_defs::{
 };
 use std::alloc::Global;
 use std::marker::Model;
-use thor_value::{NoMemory, Sequence, TryCopy, Values};
+use thor_value::{NoMemory, Sequence, Shared, TryCopy, Values};
 
 /// A method whose body has several owners, with the types that its words name. Contracts see it as that method, and these
 /// beside it.

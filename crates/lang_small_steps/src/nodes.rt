@@ -1,6 +1,5 @@
-use crate::shared::Shared;
 use class_defs::{At, Operator, TypeName};
-use thor_value::{Sequence, Text};
+use thor_value::{Sequence, Shared, Text};
 
 /// An expression each part of which can have several owners. Each node is that of `class_defs` with the same name.
 #[derive(Drop)]

@@ -3,10 +3,9 @@ ghost use Rattle.class_defs.specs.declared.expressions.Expr.TheVariants as Expr;
 ghost use Rattle.lang_small_steps.specs.Plain.{name, plain, plain_stmt};
 
 use crate::nodes::{ExprNode, ExprNodes, StmtNode, StmtNodes};
-use crate::shared::Shared;
 use class_defs::{Block, Expr, Exprs, Name, Operator, Stmt};
 use std::alloc::Global;
-use thor_value::{NoMemory, Sequence, Text, TryCopy};
+use thor_value::{NoMemory, Sequence, Shared, Text, TryCopy};
 
 fn shared_text(alloc: Global, name: &Name) -> Result<Shared<Text>, NoMemory>
     ensures { IfOk result (λ text. text ≡ name.now.text) }

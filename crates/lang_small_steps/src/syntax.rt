@@ -2,12 +2,11 @@ ghost use Rattle.std.specs.Prelude.{◌≡◌, ◌<◌, ◌+◌, ◌-◌, ◌^�
 ghost use Rattle.lang_small_steps.specs.Plain.{plain, plain_stmt};
 
 use crate::nodes::{ExprNode, ExprNodes, StmtNode, StmtNodes};
-use crate::shared::Shared;
 use crate::sharing::stmt_nodes;
 use class_defs::Block;
 use std::alloc::Global;
 use std::marker::Model;
-use thor_value::NoMemory;
+use thor_value::{NoMemory, Shared};
 
 /// An expression with several owners, which contracts see as that expression.
 #[derive(Drop)]

@@ -29,11 +29,11 @@ use class_defs::{
     DEPTH_LIMIT, ExprType, Machine, Operator, Receiver, STEP_LIMIT, combined, number,
 };
 use client_cache::Cache;
-use lang_small_steps::{ExprNode, ExprNodes, Shared, SharedExprs, SharedMethod};
+use lang_small_steps::{ExprNode, ExprNodes, SharedExprs, SharedMethod};
 use method_eval::{Program, named_value, owners_at};
 use std::mem;
 use std::sync::ledger::Ledger;
-use thor_value::{Fault, NoMemory, Oref, Text, Value, Values};
+use thor_value::{Fault, NoMemory, Oref, Shared, Text, Value, Values};
 
 /// The value of an expression whose nodes may be `nested` deep.
 #[cycle(direct)]

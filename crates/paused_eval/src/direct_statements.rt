@@ -21,10 +21,10 @@ use crate::waiting::{
 };
 use class_defs::{Flow, Machine, STEP_LIMIT, number};
 use client_cache::Cache;
-use lang_small_steps::{ExprNode, Shared, SharedBlock, StmtNode, StmtNodes};
+use lang_small_steps::{ExprNode, SharedBlock, StmtNode, StmtNodes};
 use method_eval::{Program, assign_local, declare, holds, type_named};
 use std::sync::ledger::Ledger;
-use thor_value::{NoMemory, Value};
+use thor_value::{NoMemory, Shared, Value};
 
 /// The statements of a block in order. A local ends with the block in which it was declared.
 #[cycle(direct)]

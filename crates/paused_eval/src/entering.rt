@@ -15,11 +15,11 @@ use crate::moves::open_block;
 use crate::objects::touch;
 use class_defs::{DEPTH_LIMIT, Machine, Receiver};
 use client_cache::Cache;
-use lang_small_steps::{Doing, Frame, Shared, SharedBlock, SharedMethod, Stack};
+use lang_small_steps::{Doing, Frame, SharedBlock, SharedMethod, Stack};
 use method_eval::{Halt, Program, fault, owners_at};
 use std::mem;
 use std::sync::ledger::Ledger;
-use thor_value::{Fault, Oref, Text, Values};
+use thor_value::{Fault, Oref, Shared, Text, Values};
 
 /// A body begins, with `this` and its parameters.
 fn open_body(

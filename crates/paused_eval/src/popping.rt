@@ -12,10 +12,10 @@ use crate::moves::{
     collect, ended, evaluate_for, give, given, go_on, open_block, pass, tested, turned,
 };
 use class_defs::{Flow, Locals, Machine, Receiver, combined, number};
-use lang_small_steps::{Doing, Frame, Shared, Stack};
+use lang_small_steps::{Doing, Frame, Stack};
 use method_eval::{Halt, Program, assign_local, declare, holds};
 use std::sync::ledger::Ledger;
-use thor_value::{NoMemory, StepCount, Text, Value, Values};
+use thor_value::{NoMemory, Shared, StepCount, Text, Value, Values};
 
 /// The name of the field that a frame assigns.
 pub fn field_assigned(frame: &Frame) -> Option<&Shared<Text>>

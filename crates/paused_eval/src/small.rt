@@ -24,10 +24,10 @@ use crate::popping::{field_assigned, pop};
 use crate::starting::{field_read, start};
 use class_defs::{At, Flow, Machine, Stop};
 use client_cache::Cache;
-use lang_small_steps::{Doing, Frame, Shared, SharedExpr, SharedStmt, Stack};
+use lang_small_steps::{Doing, Frame, SharedExpr, SharedStmt, Stack};
 use method_eval::{Halt, Names, Program, fault};
 use std::sync::ledger::Ledger;
-use thor_value::{Fault, Oref, StepCount, Text, Values};
+use thor_value::{Fault, Oref, Shared, StepCount, Text, Values};
 
 /// Takes one step.
 #[tactic(auto, using(crate::proofs::Lifting::lift_step))]

@@ -14,10 +14,10 @@ ghost use Rattle.paused_eval.specs.Does.{Holds, Moves, field_read};
 use crate::moves::{give, go_into, go_into_for, take_step};
 use crate::types::type_of;
 use class_defs::{At, ExprType, Machine, Operator};
-use lang_small_steps::{Doing, ExprNode, ExprNodes, Frame, Shared, SharedExpr, SharedExprs, Stack};
+use lang_small_steps::{Doing, ExprNode, ExprNodes, Frame, SharedExpr, SharedExprs, Stack};
 use method_eval::{Halt, Program, named_value};
 use std::sync::ledger::Ledger;
-use thor_value::{NoMemory, StepCount, Text, Value};
+use thor_value::{NoMemory, Shared, StepCount, Text, Value};
 
 /// The name of the field that a node reads.
 #[tactic(auto, using(crate::proofs::Nodes::expr_nodes))]
