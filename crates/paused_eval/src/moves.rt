@@ -16,7 +16,9 @@ ghost use Rattle.paused_eval.specs.Counted.{surplus};
 ghost use Rattle.paused_eval.specs.Does.{Holds, Moves, Stepped, tested};
 
 use class_defs::{ExprType, Flow, Machine, STEP_LIMIT, beginning};
-use lang_small_steps::{Doing, ExprNode, Frame, SharedBlock, SharedExpr, SharedExprs, Stack, StmtNode};
+use lang_small_steps::{
+    Doing, ExprNode, Frame, SharedBlock, SharedExpr, SharedExprs, Stack, StmtNode,
+};
 use method_eval::{Halt, Program, fault, holds, type_named};
 use std::sync::ledger::Ledger;
 use thor_value::{Fault, NoMemory, Shared, StepCount, Text, Value, Values};

@@ -10,7 +10,10 @@ ghost use Rattle.paused_eval.specs.Direct.{IsLeft, IsLater, LaterBehind, Waits};
 use crate::moves::waiting_frame;
 use crate::unwound::{Frames, Unwound};
 use class_defs::{At, ExprType, Flow, Locals, Operator, Receiver, Stop};
-use lang_small_steps::{Doing, ExprNode, ExprNodes, Frame, SharedBlock, SharedExpr, SharedExprs, SharedStmt, StmtNode, StmtNodes};
+use lang_small_steps::{
+    Doing, ExprNode, ExprNodes, Frame, SharedBlock, SharedExpr, SharedExprs, SharedStmt, StmtNode,
+    StmtNodes,
+};
 use method_eval::{Halt, Program};
 use std::alloc::Global;
 use thor_value::{Boxed, Fault, NoMemory, Oref, Shared, Text, Value, Values};
