@@ -15,13 +15,12 @@ ghost use Rattle.std.specs.Option.{option_or};
 ghost use Rattle.repo_refusals.specs.declared.refusal.Refusal.TheVariants.{NoMemory as IsNoMemory};
 ghost use Rattle.repo_refusals.specs.declared.refusal.Refusal.{Refusal as ARefusal};
 ghost use Rattle.repo_core.specs.Shown.{ShowsPages};
-ghost use Rattle.repo_trace.specs.Recorded.{with_mark};
 
 use crate::repo::Repo;
 use disk_trait::Parts;
 use log_entries::Request;
 use repo_refusals::Refusal;
-use spec_trace::{Mark, refused_mark};
+use spec_trace::refused_mark;
 
 impl<P: Parts> Repo<P> {
     /// Puts the mark of a refused draw, grant or request behind the trace. The answer is the refusal, or
@@ -49,33 +48,11 @@ impl<P: Parts> Repo<P> {
         ensures opened { self.new.opened_in ≡ self.old.opened_in }
     {
         match refused_mark(self.alloc, session, request, refusal) {
-            Ok(mark) => self.mark_refused(mark, refusal),
+            Ok(mark) => match self.mark(Ok(()), mark) {
+                Ok(()) => refusal,
+                Err(fault) => fault,
+            },
             Err(_) => self.fall(),
-        }
-    }
-
-    /// Puts the mark of a refusal behind the trace. The answer is the refusal, or `NoMemory` where there was none for
-    /// the mark.
-    #[tactic(auto, using(crate::proofs::Refused::leaves_so, crate::proofs::Refused::never_marked))]
-    fn mark_refused(&mut self, mark: Mark, refusal: Refusal) -> Refusal
-        requires up { self.old.is_up ≡ true }
-        requires marked { is_marked refusal ≡ true }
-        ensures stands { self.new.is_up ≡ cond (is_fault result) false true }
-        ensures readable { ShowsPages self.old → ShowsPages self.new }
-        ensures held { self.new.held ≡ self.old.held }
-        ensures memory { self.new.memory ≡ self.old.memory }
-        ensures trace { self.new.trace ≡ cond (is_marked result) (with_mark self.old.trace mark) self.old.trace }
-        ensures same { is_marked result ≡ true → result ≡ refusal }
-        ensures other { is_marked result ≡ false → result ≡ IsNoMemory }
-        ensures left { (e : Option AnEntry) → Leaves self.old self.new e result }
-        ensures pages { self.new.pages ≡ self.old.pages }
-        ensures clock { self.new.clock ≡ self.old.clock }
-        ensures faults { self.new.faults ≡ self.old.faults }
-        ensures opened { self.new.opened_in ≡ self.old.opened_in }
-    {
-        match self.mark(Ok(()), mark) {
-            Ok(()) => refusal,
-            Err(fault) => fault,
         }
     }
 
