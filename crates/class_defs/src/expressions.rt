@@ -1,4 +1,4 @@
-use thor_value::{Boxed, NoMemory, Sequence, Text, TryCopy};
+use thor_value::{NoMemory, Sequence, Shared, Text, TryCopy, both};
 
 /// A name as it stands in the text.
 #[derive(Debug, Drop)]
@@ -64,28 +64,28 @@ pub enum Expr {
         at: Option<At>,
     },
     Parens {
-        inner: Boxed<Expr>,
+        inner: Shared<Expr>,
         line: u32,
     },
     Negate {
-        operand: Boxed<Expr>,
+        operand: Shared<Expr>,
         line: u32,
     },
     Binary {
         operator: Operator,
-        left: Boxed<Expr>,
-        right: Boxed<Expr>,
+        left: Shared<Expr>,
+        right: Shared<Expr>,
         line: u32,
     },
     Call {
-        receiver: Boxed<Expr>,
+        receiver: Shared<Expr>,
         method: Name,
         arguments: Exprs,
     },
 }
 
-/// Expressions, as the arguments of a call.
-pub type Exprs = Sequence<Expr>;
+/// Expressions, as the arguments of a call. Who copies them shares them.
+pub type Exprs = Shared<Sequence<Expr>>;
 
 impl TryCopy for Name {
     fn copy(&self) -> Result<Name, NoMemory> {
@@ -101,6 +101,62 @@ impl TryCopy for TypeName {
         match self {
             TypeName::Int { line } => Ok(TypeName::Int { line: *line }),
             TypeName::Class { name } => Ok(TypeName::Class { name: name.copy()? }),
+        }
+    }
+}
+
+impl TryCopy for Expr {
+    /// The copy shares its parts.
+    fn copy(&self) -> Result<Expr, NoMemory> {
+        match self {
+            Expr::Int { value, line } => Ok(Expr::Int {
+                value: *value,
+                line: *line,
+            }),
+            Expr::Null { line } => Ok(Expr::Null { line: *line }),
+            Expr::This { line } => Ok(Expr::This { line: *line }),
+            Expr::Field { name } => Ok(Expr::Field { name: name.copy()? }),
+            Expr::Variable { name } => Ok(Expr::Variable { name: name.copy()? }),
+            Expr::New { class, at } => Ok(Expr::New {
+                class: class.copy()?,
+                at: *at,
+            }),
+            Expr::Parens { inner, line } => Ok(Expr::Parens {
+                inner: inner.share()?,
+                line: *line,
+            }),
+            Expr::Negate { operand, line } => Ok(Expr::Negate {
+                operand: operand.share()?,
+                line: *line,
+            }),
+            Expr::Binary {
+                operator,
+                left,
+                right,
+                line,
+            } => {
+                let (left, right) = both(left.share()?, right.share())?;
+                Ok(Expr::Binary {
+                    operator: *operator,
+                    left,
+                    right,
+                    line: *line,
+                })
+            }
+            Expr::Call {
+                receiver,
+                method,
+                arguments,
+            } => {
+                let (receiver, method) = both(receiver.share()?, method.copy())?;
+                let (called, arguments) = both((receiver, method), arguments.share())?;
+                let (receiver, method) = called;
+                Ok(Expr::Call {
+                    receiver,
+                    method,
+                    arguments,
+                })
+            }
         }
     }
 }

@@ -20,7 +20,7 @@ use Rattle.client_items.specs.contracts.opened.Opened as Opened
 use Rattle.client_items.specs.contracts.progress.Progress as Progress
 use Rattle.paused_eval.proofs.copies.Copies.TheSendSync as copies
 use Rattle.paused_eval.proofs.granted_names.GrantedNames.TheSendSync as granted_names
-use Rattle.cluster_threads.proofs.RunsCross.{epoch_methods_sync, paused_send, shared_block_send}
+use Rattle.cluster_threads.proofs.RunsCross.{epoch_methods_sync, paused_send}
 use Rattle.cluster_threads.proofs.TreesCross.{schemas_sync, stmt_send, stmt_sync, upgrade_send}
 
 ruleset base = (sequence.the_send, sequence.the_sync, shared.the_send, shared.the_sync, sendable)
@@ -29,7 +29,7 @@ pub what_send : IsSend (What.the_field).row
 what_send = search (stmt_send, stmt_sync, upgrade_send, base) depth 30
 
 pub progress_send : IsSend Progress.the_row
-progress_send = search (what_send, ended.the_send, shared_block_send, base) depth 30
+progress_send = search (what_send, ended.the_send, base) depth 30
 
 pub opened_sync : IsSync Opened.the_row
 opened_sync = search (schemas_sync, epoch_methods_sync, base) depth 30

@@ -37,16 +37,16 @@ pub type_name_sync : IsSync (TypeName.the_field).row
 type_name_sync = search (name_sync, base) depth 30
 
 pub expr_send : IsSend (Expr.the_field).row
-expr_send = search (expr.crosses, name_send, base) depth 60 fits 20000
+expr_send = search (expr.crosses_both, name_send, name_sync, base) depth 60 fits 20000
 
 pub expr_sync : IsSync (Expr.the_field).row
-expr_sync = search (expr.crosses, name_sync, base) depth 60 fits 20000
+expr_sync = search (expr.crosses_both, name_send, name_sync, base) depth 60 fits 20000
 
 pub tf_send : IsSend (Tf.the_field).row
-tf_send = search (tf.crosses, name_send, base) depth 60 fits 20000
+tf_send = search (tf.crosses_both, name_send, name_sync, base) depth 60 fits 20000
 
 pub tf_sync : IsSync (Tf.the_field).row
-tf_sync = search (tf.crosses, name_sync, base) depth 60 fits 20000
+tf_sync = search (tf.crosses_both, name_send, name_sync, base) depth 60 fits 20000
 
 pub stmt_send : IsSend (Stmt.the_field).row
 stmt_send = search (stmt.crosses_both, expr_send, expr_sync, type_name_send, type_name_sync, name_send, name_sync, base) depth 60 fits 20000
@@ -91,10 +91,10 @@ pub schema_sync : IsSync (Schema.the_field).row
 schema_sync = search (class_sync, root_sync, base) depth 30
 
 pub field_upgrade_send : IsSend (FieldUpgrade.the_field).row
-field_upgrade_send = search (tf_send, type_name_send, name_send, base) depth 30
+field_upgrade_send = search (tf_send, tf_sync, type_name_send, name_send, base) depth 30
 
 pub field_upgrade_sync : IsSync (FieldUpgrade.the_field).row
-field_upgrade_sync = search (tf_sync, type_name_sync, name_sync, base) depth 30
+field_upgrade_sync = search (tf_send, tf_sync, type_name_sync, name_sync, base) depth 30
 
 pub class_upgrade_send : IsSend (ClassUpgrade.the_field).row
 class_upgrade_send = search (field_upgrade_send, method_send, name_send, base) depth 30

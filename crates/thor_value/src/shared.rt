@@ -1,4 +1,4 @@
-ghost use Rattle.std.specs.Prelude.{◌≡◌, IfOk};
+ghost use Rattle.std.specs.Prelude.{◌≡◌, length, IfOk};
 
 use crate::memory::{NoMemory, TryCopy};
 use crate::sequence::Sequence;
@@ -54,6 +54,12 @@ impl<T> Shared<Sequence<T>> {
         ensures { result.now ≡ self.now }
     {
         self.get().as_slice()
+    }
+
+    pub fn len(&self) -> usize
+        ensures { result ≡ length self.now }
+    {
+        self.get().len()
     }
 }
 
