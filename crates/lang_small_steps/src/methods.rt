@@ -32,7 +32,7 @@ impl Model for SharedMethod {
     ghost use Rattle.std.specs.Coded.{codes};
     ghost use Rattle.std.specs.Prelude.{map};
     ghost use Rattle.class_defs.specs.contracts.classes.Method as method;
-        ghost use Rattle.lang_small_steps.specs.Typed.{TypedMethod};
+    ghost use Rattle.lang_small_steps.specs.Typed.{TypedMethod};
 
     ghost Value = { TypedMethod };
 

@@ -189,14 +189,7 @@ fn effect<L: Ledger>(
             Ok(Flow::Next)
         }
         Stmt::FieldAssign { field, .. } => {
-            assign_field(
-                program,
-                epoch,
-                cache,
-                machine,
-                field.text.as_slice(),
-                value,
-            )?;
+            assign_field(program, epoch, cache, machine, field.text.as_slice(), value)?;
             Ok(Flow::Next)
         }
         Stmt::Return { .. } => Ok(Flow::Returned(value)),

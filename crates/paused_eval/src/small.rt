@@ -141,15 +141,7 @@ fn make(
     ensures names { FromPages names.new }
     ensures steps { machine.new.steps ≡ machine.old.steps }
 {
-    match create(
-        program,
-        epoch,
-        cache,
-        names,
-        machine,
-        class.as_slice(),
-        at,
-    ) {
+    match create(program, epoch, cache, names, machine, class.as_slice(), at) {
         Ok(value) => Ok(Moved::To {
             doing: Doing::Give {
                 flow: Flow::Returned(value),

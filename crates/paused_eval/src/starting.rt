@@ -59,11 +59,7 @@ fn create(class: &Text, at: Option<At>) -> Result<Doing, NoMemory>
 }
 
 /// The operand of a sign is evaluated.
-fn negate(
-    stack: &mut Stack<Frame>,
-    inner: u32,
-    operand: &Expr,
-) -> Result<Doing, NoMemory>
+fn negate(stack: &mut Stack<Frame>, inner: u32, operand: &Expr) -> Result<Doing, NoMemory>
     ensures doing { IfOk result (λ doing. doing ≡ Doing.Evaluate inner operand.now) }
     ensures stack { OnOk result (stack.new ≡ Frame.Negate ∷ stack.old) }
 {
@@ -149,14 +145,7 @@ fn first(
             arguments,
         } => {
             let kind = type_of(program, machine, receiver.get());
-            Ok(call(
-                stack,
-                inner,
-                kind,
-                receiver.get(),
-                &method.text,
-                arguments,
-            )?)
+            Ok(call(stack, inner, kind, receiver.get(), &method.text, arguments)?)
         }
     }
 }

@@ -84,12 +84,7 @@ pub fn behind_left(unwound: Unwound, operator: Operator, left: Value) -> Unwound
 }
 
 /// The left operand is left.
-pub fn behind_right(
-    unwound: Unwound,
-    nested: u32,
-    operator: Operator,
-    right: &Expr,
-) -> Unwound
+pub fn behind_right(unwound: Unwound, nested: u32, operator: Operator, right: &Expr) -> Unwound
     ensures { Waits (Frame.Right nested operator right.now) unwound result }
 {
     match right.copy() {
@@ -266,12 +261,7 @@ pub fn not_entered(
 }
 
 /// The frame in which a loop waits for the end of its body.
-fn again_frame(
-    inner: u32,
-    turns: u32,
-    condition: &Expr,
-    body: &Block,
-) -> Result<Frame, NoMemory>
+fn again_frame(inner: u32, turns: u32, condition: &Expr, body: &Block) -> Result<Frame, NoMemory>
     ensures { IfOk result (λ frame. frame ≡ Frame.Again inner turns condition.now body.now) }
 {
     let (condition, body) = both(condition.copy()?, SharedBlock::of(body))?;
@@ -284,12 +274,7 @@ fn again_frame(
 }
 
 /// The frame in which a loop waits for its condition.
-fn test_frame(
-    inner: u32,
-    turns: u32,
-    condition: &Expr,
-    body: &Block,
-) -> Result<Frame, NoMemory>
+fn test_frame(inner: u32, turns: u32, condition: &Expr, body: &Block) -> Result<Frame, NoMemory>
     ensures { IfOk result (λ frame. frame ≡ Frame.Test inner turns condition.now body.now) }
 {
     let (condition, body) = both(condition.copy()?, SharedBlock::of(body))?;
