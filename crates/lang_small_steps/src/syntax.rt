@@ -45,7 +45,7 @@ impl SharedStmt {
     pub fn get(&self) -> &Stmt
         ensures { result.now ≡ self.now }
     {
-        match self.block.as_slice().get(self.place) {
+        match self.block.get().get(self.place) {
             Some(stmt) => stmt,
             None => unreachable!(),
         }
@@ -88,7 +88,7 @@ impl SharedExprs {
     pub fn at(exprs: &Exprs, place: usize) -> Option<&Expr>
         ensures { MatchOption result (drop place exprs.now ≡ []) (λ expr. drop place exprs.now ≡ expr.now ∷ drop (place + 1) exprs.now) }
     {
-        exprs.as_slice().get(place)
+        exprs.get().get(place)
     }
 
     /// The expressions behind a place, as their other owner.
@@ -112,7 +112,7 @@ impl SharedExprs {
         if from >= count {
             return Ok(None);
         }
-        let first = match exprs.as_slice().get(from) {
+        let first = match exprs.get().get(from) {
             Some(expr) => expr.copy()?,
             None => return Ok(None),
         };
@@ -160,7 +160,7 @@ impl SharedBlock {
     pub fn at(block: &Block, place: usize) -> Option<&Stmt>
         ensures { MatchOption result (drop place block.now ≡ []) (λ stmt. drop place block.now ≡ stmt.now ∷ drop (place + 1) block.now) }
     {
-        block.as_slice().get(place)
+        block.get().get(place)
     }
 
     /// The statements of a block behind a place, as their other owner.
