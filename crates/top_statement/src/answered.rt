@@ -25,6 +25,8 @@ pub struct Answered<P> {
 #[derive(Drop)]
 pub struct Outcome<P> {
     pub status: Status,
+    /// What it had to write, where memory was there. Its text was written whole, but where the sink failed.
+    pub reply: Result<Reply, NoMemory>,
     /// The parts that were handed in, in their order.
     pub parts: Vec<P>,
     /// What happened at each repository; nothing where no run was made.
