@@ -14,4 +14,4 @@ pub use performing::perform;
 pub use top::thor;
 pub use top_judging::SCRIPT_LIMIT;
 pub use top_reply::{Reply, Status};
-pub use top_statement::Outcome;
+pub use top_statement::{Outcome, StoreParts};

@@ -15,7 +15,7 @@ use disk_trait::Parts;
 use outside::{Sink, Source};
 use std::alloc::Global;
 use top_reply::Status;
-use top_statement::{Outcome, write_answer};
+use top_statement::{Outcome, StoreParts, write_answer};
 use top_words::Plan;
 
 /// Performs a plan whose command isn't `run`: what `thor` does with the words of this plan. It starts no
@@ -30,21 +30,22 @@ pub fn perform<S: Source, K: Sink, P: Parts>(
     plan: Plan,
     source: &mut S,
     sink: &mut K,
-    parts: Vec<P>,
+    parts: StoreParts<P>,
 ) -> Outcome<P>
     requires { IsInTurn plan.command }
     // What is true of the reply, by its payload.
-    ensures says { IfOk result.reply (Says (ReadAll P.disks parts.items) (IsHanded plan (vec_len parts)) (IsForOthers plan (vec_len parts)) (told_by S.left S.faults source.old) (told_by S.left S.faults source.new)) }
+    ensures says { IfOk result.reply (Says (ReadAll P.disks parts.repositories.items) (IsHanded plan (vec_len parts.repositories)) (IsForOthers plan (vec_len parts.repositories)) (told_by S.left S.faults source.old) (told_by S.left S.faults source.new)) }
     // What the sink took of it, and the status.
     ensures wrote { Wrote result.reply (K.taken sink.old) (K.taken sink.new) (K.faults sink.old) (K.faults sink.new) result.status }
     ensures sink_fault { result.status ≡ Status.SinkFault → Rose (K.faults sink.old) (K.faults sink.new) }
     ensures nothing { result.status ≡ Status.NoMemory → K.taken sink.new ≡ K.taken sink.old }
     // No part is lost.
-    ensures parts { vec_len result.parts ≡ vec_len parts }
+    ensures parts { vec_len result.parts.repositories ≡ vec_len parts.repositories }
     // Where something is refused, and after a check, the disks have what they had.
-    ensures refused { RefusesBy result.reply → AreSame P.disks parts.items result.parts.items }
-    ensures checked { plan.command ≡ Check → AreSame P.disks parts.items result.parts.items }
+    ensures refused { RefusesBy result.reply → AreSame P.disks parts.repositories.items result.parts.repositories.items }
+    ensures checked { plan.command ≡ Check → AreSame P.disks parts.repositories.items result.parts.repositories.items }
 {
-    let answered = answer_in_turn(alloc, &plan, source, parts);
+    let StoreParts { repositories } = parts;
+    let answered = answer_in_turn(alloc, &plan, source, repositories);
     write_answer(alloc, sink, answered)
 }

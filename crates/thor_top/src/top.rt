@@ -18,7 +18,7 @@ use std::sync::Wait;
 use std::thread::Threads;
 use thor_value::Text;
 use top_reply::{Form, Reply, Status};
-use top_statement::{Outcome, write_answer};
+use top_statement::{Outcome, StoreParts, write_answer};
 
 /// The program: reads a script from the source, does with it what the words ask for, on the parts of as many
 /// repositories, and writes the reply to the sink.
@@ -33,38 +33,39 @@ pub fn thor<R: Threads + Wait + Sync, S: Source, K: Sink, P: Parts + Send, G: Ga
     words: &[Text],
     source: &mut S,
     sink: &mut K,
-    parts: Vec<P>,
+    parts: StoreParts<P>,
     gate: &G,
 ) -> Outcome<P>
     // The report of one serial history of the script, by `play` or `run`.
-    ensures report { (finished : Bool) (text : List ℕ) → result.reply ≡ Ok (Reply.Report finished text) → SaysRun (ReadAll P.disks parts.items) Form.Report (IsPlan words.now (vec_len parts)) (told_by S.left S.faults source.old) (told_by S.left S.faults source.new) finished text }
+    ensures report { (finished : Bool) (text : List ℕ) → result.reply ≡ Ok (Reply.Report finished text) → SaysRun (ReadAll P.disks parts.repositories.items) Form.Report (IsPlan words.now (vec_len parts.repositories)) (told_by S.left S.faults source.old) (told_by S.left S.faults source.new) finished text }
     // The summary of one of the generated script, by `gen`.
-    ensures summary { (finished : Bool) (text : List ℕ) → result.reply ≡ Ok (Reply.Summary finished text) → SaysRun (ReadAll P.disks parts.items) Form.Summary (IsPlan words.now (vec_len parts)) (told_by S.left S.faults source.old) (told_by S.left S.faults source.new) finished text }
+    ensures summary { (finished : Bool) (text : List ℕ) → result.reply ≡ Ok (Reply.Summary finished text) → SaysRun (ReadAll P.disks parts.repositories.items) Form.Summary (IsPlan words.now (vec_len parts.repositories)) (told_by S.left S.faults source.old) (told_by S.left S.faults source.new) finished text }
     // The script breaks no rule, by `check`.
-    ensures ok { result.reply ≡ Ok Reply.Accepted → SaysAccepted (IsPlan words.now (vec_len parts)) (told_by S.left S.faults source.old) (told_by S.left S.faults source.new) }
+    ensures ok { result.reply ≡ Ok Reply.Accepted → SaysAccepted (IsPlan words.now (vec_len parts.repositories)) (told_by S.left S.faults source.old) (told_by S.left S.faults source.new) }
     // The bytes are no script, or the script is refused.
-    ensures rule { (refusal : Refusal) → result.reply ≡ Ok (Reply.Refused refusal) → SaysRefused (IsPlan words.now (vec_len parts)) (told_by S.left S.faults source.old) (told_by S.left S.faults source.new) refusal }
+    ensures rule { (refusal : Refusal) → result.reply ≡ Ok (Reply.Refused refusal) → SaysRefused (IsPlan words.now (vec_len parts.repositories)) (told_by S.left S.faults source.old) (told_by S.left S.faults source.new) refusal }
     // A limit is passed.
-    ensures limit { (limit : ℕ) → result.reply ≡ Ok (Reply.Limit limit) → SaysLimit (IsPlan words.now (vec_len parts)) (told_by S.left S.faults source.old) (told_by S.left S.faults source.new) limit }
+    ensures limit { (limit : ℕ) → result.reply ≡ Ok (Reply.Limit limit) → SaysLimit (IsPlan words.now (vec_len parts.repositories)) (told_by S.left S.faults source.old) (told_by S.left S.faults source.new) limit }
     // A disk failed while the store was opened, or has bytes that are no store's.
-    ensures disk { (repo : ℕ) → result.reply ≡ Ok (Reply.DiskFault repo) → SaysDisk (IsPlan words.now (vec_len parts)) (told_by S.left S.faults source.old) (told_by S.left S.faults source.new) repo }
-    ensures damage { (repo disk place : ℕ) → result.reply ≡ Ok (Reply.Damaged repo disk place) → SaysDamaged (IsPlan words.now (vec_len parts)) (told_by S.left S.faults source.old) (told_by S.left S.faults source.new) repo disk place }
+    ensures disk { (repo : ℕ) → result.reply ≡ Ok (Reply.DiskFault repo) → SaysDisk (IsPlan words.now (vec_len parts.repositories)) (told_by S.left S.faults source.old) (told_by S.left S.faults source.new) repo }
+    ensures damage { (repo disk place : ℕ) → result.reply ≡ Ok (Reply.Damaged repo disk place) → SaysDamaged (IsPlan words.now (vec_len parts.repositories)) (told_by S.left S.faults source.old) (told_by S.left S.faults source.new) repo disk place }
     // The words are no plan.
-    ensures words { result.reply ≡ Ok Reply.Words → SaysWords (IsNoPlan words.now (vec_len parts)) (told_by S.left S.faults source.old) (told_by S.left S.faults source.new) }
+    ensures words { result.reply ≡ Ok Reply.Words → SaysWords (IsNoPlan words.now (vec_len parts.repositories)) (told_by S.left S.faults source.old) (told_by S.left S.faults source.new) }
     // The source failed, which it counted.
-    ensures source { result.reply ≡ Ok Reply.SourceFault → SaysSource (IsPlan words.now (vec_len parts)) (told_by S.left S.faults source.old) (told_by S.left S.faults source.new) }
+    ensures source { result.reply ≡ Ok Reply.SourceFault → SaysSource (IsPlan words.now (vec_len parts.repositories)) (told_by S.left S.faults source.old) (told_by S.left S.faults source.new) }
     // The sink took the text of the reply, and the status is the reply's; or a front of it, and the sink failed, which it
     // counted. Where memory ran out it took nothing.
     ensures wrote { Wrote result.reply (K.taken sink.old) (K.taken sink.new) (K.faults sink.old) (K.faults sink.new) result.status }
     ensures sink_fault { result.status ≡ Status.SinkFault → Rose (K.faults sink.old) (K.faults sink.new) }
     ensures nothing { result.status ≡ Status.NoMemory → K.taken sink.new ≡ K.taken sink.old }
     // No part is lost.
-    ensures parts { vec_len result.parts ≡ vec_len parts }
+    ensures parts { vec_len result.parts.repositories ≡ vec_len parts.repositories }
     // Where something is refused, and after any check, the disks have what they had.
-    ensures refused { RefusesBy result.reply → AreSame P.disks parts.items result.parts.items }
-    ensures checked { (plan : Plan) → plan_of words.now ≡ Some plan → plan.command ≡ Check → AreSame P.disks parts.items result.parts.items }
+    ensures refused { RefusesBy result.reply → AreSame P.disks parts.repositories.items result.parts.repositories.items }
+    ensures checked { (plan : Plan) → plan_of words.now ≡ Some plan → plan.command ≡ Check → AreSame P.disks parts.repositories.items result.parts.repositories.items }
 {
     let runtime = Runtime { rt, gate };
-    let answered = answer(alloc, &runtime, words, source, parts);
+    let StoreParts { repositories } = parts;
+    let answered = answer(alloc, &runtime, words, source, repositories);
     write_answer(alloc, sink, answered)
 }

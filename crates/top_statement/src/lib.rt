@@ -5,5 +5,5 @@ mod answered;
 mod unwritten;
 mod writing;
 
-pub use answered::{Answered, Outcome, are_parts_of, unplayed, untouched};
+pub use answered::{Answered, Outcome, StoreParts, are_parts_of, unplayed, untouched};
 pub use writing::write_answer;

@@ -5,7 +5,7 @@ ghost use Rattle.std.specs.Prelude.{IfOk, List, Ok, ℕ, ◌≡◌};
 ghost use Rattle.top_reply.specs.Replies.{text_of};
 ghost use Rattle.top_statement.specs.Written.{Writes, Wrote};
 
-use crate::answered::{Answered, Outcome};
+use crate::answered::{Answered, Outcome, StoreParts};
 use crate::unwritten::Unwritten;
 use outside::{Sink, write_all};
 use script_parse::refusal_text;
@@ -93,7 +93,7 @@ pub fn write_answer<K: Sink, P>(alloc: Global, sink: &mut K, answered: Answered<
     ensures sink_fault { result.status ≡ Status.SinkFault → Rose (K.faults sink.old) (K.faults sink.new) }
     ensures nothing { result.status ≡ Status.NoMemory → K.taken sink.new ≡ K.taken sink.old }
     ensures reply { IfOk result.reply (λ written. answered.reply ≡ Ok written) }
-    ensures parts { result.parts ≡ answered.parts }
+    ensures parts { result.parts.repositories ≡ answered.parts }
 {
     let Answered {
         reply,
@@ -104,7 +104,9 @@ pub fn write_answer<K: Sink, P>(alloc: Global, sink: &mut K, answered: Answered<
     Outcome {
         status,
         reply,
-        parts,
+        parts: StoreParts {
+            repositories: parts,
+        },
         traces,
     }
 }
