@@ -9,6 +9,15 @@ use Rattle.top_reply.specs.declared.reply.Reply.{Reply}
 use Rattle.top_statement.specs.Top.{IsForOthers, IsHanded, RepliesTo, Says, Told, told_by}
 use Rattle.thor_top.proofs.beginning.begin.Goals as goal
 
+pub returns-then-not-are_parts_of-clause-reply : goal.returns-then-not-are_parts_of-clause-reply
+returns-then-not-are_parts_of-clause-reply g c =
+    let D = ReadAll g.P.Parts.disks c.args.parts.items in
+    let plan = c.args.plan.now in
+    let count = vec_len c.args.parts in
+    let before : Told = told_by g.S.Source.left g.S.Source.faults c.args.source.now in
+    let other : IsForOthers plan count = λ e. c.if-not-are_parts_of.ensures.other refl (omega (arith, e, c.as_slice.ensures.len)) in
+    subst (λ (q : Result Reply NoMemory). IfOk q (Says D (IsHanded plan count) (IsForOthers plan count) before before)) (sym c.untouched.ensures.reply) (other, refl)
+
 pub returns-in-Ok-clause-foretells : goal.returns-in-Ok-clause-foretells
 returns-in-Ok-clause-foretells g c =
     let D = ReadAll g.P.Parts.disks c.args.parts.items in
