@@ -6,7 +6,7 @@ use Rattle.thor_value.specs.declared.memory.NoMemory.{NoMemory}
 use Rattle.top_judging.proofs.StageLaws.{err_map, none_says, ok_map, script_says}
 use Rattle.top_judging.specs.Stages.{RepliesUnreadFor}
 use Rattle.top_reply.specs.declared.reply.Reply.{Reply}
-use Rattle.top_statement.specs.Top.{IsForOthers, IsHanded, RepliesTo, Says, Told, told_by}
+use Rattle.top_statement.specs.Top.{IsForOthers, IsHanded, RepliesTo, Says, Told, made_by, told_by}
 use Rattle.thor_top.proofs.beginning.begin.Goals as goal
 
 pub returns-then-not-are_parts_of-clause-reply : goal.returns-then-not-are_parts_of-clause-reply
@@ -62,4 +62,4 @@ returns-in-Err-clause-reply g c =
     let handed : IsHanded plan count plan = record { same = refl; repos_are = repos } in
     let says = Says D (IsHanded plan count) (IsForOthers plan count) before after in
     subst (λ (q : Result Reply NoMemory). IfOk q says) (sym c.untouched-in-Err.ensures.reply)
-    (ok_map c.in-Err.reply (RepliesUnreadFor plan.command plan.repos before after) says (none_says D (IsHanded plan count) (IsForOthers plan count) plan handed before after) c.in-Err.ensures.reply)
+    (ok_map c.in-Err.reply (RepliesUnreadFor (made_by plan.command) plan.repos before after) says (none_says D (IsHanded plan count) (IsForOthers plan count) plan handed before after) c.in-Err.ensures.reply)
