@@ -63,11 +63,11 @@ run_refuses form.Report finished text refuses = refuses
 run_refuses form.Summary finished text refuses = refuses
 
 told_refuses : (f : Form) (schemas : Schemas) (store : Plain) (script : Script) (r : Result Reply NoMemory) → IfOk r (IsReported f schemas store script) → RefusesBy r → ⊥
-told_refuses f schemas store script (Ok w) told refuses = run_refuses f told.0 told.1.0 (subst Refuses told.1.1.0 refuses)
+told_refuses f schemas store script (Ok w) told refuses = run_refuses f told.0 told.1.0 (subst (λ (v : Reply). Refuses v) told.1.1.0 refuses)
 told_refuses f schemas store script (Err e) told refuses = refuses
 
 unsettled_refuses : (r : Result Reply NoMemory) → IfOk r RepliesUnsettled → RefusesBy r → ⊥
-unsettled_refuses (Ok w) failed refuses = subst Refuses failed.1 refuses
+unsettled_refuses (Ok w) failed refuses = subst (λ (v : Reply). Refuses v) failed.1 refuses
 unsettled_refuses (Err e) failed refuses = refuses
 
 no_refusal : (c : Command) (r : Result Reply NoMemory) → IsPlayed c → (RefusesBy r → ⊥) → WritesNothing c r → ⊥
@@ -90,14 +90,18 @@ pub of_disks : (D : DiskBytes) (setup : Option Declarations) (base : Schemas) (s
 of_disks D (Some setup) base store opened stored is = tt
 of_disks D None base store opened stored is = λ images reads. is images (stored.each images reads)
 
+reported_run : (D : DiskBytes) (f : Form) (repos : ℕ) (script : Script) (base : Schemas) (store : Plain) → IsAccepted repos script base → IsStore script.setup base store → IsOfDisks D script.setup base store
+    → (r : Reply) → IsReported f (extended base (upgrades_of script.clients)) store script r → RepliesRun D f repos script r
+reported_run D f repos script base store accepted is disks r told =
+    (told.0, (told.1.0, (told.1.1.0, record { base = base; store = store; accepted = accepted; store_is = is; of_disks = disks; run = told.1.1.1 })))
+
 -- what is expected of a run on the opened store foretells what is replied of it
 pub foretells_run : (D : DiskBytes) (repos : ℕ) (base : Schemas) (e : Expected) → IsAccepted repos e.script base → e.opened.schemas ≡ extended base (upgrades_of e.script.clients)
     → IsStore e.script.setup base e.opened.store → IsOfDisks D e.script.setup base e.opened.store → IsSorted e.opened.store.objects → Foretells (RepliesRun D e.form repos e.script) e
 foretells_run D repos base e accepted schemas is disks sorted = record {
   sorted = sorted;
-  says = λ r reported.
-      let told : IsReported e.form (extended base (upgrades_of e.script.clients)) e.opened.store e.script r = subst (λ (w : Schemas). IsReported e.form w e.opened.store e.script r) schemas reported in
-      (told.0, (told.1.0, (told.1.1.0, record { base = base; store = e.opened.store; accepted = accepted; store_is = is; of_disks = disks; run = told.1.1.1 })));
+  says = λ r reported. reported_run D e.form repos e.script base e.opened.store accepted is disks r
+      (subst (λ (w : Schemas). IsReported e.form w e.opened.store e.script r) schemas reported);
 }
 
 pub foretells_map : (P Q : Reply → Type 0) (e : Expected) → ((r : Reply) → P r → Q r) → Foretells P e → Foretells Q e

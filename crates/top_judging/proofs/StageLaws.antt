@@ -157,8 +157,8 @@ module _ (D : DiskBytes) (Like : Plan → Type 0) (NoPlan : Type 0) (plan : Plan
 
   unread_says : (c : Command) → plan.command ≡ c → Reads c → ((bytes : List ℕ) → WasRead before.left after.left bytes → HasBytes c plan.repos before after bytes) → (r : Reply) → RepliesUnread before after r → Says D Like NoPlan before after r
   unread_says c is_c reads has r (inl none) = text_says none.0 (subst (λ (d : Command). HasBytes d plan.repos before after none.0) (sym is_c) (has none.0 none.1.0)) r none.1.1
-  unread_says c is_c reads has r (inr (inl long)) = subst (λ (w : Reply). Says D Like NoPlan before after w) (sym long.0) (record { plan = plan; is = is; says = inr (subst Reads (sym is_c) reads, (long.1, refl)) })
-  unread_says c is_c reads has r (inr (inr failed)) = subst (λ (w : Reply). Says D Like NoPlan before after w) (sym failed.0) (record { plan = plan; is = is; says = (subst Reads (sym is_c) reads, failed.1) })
+  unread_says c is_c reads has r (inr (inl long)) = subst (λ (w : Reply). Says D Like NoPlan before after w) (sym long.0) (record { plan = plan; is = is; says = inr (subst (λ (d : Command). Reads d) (sym is_c) reads, (long.1, refl)) })
+  unread_says c is_c reads has r (inr (inr failed)) = subst (λ (w : Reply). Says D Like NoPlan before after w) (sym failed.0) (record { plan = plan; is = is; says = (subst (λ (d : Command). Reads d) (sym is_c) reads, failed.1) })
 
   none_says_at : (c : Command) → plan.command ≡ c → (r : Reply) → RepliesUnreadFor c plan.repos before after r → Says D Like NoPlan before after r
   none_says_at Check is_c r none = unread_says Check is_c tt (λ bytes was. was) r none

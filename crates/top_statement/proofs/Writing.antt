@@ -57,5 +57,5 @@ said_of made (Ok r) Of same says = subst (λ (m : Result Reply NoMemory). IfOk m
 said_of made (Err e) Of same says = tt
 
 pub refuses_of : (made written : Result Reply NoMemory) → IfOk written (λ r. made ≡ Ok r) → RefusesBy written → RefusesBy made
-refuses_of made (Ok r) same refuses = subst RefusesBy (sym same) refuses
+refuses_of made (Ok r) same refuses = subst (λ (m : Result Reply NoMemory). RefusesBy m) (sym same) refuses
 refuses_of made (Err e) same refuses = absurd refuses

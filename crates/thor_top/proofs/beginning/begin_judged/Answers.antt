@@ -34,8 +34,8 @@ returns-in-Some-clause-kept g c = λ given has.
     err_map c.open_run.result (λ a. IfOk a.reply RepliesUnsettled) _
     (λ a failed. λ writes. absurd (unsettled_writes c.args.plan.now.command a.reply (played_by c.args.plan.now.command c.in-Some.form c.in-Some.ensures) failed writes)) c.open_run.ensures.reply
 
-pub checked-requires-clause-command : goal.checked-requires-clause-command
-checked-requires-clause-command g c = no_form c.args.plan.now.command c.in-None.ensures
+pub checked-answered-requires-clause-command : goal.checked-answered-requires-clause-command
+checked-answered-requires-clause-command g c = no_form c.args.plan.now.command c.in-None.ensures
 
 pub returns-in-None-clause-kept : goal.returns-in-None-clause-kept
 returns-in-None-clause-kept g c = λ given has writes. c.checked-answered.ensures.same given has
