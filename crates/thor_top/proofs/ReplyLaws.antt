@@ -1,5 +1,5 @@
 -- What is said by a plan is said by the words whose plan it is; and what the promises say of one reply.
-use Rattle.std.proofs.Common.{◌≡◌, ◌∙◌, IfOk, List, Ok, Result, inl, inr, subst, sym, ℕ}
+use Rattle.std.proofs.Common.{◌≡◌, ◌∙◌, IfOk, List, Ok, Result, subst, sym, ℕ}
 use Rattle.std.proofs.lemmas.Option.{same_Some}
 use Rattle.std.specs.Prelude.{None, Some}
 use Rattle.thor_value.specs.declared.memory.NoMemory.{NoMemory}

@@ -16,7 +16,7 @@ use Rattle.top_judging.specs.Stages.{FitsStore, IsOpenedAs, IsRead, IsReadFrom, 
 use Rattle.top_reply.specs.declared.reply.Reply.{Reply}
 use Rattle.top_reply.specs.declared.reply.Reply.TheVariants as reply
 use Rattle.top_statement.specs.Opening.{DiskBytes, FitsDisks, GoesWith, IsAgainst, IsStoredBy, MisfitsDisks}
-use Rattle.top_statement.specs.Top.{ByPlan, HasBytes, OfScript, Reads, RepliesTo, Says, Told, WasRead}
+use Rattle.top_statement.specs.Top.{HasBytes, Reads, RepliesTo, Says, Told, WasRead}
 use Rattle.top_words.specs.declared.command.Command.{Command}
 use Rattle.top_words.specs.declared.command.Command.TheVariants.{Check, Gen, Play, Run}
 use Rattle.top_words.specs.declared.command.Plan.{Plan}

@@ -1,6 +1,5 @@
 //! Whether a script may be run on the store that was found.
 
-ghost use Rattle.script_check.specs.Upgrading.{upgrades_of};
 ghost use Rattle.script_parse.specs.Script.{HasFew};
 ghost use Rattle.serial_model.specs.Replays.{AreMade};
 ghost use Rattle.std.specs.Prelude.{IfErr, IfOk, IfSome, None, length, ◌≡◌, ◌≤◌};

@@ -1,7 +1,6 @@
 //! The script that a plan asks for: that of the source, or a generated one.
 
 ghost use Rattle.script_bank.specs.Bank.{script_text};
-ghost use Rattle.script_parse.specs.Script.{HasFew};
 ghost use Rattle.std.specs.Prelude.{IfErr, IfOk, IfSome, None, length, ◌≡◌, ◌≤◌};
 ghost use Rattle.std.specs.String.{string_bytes};
 ghost use Rattle.top_judging.specs.Stages.{IsRead, IsReadFrom, IsScriptFor, RepliesOver, RepliesText, RepliesUnread, RepliesUnreadFor};

@@ -1,6 +1,6 @@
 -- What was written of a reply.
 use Rattle.outside.specs.Faults.{Rose}
-use Rattle.std.proofs.Common.{◌≡◌, ◌∙◌, Err, IfOk, List, Ok, Option, Result, inl, inr, sym, subst, ℕ}
+use Rattle.std.proofs.Common.{◌≡◌, ◌∙◌, Err, IfOk, List, Ok, Option, Result, ap, inl, inr, sym, subst, ℕ}
 use Rattle.std.specs.Prelude.{false, true}
 use Rattle.thor_value.specs.declared.memory.NoMemory.{NoMemory}
 use Rattle.top_reply.specs.Replies.{status_of}
@@ -8,7 +8,7 @@ use Rattle.top_reply.specs.declared.reply.Reply.{Reply}
 use Rattle.top_reply.specs.declared.reply.Reply.TheVariants as reply
 use Rattle.top_reply.specs.declared.status.Status.{Status}
 use Rattle.top_reply.specs.declared.status.Status.TheVariants as status
-use Rattle.top_statement.specs.Kept.{Refuses, RefusesBy}
+use Rattle.top_statement.specs.Kept.{RefusesBy}
 use Rattle.top_statement.specs.Written.{Wrote}
 
 -- no reply has these two statuses
@@ -51,6 +51,10 @@ nothing_of (Ok r) had taken before after s (inr part) is = absurd (let no : stat
 nothing_of (Err e) had taken before after s none is = none.1
 
 -- ---- what is true of what was to be written is true of what was
+
+pub ok_same : (written made : Result Reply NoMemory) (r : Reply) → made ≡ Ok r → IfOk written (λ w. w ≡ r) → IfOk written (λ w. made ≡ Ok w)
+ok_same (Ok w) made r is same = is ∙ ap (λ (v : Reply). Ok v) (sym same)
+ok_same (Err e) made r is same = tt
 
 pub said_of : (made written : Result Reply NoMemory) (Of : Reply → Type 0) → IfOk written (λ r. made ≡ Ok r) → IfOk made Of → IfOk written Of
 said_of made (Ok r) Of same says = subst (λ (m : Result Reply NoMemory). IfOk m Of) same says
