@@ -1,5 +1,5 @@
 -- What is said by a plan is said by the words whose plan it is; and what the promises say of one reply.
-use Rattle.std.proofs.Common.{◌≡◌, ◌∙◌, IfOk, List, Ok, Result, subst, sym, ℕ}
+use Rattle.std.proofs.Common.{◌≡◌, ◌∙◌, IfOk, List, Ok, Result, ap, inl, inr, subst, sym, ℕ}
 use Rattle.std.proofs.lemmas.Option.{same_Some}
 use Rattle.std.specs.Prelude.{None, Some}
 use Rattle.thor_value.specs.declared.memory.NoMemory.{NoMemory}
@@ -8,10 +8,10 @@ use Rattle.top_reply.specs.declared.reply.Reply.TheVariants as reply
 use Rattle.top_statement.proofs.Writing.{said_of}
 use Rattle.top_statement.specs.Kept.{RefusesBy, WritesNothing}
 use Rattle.top_statement.specs.Opening.{DiskBytes}
-use Rattle.top_statement.specs.Top.{ByPlan, IsForOthers, IsHanded, IsNoPlan, IsPlan, Says, Told}
+use Rattle.top_statement.specs.Top.{ByPlan, IsForOthers, IsHanded, IsNoPlan, IsPlan, Says, Told, form_of}
 use Rattle.top_words.specs.Words.{plan_of}
 use Rattle.top_words.specs.declared.command.Command.{Command}
-use Rattle.top_words.specs.declared.command.Command.TheVariants.{Check, Gen, Play, Run}
+use Rattle.top_words.specs.declared.command.Command.TheVariants.{Check}
 use Rattle.top_words.specs.declared.command.Plan.{Plan}
 
 -- ---- the plan
@@ -48,13 +48,10 @@ no_words words count none = λ q k. let no : None ≡ Some q = sym none ∙ k.wo
 -- ---- what stays of the disks
 
 pub writes_nothing : (c : Command) (r : Result Reply NoMemory) → RefusesBy r → WritesNothing c r
-writes_nothing Check r refuses = tt
-writes_nothing Play r refuses = refuses
-writes_nothing Run r refuses = refuses
-writes_nothing (Gen n) r refuses = refuses
+writes_nothing c r refuses = inr refuses
 
 pub check_writes : (c : Command) (r : Result Reply NoMemory) → c ≡ Check → WritesNothing c r
-check_writes c r is = subst (λ (d : Command). WritesNothing d r) (sym is) tt
+check_writes c r is = inl (ap (λ (d : Command). form_of d) is)
 
 pub one_check : (words : List (List ℕ)) (plan p : Plan) → plan_of words ≡ Some plan → plan_of words ≡ Some p → p.command ≡ Check → plan.command ≡ Check
 one_check words plan p is is_p check = subst (λ (q : Plan). q.command ≡ Check) (same_Some p plan (sym is_p ∙ is)) check

@@ -4,7 +4,7 @@ use Rattle.class_defs.specs.declared.store.Plain.{Plain}
 use Rattle.class_defs.specs.declared.store.Schemas.{Schemas}
 use Rattle.script_check.specs.Upgrading.{extended, upgrades_of}
 use Rattle.script_parse.specs.declared.script.Script.{Script}
-use Rattle.std.proofs.Common.{◌≡◌, Err, IfOk, List, Ok, Option, Result, Some, None, refl, subst, sym, ℕ}
+use Rattle.std.proofs.Common.{◌≡◌, Err, IfOk, List, Ok, Option, Result, Some, None, inl, inr, refl, subst, sym, ℕ, ◌∙◌}
 use Rattle.std.specs.Prelude.{Bool, IfSome}
 use Rattle.store_opening.specs.Reading.{IsStoredIn}
 use Rattle.store_opening.specs.declared.found.Store.{Store}
@@ -45,12 +45,6 @@ no_form Play is = absurd (let no : None ≡ Some form.Report = is in cc)
 no_form Run is = absurd (let no : None ≡ Some form.Report = is in cc)
 no_form (Gen n) is = absurd (let no : None ≡ Some form.Summary = is in cc)
 
-pub played_by : (c : Command) (f : Form) → Some f ≡ form_of c → IsPlayed c
-played_by Check f is = absurd (let no : Some f ≡ None = is in cc)
-played_by Play f is = tt
-played_by Run f is = tt
-played_by (Gen n) f is = tt
-
 -- a run that is told in the form of its command is replied to the script
 pub run_replies : (D : DiskBytes) (plan : Plan) (script : Script) (f : Form) → Some f ≡ form_of plan.command → IsWithinLimits script → FitsDisks D script.setup → (r : Reply) → RepliesRun D f plan.repos script r → RepliesTo D plan script r
 run_replies D plan script form.Report is within fits r told = subst (λ (w : Reply). RepliesTo D plan script w) (sym told.1.1.0) (sym is, (within, (fits, told.1.1.1)))
@@ -71,10 +65,8 @@ unsettled_refuses (Ok w) failed refuses = subst (λ (v : Reply). Refuses v) fail
 unsettled_refuses (Err e) failed refuses = refuses
 
 no_refusal : (c : Command) (r : Result Reply NoMemory) → IsPlayed c → (RefusesBy r → ⊥) → WritesNothing c r → ⊥
-no_refusal Check r played none writes = played
-no_refusal Play r played none writes = none writes
-no_refusal Run r played none writes = none writes
-no_refusal (Gen n) r played none writes = none writes
+no_refusal c r played none (inl is) = let no : Some played.0 ≡ None = played.1 ∙ is in cc
+no_refusal c r played none (inr refuses) = none refuses
 
 pub told_writes : (c : Command) (f : Form) (schemas : Schemas) (store : Plain) (script : Script) (r : Result Reply NoMemory) → IsPlayed c → IfOk r (IsReported f schemas store script) → WritesNothing c r → ⊥
 told_writes c f schemas store script r played told = no_refusal c r played (told_refuses f schemas store script r told)

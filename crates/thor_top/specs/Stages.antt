@@ -1,6 +1,6 @@
 -- A run that is to be made, and what is replied of it (this project's).
 use Rattle.script_parse.specs.declared.script.Script.{Script}
-use Rattle.std.specs.Prelude.{◌≡◌, ℕ, Bool, List}
+use Rattle.std.specs.Prelude.{◌≡◌, ℕ, Bool, List, Some}
 use Rattle.thor_top.specs.declared.expected.Expected.{Expected}
 use Rattle.thor_value.specs.FiniteMap.{IsSorted}
 use Rattle.top_reply.specs.Replies.{run_reply}
@@ -9,6 +9,7 @@ use Rattle.top_reply.specs.declared.form.Form.{Form}
 use Rattle.top_reply.specs.declared.reply.Reply.{Reply}
 use Rattle.top_statement.specs.Opening.{DiskBytes}
 use Rattle.top_statement.specs.Reports.{IsReport}
+use Rattle.top_statement.specs.Top.{form_of}
 use Rattle.top_words.specs.declared.command.Command.{Command}
 use Rattle.top_words.specs.declared.command.Command.TheVariants.{Check, Gen, Play, Run}
 
@@ -30,7 +31,4 @@ IsInTurn (Gen n) = Unit {0}
 
 -- the command runs a script
 abbrev pub IsPlayed : Command → Type 0
-IsPlayed Check = ⊥
-IsPlayed Play = Unit {0}
-IsPlayed Run = Unit {0}
-IsPlayed (Gen n) = Unit {0}
+IsPlayed command = (f : Form) × (Some f ≡ form_of command)

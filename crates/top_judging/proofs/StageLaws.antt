@@ -16,9 +16,7 @@ use Rattle.top_judging.specs.Stages.{FitsStore, IsOpenedAs, IsRead, IsReadFrom, 
 use Rattle.top_reply.specs.declared.reply.Reply.{Reply}
 use Rattle.top_reply.specs.declared.reply.Reply.TheVariants as reply
 use Rattle.top_statement.specs.Opening.{DiskBytes, FitsDisks, GoesWith, IsAgainst, IsStoredBy, MisfitsDisks}
-use Rattle.top_statement.specs.Top.{HasBytes, Reads, RepliesTo, Says, Told, WasRead}
-use Rattle.top_words.specs.declared.command.Command.{Command}
-use Rattle.top_words.specs.declared.command.Command.TheVariants.{Check, Gen, Play, Run}
+use Rattle.top_statement.specs.Top.{HasBytes, Reads, RepliesTo, Says, Told, WasRead, made_by}
 use Rattle.top_words.specs.declared.command.Plan.{Plan}
 
 -- ---- replies
@@ -130,7 +128,7 @@ module _ (D : DiskBytes) (plan : Plan) (script : Script) where
 
 module _ (D : DiskBytes) (Like : Plan → Type 0) (NoPlan : Type 0) (plan : Plan) (is : Like plan) (before after : Told) where
   -- its script was read, and this is replied to it
-  replied : (script : Script) (bytes : List ℕ) → HasBytes plan.command plan.repos before after bytes → IsWritten bytes script → (r : Reply) → RepliesTo D plan script r → Says D Like NoPlan before after r
+  replied : (script : Script) (bytes : List ℕ) → HasBytes (made_by plan.command) plan.repos before after bytes → IsWritten bytes script → (r : Reply) → RepliesTo D plan script r → Says D Like NoPlan before after r
   replied script bytes has written (reply.Report finished text) says = record { plan = plan; is = is; says = record { script = script; bytes = bytes; has = has; written = written; says = says } }
   replied script bytes has written (reply.Summary finished text) says = record { plan = plan; is = is; says = record { script = script; bytes = bytes; has = has; written = written; says = says } }
   replied script bytes has written reply.Accepted says = record { plan = plan; is = is; says = record { script = script; bytes = bytes; has = has; written = written; says = says } }
@@ -141,30 +139,26 @@ module _ (D : DiskBytes) (Like : Plan → Type 0) (NoPlan : Type 0) (plan : Plan
   replied script bytes has written reply.Words says = absurd says
   replied script bytes has written reply.SourceFault says = absurd says
 
-  has_script : (c : Command) (script : Script) → IsScriptFor c plan.repos before after script → (bytes : List ℕ) × (HasBytes c plan.repos before after bytes × IsWritten bytes script)
-  has_script Check script from = (from.bytes, (from.was, from.read.written))
-  has_script Play script from = (from.bytes, (from.was, from.read.written))
-  has_script Run script from = (from.bytes, (from.was, from.read.written))
-  has_script (Gen n) script from = (script_text n plan.repos, ((from.0, refl), from.1.written))
+  has_script : (m : Option ℕ) (script : Script) → IsScriptFor m plan.repos before after script → (bytes : List ℕ) × (HasBytes m plan.repos before after bytes × IsWritten bytes script)
+  has_script None script from = (from.bytes, (from.was, from.read.written))
+  has_script (Some n) script from = (script_text n plan.repos, ((from.0, refl), from.1.written))
 
-  pub script_says : (script : Script) → IsScriptFor plan.command plan.repos before after script → (r : Reply) → RepliesTo D plan script r → Says D Like NoPlan before after r
-  script_says script from r says = let had = has_script plan.command script from in replied script had.0 had.1.0 had.1.1 r says
+  pub script_says : (script : Script) → IsScriptFor (made_by plan.command) plan.repos before after script → (r : Reply) → RepliesTo D plan script r → Says D Like NoPlan before after r
+  script_says script from r says = let had = has_script (made_by plan.command) script from in replied script had.0 had.1.0 had.1.1 r says
 
   -- it has no script, and this is replied
-  text_says : (bytes : List ℕ) → HasBytes plan.command plan.repos before after bytes → (r : Reply) → RepliesText bytes r → Says D Like NoPlan before after r
+  text_says : (bytes : List ℕ) → HasBytes (made_by plan.command) plan.repos before after bytes → (r : Reply) → RepliesText bytes r → Says D Like NoPlan before after r
   text_says bytes has r (inl none) = subst (λ (w : Reply). Says D Like NoPlan before after w) (sym none.1.0) (record { plan = plan; is = is; says = inl (record { bytes = bytes; has = has; says = none.1.1 }) })
   text_says bytes has r (inr over) = replied over.0 bytes has over.1.0 r (over_replies D plan over.0 r over.1.1)
 
-  unread_says : (c : Command) → plan.command ≡ c → Reads c → ((bytes : List ℕ) → WasRead before.left after.left bytes → HasBytes c plan.repos before after bytes) → (r : Reply) → RepliesUnread before after r → Says D Like NoPlan before after r
-  unread_says c is_c reads has r (inl none) = text_says none.0 (subst (λ (d : Command). HasBytes d plan.repos before after none.0) (sym is_c) (has none.0 none.1.0)) r none.1.1
-  unread_says c is_c reads has r (inr (inl long)) = subst (λ (w : Reply). Says D Like NoPlan before after w) (sym long.0) (record { plan = plan; is = is; says = inr (subst (λ (d : Command). Reads d) (sym is_c) reads, (long.1, refl)) })
-  unread_says c is_c reads has r (inr (inr failed)) = subst (λ (w : Reply). Says D Like NoPlan before after w) (sym failed.0) (record { plan = plan; is = is; says = (subst (λ (d : Command). Reads d) (sym is_c) reads, failed.1) })
+  unread_says : Reads plan.command → (r : Reply) → RepliesUnread before after r → Says D Like NoPlan before after r
+  unread_says reads r (inl none) = text_says none.0 (subst (λ (m : Option ℕ). HasBytes m plan.repos before after none.0) (sym reads) none.1.0) r none.1.1
+  unread_says reads r (inr (inl long)) = subst (λ (w : Reply). Says D Like NoPlan before after w) (sym long.0) (record { plan = plan; is = is; says = inr (reads, (long.1, refl)) })
+  unread_says reads r (inr (inr failed)) = subst (λ (w : Reply). Says D Like NoPlan before after w) (sym failed.0) (record { plan = plan; is = is; says = (reads, failed.1) })
 
-  none_says_at : (c : Command) → plan.command ≡ c → (r : Reply) → RepliesUnreadFor c plan.repos before after r → Says D Like NoPlan before after r
-  none_says_at Check is_c r none = unread_says Check is_c tt (λ bytes was. was) r none
-  none_says_at Play is_c r none = unread_says Play is_c tt (λ bytes was. was) r none
-  none_says_at Run is_c r none = unread_says Run is_c tt (λ bytes was. was) r none
-  none_says_at (Gen n) is_c r none = text_says (script_text n plan.repos) (subst (λ (d : Command). HasBytes d plan.repos before after (script_text n plan.repos)) (sym is_c) (none.0, refl)) r none.1
+  none_says_at : (m : Option ℕ) → made_by plan.command ≡ m → (r : Reply) → RepliesUnreadFor m plan.repos before after r → Says D Like NoPlan before after r
+  none_says_at None made r none = unread_says made r none
+  none_says_at (Some n) made r none = text_says (script_text n plan.repos) (subst (λ (m : Option ℕ). HasBytes m plan.repos before after (script_text n plan.repos)) (sym made) (none.0, refl)) r none.1
 
-  pub none_says : (r : Reply) → RepliesUnreadFor plan.command plan.repos before after r → Says D Like NoPlan before after r
-  none_says r none = none_says_at plan.command refl r none
+  pub none_says : (r : Reply) → RepliesUnreadFor (made_by plan.command) plan.repos before after r → Says D Like NoPlan before after r
+  none_says r none = none_says_at (made_by plan.command) refl r none

@@ -18,8 +18,6 @@ use Rattle.top_reply.specs.declared.reply.Reply.{Reply}
 use Rattle.top_reply.specs.declared.reply.Reply.TheVariants as reply
 use Rattle.top_statement.specs.Opening.{IsAccepted}
 use Rattle.top_statement.specs.Top.{BreaksOn, IsOverFound, IsOverScript, IsWithinLimits, Told, WasRead}
-use Rattle.top_words.specs.declared.command.Command.{Command}
-use Rattle.top_words.specs.declared.command.Command.TheVariants.{Check, Gen, Play, Run}
 use Rattle.top_words.specs.declared.command.Plan.{Plan}
 
 -- ---- the script
@@ -54,18 +52,14 @@ RepliesUnread before after r =
     ⊎ (((r ≡ reply.Limit 8388608) × IsMoreThan 8388608 before.left)
     ⊎ ((r ≡ reply.SourceFault) × Rose before.faults after.faults))
 
--- by the command: `gen` makes its script
-abbrev pub IsScriptFor : Command → ℕ → Told → Told → Script → Type 0
-IsScriptFor Check repos before after script = IsReadFrom before after script
-IsScriptFor Play repos before after script = IsReadFrom before after script
-IsScriptFor Run repos before after script = IsReadFrom before after script
-IsScriptFor (Gen n) repos before after script = (after ≡ before) × IsRead (script_text n repos) script
+-- the script of the source, or the generated one of this number
+abbrev pub IsScriptFor : Option ℕ → ℕ → Told → Told → Script → Type 0
+IsScriptFor None repos before after script = IsReadFrom before after script
+IsScriptFor (Some n) repos before after script = (after ≡ before) × IsRead (script_text n repos) script
 
-abbrev pub RepliesUnreadFor : Command → ℕ → Told → Told → Reply → Type 0
-RepliesUnreadFor Check repos before after r = RepliesUnread before after r
-RepliesUnreadFor Play repos before after r = RepliesUnread before after r
-RepliesUnreadFor Run repos before after r = RepliesUnread before after r
-RepliesUnreadFor (Gen n) repos before after r = (after ≡ before) × RepliesText (script_text n repos) r
+abbrev pub RepliesUnreadFor : Option ℕ → ℕ → Told → Told → Reply → Type 0
+RepliesUnreadFor None repos before after r = RepliesUnread before after r
+RepliesUnreadFor (Some n) repos before after r = (after ≡ before) × RepliesText (script_text n repos) r
 
 -- ---- the store
 

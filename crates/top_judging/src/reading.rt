@@ -4,7 +4,7 @@ ghost use Rattle.script_bank.specs.Bank.{script_text};
 ghost use Rattle.std.specs.Prelude.{IfErr, IfOk, IfSome, None, length, ◌≡◌, ◌≤◌};
 ghost use Rattle.std.specs.String.{string_bytes};
 ghost use Rattle.top_judging.specs.Stages.{IsRead, IsReadFrom, IsScriptFor, RepliesOver, RepliesText, RepliesUnread, RepliesUnreadFor};
-ghost use Rattle.top_statement.specs.Top.{IsOverScript, told_by};
+ghost use Rattle.top_statement.specs.Top.{IsOverScript, made_by, told_by};
 
 use outside::{ReadAll, Source, read_all};
 use script_bank::generate;
@@ -108,8 +108,8 @@ pub fn script_of<S: Source>(
     plan: &Plan,
     source: &mut S,
 ) -> Result<Script, Result<Reply, NoMemory>>
-    ensures script { IfOk result (IsScriptFor plan.now.command plan.now.repos (told_by S.left S.faults source.old) (told_by S.left S.faults source.new)) }
-    ensures reply { IfErr result (λ reply. IfOk reply (RepliesUnreadFor plan.now.command plan.now.repos (told_by S.left S.faults source.old) (told_by S.left S.faults source.new))) }
+    ensures script { IfOk result (IsScriptFor (made_by plan.now.command) plan.now.repos (told_by S.left S.faults source.old) (told_by S.left S.faults source.new)) }
+    ensures reply { IfErr result (λ reply. IfOk reply (RepliesUnreadFor (made_by plan.now.command) plan.now.repos (told_by S.left S.faults source.old) (told_by S.left S.faults source.new))) }
 {
     match plan.command {
         Command::Check | Command::Play | Command::Run => read_source(alloc, source),

@@ -1,11 +1,11 @@
 -- Which replies leave the disks as they were (this project's): those that refuse the words, the script or the store, and
 -- whatever a check replies.
-use Rattle.std.specs.Prelude.{Result, Ok, Err}
+use Rattle.std.specs.Prelude.{◌≡◌, ◌⊎◌, None, Result, Ok, Err}
 use Rattle.top_words.specs.declared.command.Command.{Command}
-use Rattle.top_words.specs.declared.command.Command.TheVariants.{Check, Play, Run, Gen}
 use Rattle.top_reply.specs.declared.reply.Reply.{Reply}
 use Rattle.top_reply.specs.declared.reply.Reply.TheVariants as reply
 use Rattle.thor_value.specs.declared.memory.NoMemory.{NoMemory}
+use Rattle.top_statement.specs.Top.{form_of}
 
 -- the words, the script or the store is refused, or the script couldn't be read
 abbrev pub Refuses : Reply → Type 0
@@ -24,9 +24,6 @@ abbrev pub RefusesBy : Result Reply NoMemory → Type 0
 RefusesBy (Ok r) = Refuses r
 RefusesBy (Err e) = ⊥
 
--- A command with this reply writes nothing to a disk: a check never does, and a run that is refused doesn't begin.
+-- A command with this reply writes nothing to a disk: one that makes no run never does, and a run that is refused doesn't begin.
 abbrev pub WritesNothing : Command → Result Reply NoMemory → Type 0
-WritesNothing Check r = Unit {0}
-WritesNothing Play r = RefusesBy r
-WritesNothing Run r = RefusesBy r
-WritesNothing (Gen n) r = RefusesBy r
+WritesNothing command r = (form_of command ≡ None) ⊎ RefusesBy r

@@ -41,20 +41,22 @@ pub record WasRead (before after : Option (List ℕ)) (bytes : List ℕ) : Type 
   pub at_end : IsAtEnd after
   pub short : length bytes ≤ 8388608
 
--- The bytes that are taken for a script: `check`, `play` and `run` read the source to its end; `gen` makes them, and leaves
--- the source as it was.
-abbrev pub HasBytes : Command → ℕ → Told → Told → List ℕ → Type 0
-HasBytes Check repos before after bytes = WasRead before.left after.left bytes
-HasBytes Play repos before after bytes = WasRead before.left after.left bytes
-HasBytes Run repos before after bytes = WasRead before.left after.left bytes
-HasBytes (Gen n) repos before after bytes = (after ≡ before) × (bytes ≡ script_text n repos)
+-- the number of the generated script that a command runs; the others read theirs from the source
+abbrev pub made_by : Command → Option ℕ
+made_by Check = None
+made_by Play = None
+made_by Run = None
+made_by (Gen n) = Some n
 
 -- the command reads its script from the source
 abbrev pub Reads : Command → Type 0
-Reads Check = Unit {0}
-Reads Play = Unit {0}
-Reads Run = Unit {0}
-Reads (Gen n) = ⊥
+Reads command = made_by command ≡ None
+
+-- The bytes that are taken for a script: the source is read to its end; or they are those of the generated one, and the source
+-- is as it was.
+abbrev pub HasBytes : Option ℕ → ℕ → Told → Told → List ℕ → Type 0
+HasBytes None repos before after bytes = WasRead before.left after.left bytes
+HasBytes (Some n) repos before after bytes = (after ≡ before) × (bytes ≡ script_text n repos)
 
 -- how a command tells a run, where it makes one
 abbrev pub form_of : Command → Option Form
@@ -66,14 +68,14 @@ form_of (Gen n) = Some form.Summary
 -- these bytes were taken for a script, and this is true of them
 pub record OfBytes (plan : Plan) (before after : Told) (Of : List ℕ → Type 0) : Type 0 where
   pub bytes : List ℕ
-  pub has : HasBytes plan.command plan.repos before after bytes
+  pub has : HasBytes (made_by plan.command) plan.repos before after bytes
   pub says : Of bytes
 
 -- they are this script, and this is true of it
 pub record OfScript (plan : Plan) (before after : Told) (Of : Script → Type 0) : Type 0 where
   pub script : Script
   pub bytes : List ℕ
-  pub has : HasBytes plan.command plan.repos before after bytes
+  pub has : HasBytes (made_by plan.command) plan.repos before after bytes
   pub written : IsWritten bytes script
   pub says : Of script
 

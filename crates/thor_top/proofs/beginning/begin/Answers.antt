@@ -6,8 +6,17 @@ use Rattle.thor_value.specs.declared.memory.NoMemory.{NoMemory}
 use Rattle.top_judging.proofs.StageLaws.{err_map, none_says, ok_map, script_says}
 use Rattle.top_judging.specs.Stages.{RepliesUnreadFor}
 use Rattle.top_reply.specs.declared.reply.Reply.{Reply}
-use Rattle.top_statement.specs.Top.{IsForOthers, IsHanded, RepliesTo, Says, Told, told_by}
+use Rattle.top_statement.specs.Top.{IsForOthers, IsHanded, RepliesTo, Says, Told, made_by, told_by}
 use Rattle.thor_top.proofs.beginning.begin.Goals as goal
+
+pub returns-then-not-are_parts_of-clause-reply : goal.returns-then-not-are_parts_of-clause-reply
+returns-then-not-are_parts_of-clause-reply g c =
+    let D = ReadAll g.P.Parts.disks c.args.parts.items in
+    let plan = c.args.plan.now in
+    let count = vec_len c.args.parts in
+    let before : Told = told_by g.S.Source.left g.S.Source.faults c.args.source.now in
+    let other : IsForOthers plan count = λ e. c.if-not-are_parts_of.ensures.other refl (omega (arith, e, c.as_slice.ensures.len)) in
+    subst (λ (q : Result Reply NoMemory). IfOk q (Says D (IsHanded plan count) (IsForOthers plan count) before before)) (sym c.untouched.ensures.reply) (other, refl)
 
 pub returns-in-Ok-clause-foretells : goal.returns-in-Ok-clause-foretells
 returns-in-Ok-clause-foretells g c =
@@ -53,4 +62,4 @@ returns-in-Err-clause-reply g c =
     let handed : IsHanded plan count plan = record { same = refl; repos_are = repos } in
     let says = Says D (IsHanded plan count) (IsForOthers plan count) before after in
     subst (λ (q : Result Reply NoMemory). IfOk q says) (sym c.untouched-in-Err.ensures.reply)
-    (ok_map c.in-Err.reply (RepliesUnreadFor plan.command plan.repos before after) says (none_says D (IsHanded plan count) (IsForOthers plan count) plan handed before after) c.in-Err.ensures.reply)
+    (ok_map c.in-Err.reply (RepliesUnreadFor (made_by plan.command) plan.repos before after) says (none_says D (IsHanded plan count) (IsForOthers plan count) plan handed before after) c.in-Err.ensures.reply)

@@ -1,6 +1,6 @@
 use Rattle.std.proofs.Common.{IfOk}
 use Rattle.store_opening.specs.Reading.{ReadAll}
-use Rattle.thor_top.proofs.StageLaws.{foretells_map, no_form, ok_always, played_by, run_replies, unsettled_writes}
+use Rattle.thor_top.proofs.StageLaws.{foretells_map, no_form, ok_always, run_replies, unsettled_writes}
 use Rattle.thor_top.specs.Stages.{Foretells, IsPlayed, RepliesRun}
 use Rattle.top_judging.proofs.StageLaws.{err_map, fits_disks, ok_map, unsettled_replies}
 use Rattle.top_judging.specs.Stages.{RepliesUnsettled}
@@ -20,7 +20,7 @@ returns-in-Some-clause-foretells g c = λ given stored.
     (c.open_run.ensures.foretells given stored)
 
 pub returns-in-Some-clause-played : goal.returns-in-Some-clause-played
-returns-in-Some-clause-played g c = ok_always c.open_run.result (IsPlayed c.args.plan.now.command) (played_by c.args.plan.now.command c.in-Some.form c.in-Some.ensures)
+returns-in-Some-clause-played g c = ok_always c.open_run.result (IsPlayed c.args.plan.now.command) (c.in-Some.form, c.in-Some.ensures)
 
 pub returns-in-Some-clause-reply : goal.returns-in-Some-clause-reply
 returns-in-Some-clause-reply g c = λ given stored.
@@ -32,7 +32,7 @@ returns-in-Some-clause-reply g c = λ given stored.
 pub returns-in-Some-clause-kept : goal.returns-in-Some-clause-kept
 returns-in-Some-clause-kept g c = λ given has.
     err_map c.open_run.result (λ a. IfOk a.reply RepliesUnsettled) _
-    (λ a failed. λ writes. absurd (unsettled_writes c.args.plan.now.command a.reply (played_by c.args.plan.now.command c.in-Some.form c.in-Some.ensures) failed writes)) c.open_run.ensures.reply
+    (λ a failed. λ writes. absurd (unsettled_writes c.args.plan.now.command a.reply (c.in-Some.form, c.in-Some.ensures) failed writes)) c.open_run.ensures.reply
 
 pub checked-answered-requires-clause-command : goal.checked-answered-requires-clause-command
 checked-answered-requires-clause-command g c = no_form c.args.plan.now.command c.in-None.ensures
