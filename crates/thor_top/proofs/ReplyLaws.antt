@@ -5,7 +5,7 @@ use Rattle.std.specs.Prelude.{None, Some}
 use Rattle.thor_value.specs.declared.memory.NoMemory.{NoMemory}
 use Rattle.top_reply.specs.declared.reply.Reply.{Reply}
 use Rattle.top_reply.specs.declared.reply.Reply.TheVariants as reply
-use Rattle.top_statement.proofs.Writing.{said_of}
+use Rattle.top_statement.proofs.WrittenLaws.{said_of}
 use Rattle.top_statement.specs.Kept.{RefusesBy, WritesNothing}
 use Rattle.top_statement.specs.Opening.{DiskBytes}
 use Rattle.top_statement.specs.Top.{ByPlan, IsForOthers, IsHanded, IsNoPlan, IsPlan, Says, Told, form_of}

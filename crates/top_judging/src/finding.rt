@@ -9,7 +9,7 @@ ghost use Rattle.top_judging.specs.Stages.{IsJudged, IsStoredBy, RepliesUnjudged
 ghost use Rattle.top_statement.specs.Top.{RepliesTo};
 
 use crate::judging::base_in;
-use crate::unopened::unopened;
+use crate::replies::unopened;
 use class_defs::Schemas;
 use disk_trait::Parts;
 use script_parse::Script;

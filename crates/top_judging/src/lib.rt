@@ -4,11 +4,11 @@
 mod finding;
 mod judging;
 mod reading;
+mod replies;
 mod starting;
 mod stored;
-mod unopened;
 
 pub use finding::{Judged, find};
 pub use reading::{SCRIPT_LIMIT, script_of};
+pub use replies::unsettled;
 pub use stored::{OpenedStore, opened_of};
-pub use unopened::{unopened, unsettled};

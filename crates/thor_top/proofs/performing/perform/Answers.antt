@@ -1,5 +1,5 @@
 use Rattle.thor_top.proofs.ReplyLaws.{check_writes, writes_nothing}
-use Rattle.top_statement.proofs.Writing.{refuses_of, said_of}
+use Rattle.top_statement.proofs.WrittenLaws.{refuses_of, said_of}
 use Rattle.thor_top.proofs.performing.perform.Goals as goal
 
 pub returns-clause-says : goal.returns-clause-says

@@ -1,6 +1,6 @@
 use Rattle.thor_top.proofs.ReplyLaws.{gives}
 use Rattle.top_reply.specs.declared.reply.Reply.TheVariants as reply
-use Rattle.top_statement.proofs.Writing.{refuses_of}
+use Rattle.top_statement.proofs.WrittenLaws.{refuses_of}
 use Rattle.thor_top.proofs.top.thor.Goals as goal
 
 pub returns-clause-report : goal.returns-clause-report

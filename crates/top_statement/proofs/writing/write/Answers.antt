@@ -1,4 +1,4 @@
-use Rattle.top_statement.proofs.Writing.{ok_same}
+use Rattle.top_statement.proofs.WrittenLaws.{ok_same}
 use Rattle.top_statement.proofs.writing.write.Goals as goal
 
 pub returns-in-Ok-clause-same : goal.returns-in-Ok-clause-same

@@ -1,4 +1,4 @@
-use Rattle.top_statement.proofs.Writing.{nothing_of, rose_of}
+use Rattle.top_statement.proofs.WrittenLaws.{nothing_of, rose_of}
 use Rattle.top_statement.proofs.writing.write_answer.Goals as goal
 
 pub returns-clause-sink_fault : goal.returns-clause-sink_fault
