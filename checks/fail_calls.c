@@ -2,8 +2,9 @@
    records what is written, and gives another clock. Not a part of the program; checks/failing.py builds it and says how
    it is asked, by these variables of the environment:
 
-   FAIL_CALL=FILE:CALL:N:HOW  the N-th CALL (from 1) on the file of this name fails. FILE is as 0.log0; CALL is open, pread,
-                     pwrite, fdatasync, fsync, statx or ftruncate; HOW is
+   FAIL_CALL=FILE:CALL:N:HOW  the N-th CALL (from 1) on the file of this name fails. FILE is as 0.log0, or * for
+                     the N-th one on each file; CALL is open, pread, pwrite, fdatasync, fsync, statx, ftruncate, or lookup for
+                     a statx of a name; HOW is
                        once     this call alone answers EIO, and nothing is done
                        always   each call of that name from then on does so
                        each     every call on the file from then on does so
@@ -33,8 +34,8 @@
 #include <unistd.h>
 
 enum { FILES = 64, DESCRIPTORS = 4096, NAME = 32, TIMES = 64 };
-static const char *const CALL_NAMES[] = {"open", "pread", "pwrite", "fdatasync", "fsync", "statx", "ftruncate"};
-enum call { OPEN, PREAD, PWRITE, FDATASYNC, FSYNC, STATX, FTRUNCATE, CALL_COUNT };
+static const char *const CALL_NAMES[] = {"open", "pread", "pwrite", "fdatasync", "fsync", "statx", "ftruncate", "lookup"};
+enum call { OPEN, PREAD, PWRITE, FDATASYNC, FSYNC, STATX, FTRUNCATE, LOOKUP, CALL_COUNT };
 enum how { ONCE, ALWAYS, EACH, FULL, HALF, LOST };
 static const char *const HOW_NAMES[] = {"once", "always", "each", "full", "half", "lost"};
 
@@ -142,7 +143,7 @@ static enum fate fate_of(enum call call, struct file *file, uint64_t at, uint64_
         return FAILS;
     }
     unsigned long number = __atomic_add_fetch(&file->counts[call], 1, __ATOMIC_RELAXED);
-    int is_named = wanted.is_failing && call == wanted.call && !strcmp(file->name, wanted.name);
+    int is_named = wanted.is_failing && call == wanted.call && (!strcmp(wanted.name, "*") || !strcmp(file->name, wanted.name));
     int goes_on = wanted.how == ALWAYS || wanted.how == FULL || wanted.how == EACH;
     int comes = is_named && (goes_on ? number >= wanted.number : number == wanted.number);
     file->has_failed |= comes && wanted.how == EACH;
@@ -257,8 +258,9 @@ int ftruncate64(int descriptor, off64_t length) {
 int ftruncate(int descriptor, off_t length) { return ftruncate64(descriptor, length); }
 
 int statx(int descriptor, const char *path, int flags, unsigned mask, struct statx *into) {
-    struct file *file = !*path ? known(descriptor) : 0;
-    if (file && fate_of(STATX, file, 0, 0) != GOES_ON) return -1;
+    struct file *file = *path ? find(path) : known(descriptor);
+    read_wanted();
+    if (file && fate_of(*path ? LOOKUP : STATX, file, 0, 0) != GOES_ON) return -1;
     return syscall(SYS_statx, descriptor, path, flags, mask, into);
 }
 

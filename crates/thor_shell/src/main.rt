@@ -9,30 +9,39 @@ mod clocks;
 mod descriptors;
 mod folder;
 mod help;
+mod noting;
 mod parts;
+mod performing;
+mod read_only;
+mod standing;
+mod store_files;
+mod stored;
 mod wrong_word;
 
-use crate::advice::advise;
+use crate::advice::{NO_MEMORY, advise};
 use crate::clocks::{Clocks, Counting, Machine};
-use crate::folder::{Folder, enter, settle};
 use crate::help::{HELP, VERSION};
-use crate::parts::{closed, files, memory};
+use crate::parts::memory;
+use crate::performing::{Ended, perform};
+use crate::stored::perform_stored;
 use crate::wrong_word::fault_of;
-use disk_trait::{FileParts, Parts};
-use outside::{OpenGate, StdSink, StdSource, write_all};
-use std::env;
+use outside::{StdSink, write_all};
 use std::io::ErrorKind;
 use std::process::ExitCode;
 use std::sync::Wait;
 use std::thread::Threads;
-use thor_top::{Status, StoreParts, thor};
+use std::{env, mem};
+use thor_top::Status;
 use thor_value::{NoMemory, Text, Texts};
 use top_words::{Command, Plan, WordsFault, read_words};
 
 fn main(rt: HostRuntime) -> ExitCode {
     let status = match answer(rt, &rt) {
         Ok(status) => status,
-        Err(NoMemory) => Status::NoMemory,
+        Err(NoMemory) => {
+            advise(rt, NO_MEMORY);
+            Status::NoMemory
+        }
     };
     ExitCode::from(status.code())
 }
@@ -42,12 +51,8 @@ fn answer<R: Threads + Wait + Sync>(rt: HostRuntime, threads: &R) -> Result<Stat
     match words(rt)? {
         Some(words) => answer_to(rt, threads, &words),
         None => {
-            let status = perform(
-                rt,
-                threads,
-                &Texts::new(rt.alloc()),
-                memory(rt.alloc(), 1, &Counting)?,
-            );
+            let none = Texts::new(rt.alloc());
+            let status = perform_in_memory(rt, threads, &none, 1, &Counting)?;
             advise(rt, "a word isn't UTF-8 text (--help tells more)");
             Ok(status)
         }
@@ -72,7 +77,7 @@ fn answer_to<R: Threads + Wait + Sync>(
             _ => perform_on(rt, threads, words, &plan, &Counting),
         },
         Err(WordsFault::Words) => {
-            let status = perform(rt, threads, words, memory(rt.alloc(), 1, &Counting)?);
+            let status = perform_in_memory(rt, threads, words, 1, &Counting)?;
             if let Ok(advice) = fault_of(rt.alloc(), words.as_slice()) {
                 advise(rt, &advice);
             }
@@ -92,7 +97,7 @@ fn perform_on<R: Threads + Wait + Sync, C: Clocks>(
 ) -> Result<Status, NoMemory> {
     match &plan.store {
         Some(folder) => perform_stored(rt, threads, words, plan, folder, clocks),
-        None => Ok(perform(rt, threads, words, memory(rt.alloc(), plan.repos, clocks)?)),
+        None => perform_in_memory(rt, threads, words, plan.repos, clocks),
     }
 }
 
@@ -112,82 +117,22 @@ fn tell(rt: HostRuntime, text: &str) -> Status {
     }
 }
 
-/// The same on the repositories of a folder, which no other process has in use meanwhile.
-fn perform_stored<R: Threads + Wait + Sync, C: Clocks>(
+/// The same on repositories in memory. These are left to the system.
+fn perform_in_memory<R: Threads + Wait + Sync, C: Clocks>(
     rt: HostRuntime,
     threads: &R,
     words: &Texts,
-    plan: &Plan,
-    folder: &Text,
-    clocks: &C,
-) -> Result<Status, NoMemory> {
-    match enter(rt, folder)? {
-        Folder::Entered { lock, reserved } => {
-            let status = perform(rt, threads, words, settled(rt, folder, plan.repos, clocks)?);
-            let _ = lock.unlock();
-            drop(reserved);
-            advise_behind(rt, status);
-            Ok(status)
-        }
-        Folder::Shut(advice) => {
-            let status = perform(rt, threads, words, closed(rt, plan.repos, clocks)?);
-            advise(rt, advice);
-            Ok(status)
-        }
-    }
-}
-
-/// The files of a folder, with their names in it; where these may be lost by a crash, files that can't be opened.
-fn settled<C: Clocks>(
-    rt: HostRuntime,
-    folder: &Text,
     repos: u8,
     clocks: &C,
-) -> Result<Vec<FileParts<C::Clock>>, NoMemory> {
-    let parts = files(rt, folder, repos, clocks)?;
-    if settle(rt, folder) {
-        Ok(parts)
-    } else {
-        closed(rt, repos, clocks)
-    }
-}
-
-/// What to do where a store was refused.
-fn advise_behind(rt: HostRuntime, status: Status) {
-    match status {
-        Status::DiskFault => advise(
-            rt,
-            "a file of the store can't be read or written: look at its rights and at the space of its disk; nothing that was committed is lost",
-        ),
-        Status::Damaged => advise(
-            rt,
-            "a file of the store has other bytes than were written: the numbers are the repository, its file (0 log0, 1 log1, 2 pages) and the place in it; put the files back from a copy; nothing was changed",
-        ),
-        _ => {}
-    }
-}
-
-/// Calls the top call between standard input and standard output.
-fn perform<R: Threads + Wait + Sync, P: Parts + Send>(
-    rt: HostRuntime,
-    threads: &R,
-    words: &Texts,
-    parts: Vec<P>,
-) -> Status {
-    let mut source = StdSource::new(rt.stdin());
-    let mut sink = StdSink::new(rt.stdout());
-    thor(
+) -> Result<Status, NoMemory> {
+    let Ended { status, parts, .. } = perform(
+        rt,
         threads,
-        rt.alloc(),
-        words.as_slice(),
-        &mut source,
-        &mut sink,
-        StoreParts {
-            repositories: parts,
-        },
-        &OpenGate,
-    )
-    .status
+        words,
+        memory(rt.alloc(), repos, clocks)?,
+    );
+    mem::forget(parts);
+    Ok(status)
 }
 
 /// The words behind the program's name; nothing where one of them isn't UTF-8.

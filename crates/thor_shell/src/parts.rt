@@ -1,10 +1,12 @@
 //! The disks of repositories.
 
 use crate::clocks::Clocks;
+use crate::store_files::RepoFiles;
 use disk_trait::{FileParts, MemParts};
 use std::alloc::Global;
-use std::str;
-use thor_value::{NoMemory, Text};
+use std::fs::File;
+use std::rt::Files;
+use thor_value::NoMemory;
 
 /// Repositories in memory, all of them empty.
 pub fn memory<C: Clocks>(
@@ -25,24 +27,22 @@ pub fn memory<C: Clocks>(
     Ok(parts)
 }
 
-/// Repositories in a folder, three files each. A file that isn't there is made. Where one couldn't be opened,
-/// each call on that disk fails.
-pub fn files<C: Clocks>(
-    rt: HostRuntime,
-    folder: &Text,
-    repos: u8,
+/// Repositories in files. A file that isn't there is made. Where one couldn't be opened, each call on that disk fails.
+pub fn in_files<R: Files<File = File>, C: Clocks>(
+    rt: &R,
+    alloc: Global,
+    files: &[RepoFiles],
     clocks: &C,
 ) -> Result<Vec<FileParts<C::Clock>>, NoMemory> {
-    let alloc = rt.alloc();
-    let Ok(folder) = str::from_utf8(folder.as_slice()) else {
-        return Err(NoMemory);
-    };
     let mut parts = Vec::new(alloc);
-    for repo in 0..repos {
-        let log0 = format!(in alloc; "{folder}/{repo}.log0")?;
-        let log1 = format!(in alloc; "{folder}/{repo}.log1")?;
-        let pages = format!(in alloc; "{folder}/{repo}.pages")?;
-        parts.push(FileParts::open(&rt, &log0, &log1, &pages, clocks.clock()))?;
+    for repo in files {
+        parts.push(FileParts::open(
+            rt,
+            repo.log0.path.as_str(),
+            repo.log1.path.as_str(),
+            repo.pages.path.as_str(),
+            clocks.clock(),
+        ))?;
     }
     Ok(parts)
 }

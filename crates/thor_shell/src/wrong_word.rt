@@ -24,14 +24,41 @@ pub fn fault_of(alloc: Global, words: &[Text]) -> Result<String, NoMemory> {
         let right = right_behind(alloc, before.as_slice())?;
         before.push(word.copy()?)?;
         if !begins_a_command(alloc, &mut before)? {
-            let wrong = str::from_utf8(word.as_slice()).unwrap_or("");
-            return Ok(format!(in alloc;
-                "the word {wrong:?} is wrong here; what fits is {right} (--help tells more)"
-            )?);
+            return fault_at(alloc, words, word, right);
         }
     }
     let right = right_behind(alloc, before.as_slice())?;
     Ok(format!(in alloc; "a word is missing at the end; what fits is {right} (--help tells more)")?)
+}
+
+/// What to tell of a wrong word, where this would be right. One without a dash in the place of an option is taken for the name
+/// of a script's file.
+fn fault_at(
+    alloc: Global,
+    words: &[Text],
+    word: &Text,
+    right: &'static str,
+) -> Result<String, NoMemory> {
+    let wrong = str::from_utf8(word.as_slice()).unwrap_or("");
+    let is_file = !wrong.starts_with('-') && (right == OPTIONS || right == OPTIONS_OF_CHECK);
+    match reading_command(words) {
+        Some(command) if is_file => Ok(format!(in alloc;
+            "scripts come by standard input: {command} < FILE; the word {wrong:?} is wrong here, and what fits is {right} (--help tells more)"
+        )?),
+        _ => Ok(format!(in alloc;
+            "the word {wrong:?} is wrong here; what fits is {right} (--help tells more)"
+        )?),
+    }
+}
+
+/// The command that words begin with, where it reads a script.
+fn reading_command(words: &[Text]) -> Option<&'static str> {
+    match words.first()?.as_slice() {
+        b"check" => Some("check"),
+        b"play" => Some("play"),
+        b"run" => Some("run"),
+        _ => None,
+    }
 }
 
 /// Whether words are a command with its options.

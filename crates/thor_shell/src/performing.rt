@@ -1,0 +1,58 @@
+//! The top call, between standard input and standard output.
+
+use crate::advice::advise_behind;
+use crate::noting::NotingSink;
+use disk_trait::Parts;
+use outside::{OpenGate, StdSource};
+use std::mem;
+use std::sync::Wait;
+use std::thread::Threads;
+use thor_top::{Outcome, Status, StoreParts, thor};
+use thor_value::Texts;
+
+/// How the program ended, with the parts.
+#[derive(Drop)]
+pub struct Ended<P> {
+    pub status: Status,
+    /// Whether the report tells of a repository that was down.
+    pub is_down: bool,
+    pub parts: Vec<P>,
+}
+
+/// Calls the top call, and tells what its answer leaves open. The program ends behind it: what a run took beside the parts is
+/// left to the system.
+pub fn perform<R: Threads + Wait + Sync, P: Parts + Send>(
+    rt: HostRuntime,
+    threads: &R,
+    words: &Texts,
+    parts: Vec<P>,
+) -> Ended<P> {
+    let mut source = StdSource::new(rt.stdin());
+    let mut sink = NotingSink::new(rt.stdout());
+    let Outcome {
+        status,
+        parts,
+        traces,
+        ..
+    } = thor(
+        threads,
+        rt.alloc(),
+        words.as_slice(),
+        &mut source,
+        &mut sink,
+        StoreParts {
+            repositories: parts,
+        },
+        &OpenGate,
+    );
+    let is_run = !traces.as_slice().is_empty();
+    let noted = sink.noted();
+    advise_behind(rt, status, is_run, noted);
+    mem::forget(traces);
+    let StoreParts { repositories } = parts;
+    Ended {
+        status,
+        is_down: noted.is_down,
+        parts: repositories,
+    }
+}
