@@ -148,7 +148,8 @@ static enum fate fate_of(enum call call, struct file *file, uint64_t at, uint64_
     int comes = is_named && (goes_on ? number >= wanted.number : number == wanted.number);
     file->has_failed |= comes && wanted.how == EACH;
     int cut = call == PWRITE && file->is_cut;
-    if (!comes && !file->has_failed && !cut) {
+    int has_failed = file->has_failed && call != LOOKUP; /* (a look at a name is no call on what was opened) */
+    if (!comes && !has_failed && !cut) {
         tell(wanted.calls, call, file, at, length, 0, "");
         return GOES_ON;
     }
