@@ -1,47 +1,51 @@
 -- How the traces that a client sees grow while it makes no call there.
 use Rattle.log_entries.specs.declared.entry.Entry.TheVariants.{Decided, Finished, Life, One, Prepared, Upgraded}
+use Rattle.log_entries.specs.declared.entry.Entry.{Entry}
 use Rattle.spec_history.specs.History.{Base}
-use Rattle.client_port.specs.Views.{Calm, Came, Halted, MayCome, Unsettled, View}
+use Rattle.client_port.specs.Views.{Calm, Halted, MayCome, Unsettled, View}
 use Rattle.spec_trace.specs.Gaps.{maker}
 use Rattle.spec_trace.specs.Trace.{E, Item, M}
-use Rattle.std.specs.Prelude.{List, Some, [], true, ℕ, ◌++◌, ◌∷◌, ◌≡◌, ◌≢◌}
+use Rattle.std.specs.Prelude.{List, Some, [], true, ℕ, ◌++◌, ◌∷◌, ◌≡◌, ◌≢◌, ◌⊎◌}
 
--- One more item behind T while the client c makes no call there, and what of c's is unsettled before and
--- after. Where an own call stopped nothing comes before a Life, but its one entry may. Where the repository is down
--- beside, no entry of c's comes before a Life.
+-- An entry d that comes behind T where the client's own e may still come: it is that one, or another's.
+abbrev pub ComesDown : Base → ℕ → Entry → List Item → Entry → Unsettled → Type 0
+ComesDown b c e T d u = ((d ≡ e) × (u ≡ Halted)) ⊎ ((maker b T (E d) ≢ Some c) × (u ≡ MayCome e))
+
+-- an item of another's, which leaves what is unsettled
+abbrev pub ComesBeside : Base → ℕ → List Item → Item → Unsettled → Unsettled → Type 0
+ComesBeside b c T i w u = (maker b T i ≢ Some c) × (u ≡ w)
+
+-- One more item behind T while the client c makes no call there, and what of c's is unsettled before and after. Before a Life
+-- nothing of c's comes where the repository is down, but the one entry of an own call that stopped.
 abbrev pub Gains : Base → ℕ → Unsettled → List Item → Item → Unsettled → Type 0
-Gains b c Calm T i u = (maker b T i ≢ Some c) × (u ≡ Calm)
-Gains b c (MayCome e) T (M m) u = ⊥
+Gains b c Calm T i u = ComesBeside b c T i Calm u
+Gains b c (MayCome e) T (M m) u = ComesBeside b c T (M m) (MayCome e) u
 Gains b c (MayCome e) T (E (Life n)) u = u ≡ Calm
-Gains b c (MayCome e) T (E (One q)) u = (One q ≡ e) × (u ≡ Came)
-Gains b c (MayCome e) T (E (Prepared q)) u = (Prepared q ≡ e) × (u ≡ Came)
-Gains b c (MayCome e) T (E (Decided t k)) u = (Decided t k ≡ e) × (u ≡ Came)
-Gains b c (MayCome e) T (E (Finished t k)) u = (Finished t k ≡ e) × (u ≡ Came)
-Gains b c (MayCome e) T (E (Upgraded q)) u = (Upgraded q ≡ e) × (u ≡ Came)
-Gains b c Came T (M m) u = ⊥
-Gains b c Came T (E (Life n)) u = u ≡ Calm
-Gains b c Came T (E (One q)) u = ⊥
-Gains b c Came T (E (Prepared q)) u = ⊥
-Gains b c Came T (E (Decided t k)) u = ⊥
-Gains b c Came T (E (Finished t k)) u = ⊥
-Gains b c Came T (E (Upgraded q)) u = ⊥
-Gains b c Halted T (M m) u = ⊥
+Gains b c (MayCome e) T (E (One q)) u = ComesDown b c e T (One q) u
+Gains b c (MayCome e) T (E (Prepared q)) u = ComesDown b c e T (Prepared q) u
+Gains b c (MayCome e) T (E (Decided t k)) u = ComesDown b c e T (Decided t k) u
+Gains b c (MayCome e) T (E (Finished t k)) u = ComesDown b c e T (Finished t k) u
+Gains b c (MayCome e) T (E (Upgraded q)) u = ComesDown b c e T (Upgraded q) u
+Gains b c Halted T (M m) u = ComesBeside b c T (M m) Halted u
 Gains b c Halted T (E (Life n)) u = u ≡ Calm
-Gains b c Halted T (E (One q)) u = (maker b T (E (One q)) ≢ Some c) × (u ≡ Halted)
-Gains b c Halted T (E (Prepared q)) u = (maker b T (E (Prepared q)) ≢ Some c) × (u ≡ Halted)
-Gains b c Halted T (E (Decided t k)) u = (maker b T (E (Decided t k)) ≢ Some c) × (u ≡ Halted)
-Gains b c Halted T (E (Finished t k)) u = (maker b T (E (Finished t k)) ≢ Some c) × (u ≡ Halted)
-Gains b c Halted T (E (Upgraded q)) u = (maker b T (E (Upgraded q)) ≢ Some c) × (u ≡ Halted)
+Gains b c Halted T (E (One q)) u = ComesBeside b c T (E (One q)) Halted u
+Gains b c Halted T (E (Prepared q)) u = ComesBeside b c T (E (Prepared q)) Halted u
+Gains b c Halted T (E (Decided t k)) u = ComesBeside b c T (E (Decided t k)) Halted u
+Gains b c Halted T (E (Finished t k)) u = ComesBeside b c T (E (Finished t k)) Halted u
+Gains b c Halted T (E (Upgraded q)) u = ComesBeside b c T (E (Upgraded q)) Halted u
 
--- What is unsettled where nothing comes: that stays, but another's call may stop the repository.
+-- What is unsettled where nothing comes: that stays, another's call may stop the repository, and a restart that fails may have
+-- lost the entry that was being written.
 abbrev pub MayHalt : Unsettled → Unsettled → Type 0
 MayHalt Calm Calm = Unit {0}
 MayHalt Calm Halted = Unit {0}
 MayHalt Calm (MayCome e) = ⊥
-MayHalt Calm Came = ⊥
-MayHalt (MayCome e) w = w ≡ MayCome e
-MayHalt Came w = w ≡ Came
-MayHalt Halted w = w ≡ Halted
+MayHalt (MayCome e) Calm = ⊥
+MayHalt (MayCome e) (MayCome d) = d ≡ e
+MayHalt (MayCome e) Halted = Unit {0}
+MayHalt Halted Calm = ⊥
+MayHalt Halted (MayCome e) = ⊥
+MayHalt Halted Halted = Unit {0}
 
 -- the same of several items
 abbrev pub GainsAll : Base → ℕ → Unsettled → List Item → List Item → Unsettled → Type 0

@@ -5,15 +5,14 @@ use Rattle.spec_trace.specs.Trace.{Item}
 use Rattle.std.specs.Prelude.{Bool, List, None, [], false, ℕ}
 use Rattle.thor_value.specs.FiniteMap.{empty}
 
--- What may still come of a client's own call that stopped.
+-- What may still come of a client's own call that stopped. It can be read off a repository's state, which keeps whether it is
+-- up and which entry was being written, and no more.
 pub data Unsettled : Type 0 where
-  -- nothing
+  -- nothing: the repository is up
   Calm : Unsettled
   -- the entry of the call that stopped; the repository is down
   MayCome : Entry → Unsettled
-  -- that entry has come, and a Life has still to come
-  Came : Unsettled
-  -- nothing of the client's: the repository is down, and nothing but what others had begun comes before a Life
+  -- nothing of the client's before a Life: the repository is down
   Halted : Unsettled
 
 -- What no call changes.

@@ -12,7 +12,7 @@ use Rattle.session_outbox.specs.declared.answers.Verdict.{Verdict}
 use Rattle.session_outbox.specs.declared.answers.Welcome.{Welcome}
 use Rattle.session_outbox.specs.declared.message.Message.{Message}
 use Rattle.client_port.specs.Growing.{Called}
-use Rattle.client_port.specs.Views.{Calm, Came, Halted, MayCome, Unsettled, View}
+use Rattle.client_port.specs.Views.{Calm, Halted, MayCome, Unsettled, View}
 use Rattle.spec_trace.specs.Notices.{lives, notice_of}
 use Rattle.spec_trace.specs.Calls.{Asked, Settled, Undecided, Welcomed, asked, is_kept, is_last_alone, next_page, welcome}
 use Rattle.spec_trace.specs.Exact.{IsDrawn, IsGoneIn, RefusalIsExact, most_pages}
@@ -41,7 +41,6 @@ IsDown r (Err e) = ⊥
 abbrev pub Answered : {X : Type 0} → ℕ → Result X Refusal → Unsettled → List Item → List Item → Unsettled → Type 0 → Type 0
 Answered r result Calm at after u work = work
 Answered r result (MayCome e) at after u work = IsDown r result × (after ≡ at) × (u ≡ MayCome e)
-Answered r result Came at after u work = IsDown r result × (after ≡ at) × (u ≡ Came)
 Answered r result Halted at after u work = IsDown r result × (after ≡ at) × (u ≡ Halted)
 
 -- the call met the trace `at` on r, and `work` says what it did there
@@ -96,7 +95,6 @@ RefusedMarked b at s r after u = RefusalIsExact b at s None r × IsBehind at (M 
 abbrev pub MayHaveLeft : Entry → Type 0 → Unsettled → Type 0
 MayHaveLeft e valid Calm = ⊥
 MayHaveLeft e valid (MayCome d) = (d ≡ e) × valid
-MayHaveLeft e valid Came = ⊥
 MayHaveLeft e valid Halted = Unit {0}
 
 -- how a call with an entry and no mark is refused where the repository is out of order
@@ -175,10 +173,11 @@ is_prepared_by s (Some o) = nat_eq o.request.session s && is_undecided (Some o)
 abbrev pub commits_by : Base → List Item → Ts → Bool
 commits_by b T t = is_kept b T t || is_last_alone b T t
 
--- what a coordinator decides of t, which its session prepared, or how t stands there
+-- What a coordinator decides of t, which its session prepared, or how t stands there. Of a transaction of an earlier run it may
+-- tell more than the trace does: its table keeps decisions of earlier runs until a checkpoint.
 abbrev pub Decides : Bool → Ts → Bool → Verdict → Base → List Item → List Item → Unsettled → Type 0
 Decides true t c v b at after u = (v.commit ≡ c) × IsBehind at (E (Decided t c)) after u
-Decides false t c v b at after u = (v.commit ≡ commits_by b at t) × IsAsMet at after u
+Decides false t c v b at after u = (b.life < t.life → v.commit ≡ commits_by b at t) × IsAsMet at after u
 
 abbrev pub DecideWork : ℕ → Ts → Bool → Result Verdict Refusal → Base → List Item → List Item → Unsettled → Type 0
 DecideWork s t c (Ok v) b at after u = (lives (session b at s) ≡ true) × (v.tx ≡ t) × Decides (is_prepared_by s (known_by b (entries at) t)) t c v b at after u
@@ -195,10 +194,19 @@ ForgetWork t (Ok done) b at after u = IsBehind at (M (the.Forgot t)) after u
 ForgetWork t (Err r) b at after u = IsOutage r × IsHalted at after u
 
 -- the answer is what a trace tells
-abbrev pub Answers : Ts → answer.Asked → Asked → Type 0
-Answers t answers.Undecided told = told ≡ Undecided
-Answers t (answers.Settled v) told = (v.tx ≡ t) × (told ≡ Settled v.commit)
+abbrev pub Answers : answer.Asked → Asked → Type 0
+Answers answers.Undecided told = told ≡ Undecided
+Answers (answers.Settled v) told = told ≡ Settled v.commit
+
+-- the answer is about t
+abbrev pub IsAbout : Ts → answer.Asked → Type 0
+IsAbout t answers.Undecided = Unit {0}
+IsAbout t (answers.Settled v) = v.tx ≡ t
+
+-- The answer is about t, and where t is a transaction of this run it is what the trace tells. Nobody asks about another.
+abbrev pub AnswersOf : Base → List Item → Ts → answer.Asked → Type 0
+AnswersOf b T t a = IsAbout t a × (b.life < t.life → Answers a (asked b T t))
 
 abbrev pub AskWork : Ts → Result answer.Asked Refusal → Base → List Item → List Item → Unsettled → Type 0
-AskWork t (Ok a) b at after u = Answers t a (asked b at t) × IsAsMet at after u
+AskWork t (Ok a) b at after u = AnswersOf b at t a × IsAsMet at after u
 AskWork t (Err r) b at after u = IsOutage r × IsHalted at after u

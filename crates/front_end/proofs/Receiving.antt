@@ -20,7 +20,7 @@ use Rattle.session_outbox.specs.declared.message.Message.{Message}
 use Rattle.page_format.specs.Pages as page
 use Rattle.paused_eval.specs.Copies.{AreAmong}
 use Rattle.client_port.specs.Acting.{RefusesReceive, Takes}
-use Rattle.client_port.specs.Views.{Calm, Came, Halted, MayCome, Unsettled, View}
+use Rattle.client_port.specs.Views.{Calm, Halted, MayCome, Unsettled, View}
 use Rattle.client_port.specs.Works.{Answered, Does, IsOutage, ReceiveWork}
 use Rattle.base_reasons.specs.declared.reason.Reason.TheVariants as reasons
 use Rattle.base_reasons.specs.declared.reason.Reason.{Reason}
@@ -74,7 +74,6 @@ module _ (old new : View) (r s : ℕ) (k : Refusal) (d : Does {X = Option Messag
   outage_by : (e : Refusal) (m : Unsettled) → IsNotGone e → Answered {X = Option Message} r (Err e) m d.at (new.seen r) (new.unsettled r) (ReceiveWork s (Err e) (old.opened.base r) d.at (new.seen r) (new.unsettled r)) → IsOutage e
   outage_by (refused.Reason x) Calm g h = absurd (g s (ap (λ (y : Reason). refused.Reason y) h.0))
   outage_by (refused.Reason x) (MayCome e) g h = absurd h.0
-  outage_by (refused.Reason x) Came g h = absurd h.0
   outage_by (refused.Reason x) Halted g h = absurd h.0
   outage_by (refused.Down n) m g h = tt
   outage_by (refused.Stopped n) m g h = tt

@@ -18,7 +18,7 @@ use Rattle.session_outbox.specs.declared.answers.Verdict.{Verdict}
 use Rattle.session_outbox.specs.declared.message.Message.TheVariants.{Page}
 use Rattle.session_outbox.specs.declared.message.Message.{Message}
 use Rattle.client_port.specs.Acting.{ByAnswer, ByDecision, IsDecided, IsTaken, Takes}
-use Rattle.client_port.specs.Views.{Calm, Came, Halted, MayCome, Unsettled, View}
+use Rattle.client_port.specs.Views.{Calm, Halted, MayCome, Unsettled, View}
 use Rattle.client_port.specs.Works.{Answered, AskWork, Does, ReceiveWork}
 use Rattle.serial_model.specs.declared.outcomes.Cause.TheVariants as cause
 use Rattle.serial_model.specs.declared.outcomes.Cause.{Cause}
@@ -60,7 +60,6 @@ module _ (old new : View) where
     told_by : (m : Unsettled) → Answered {X = answer.Asked} r (Ok (answers.Settled v)) m d.at (new.seen r) (new.unsettled r) (AskWork t (Ok (answers.Settled v)) (old.opened.base r) d.at (new.seen r) (new.unsettled r)) → v.tx ≡ t
     told_by Calm h = h.0.0
     told_by (MayCome e) h = absurd h.0
-    told_by Came h = absurd h.0
     told_by Halted h = absurd h.0
 
     pub told_tx : v.tx ≡ t

@@ -6,3 +6,6 @@ pub mod Reaching
 pub mod Drops
 pub mod Falling
 pub mod Typed
+pub mod Leaving
+pub mod Supplying
+pub mod Distinct

@@ -5,3 +5,4 @@ pub mod Plain
 pub mod Resume
 pub mod Reaches
 pub mod Due
+pub mod Naming

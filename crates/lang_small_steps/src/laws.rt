@@ -1,11 +1,15 @@
 //! What small steps keep. Each law is a function with an empty body, whose clauses are proved once.
 
-ghost use Rattle.std.specs.Prelude.{◌≡◌, ◌<◌, [], List, Option, Ok, Err};
+ghost use Rattle.std.specs.List.{AllByRecursion, IsDistinct};
+ghost use Rattle.std.specs.Prelude.{◌≡◌, ◌<◌, ◌==◌, [], List, None, Option, Result, Some, Ok, Err, false};
+ghost use Rattle.thor_value.specs.Names.{same_oref};
 ghost use Rattle.thor_value.specs.declared.names.Oref.{Oref};
 ghost use Rattle.lang_small_steps.specs.Due.{IsOpen, due};
+ghost use Rattle.lang_small_steps.specs.Naming.{HadNames, with_names};
 ghost use Rattle.lang_small_steps.specs.Reaches.{Agree, Begins, Reaches, granted, over};
 ghost use Rattle.lang_small_steps.specs.Resume.{Left, after_one, move, rest_of};
 ghost use Rattle.lang_small_steps.specs.declared.frames.Doing.TheVariants as doing;
+ghost use Rattle.class_defs.specs.Run.{begun, execute_all};
 ghost use Rattle.class_defs.specs.Steps.{World};
 ghost use Rattle.class_defs.specs.declared.machine.Flow.{Flow};
 ghost use Rattle.class_defs.specs.declared.machine.Machine.{Machine};
@@ -43,4 +47,17 @@ pub fn what_is_left_goes_on_later()
 pub fn a_small_step_leaves_fewer()
     ensures { (w : World) → (a : Left) → (b : Left) → (m : Machine) → (n : Machine) → IsOpen a.doing a.stack
         → move w a.doing a.stack m ≡ (Ok b, n) → due n b < due m a }
+{}
+
+/// A run over just the names that it took goes as it went over all that were granted.
+pub fn names_taken_are_enough()
+    ensures { (w : World) → (tx : List Stmt) → (given : List Oref) → (r : Result Flow Stop) → (n : Machine)
+        → execute_all w tx (begun given None) ≡ (r, n) → HadNames r → execute_all w tx (begun n.created (Some 0)) ≡ (r, with_names [] n) }
+{}
+
+/// The names that new objects take are distinct where those that were granted are, and none of those is a stand-in name.
+pub fn names_taken_are_distinct()
+    ensures { (w : World) → (tx : List Stmt) → (given : List Oref) → (r : Result Flow Stop) → (n : Machine)
+        → IsDistinct same_oref given → AllByRecursion (λ (x : Oref). (x.repo == 255) ≡ false) given
+        → execute_all w tx (begun given None) ≡ (r, n) → IsDistinct same_oref n.created }
 {}

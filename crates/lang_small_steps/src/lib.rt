@@ -13,8 +13,8 @@ mod syntax;
 
 pub use frames::{Doing, Frame};
 pub use laws::{
-    a_small_step_keeps_what_is_left, a_small_step_leaves_fewer, small_steps_reach_what_is_left,
-    what_is_left_goes_on_later,
+    a_small_step_keeps_what_is_left, a_small_step_leaves_fewer, names_taken_are_distinct,
+    names_taken_are_enough, small_steps_reach_what_is_left, what_is_left_goes_on_later,
 };
 pub use methods::{
     CLASS_LIMIT, ClassMethods, EpochMethods, SharedMethod, SharedMethods, class_methods,

@@ -80,7 +80,6 @@ shows T (E (Prepared q)) = client_of q.session T
 shows T (E (Decided t c)) = option_and_then (λ q. client_of q.session T) (prepared t T)
 shows T (E (Finished t c)) = None
 shows T (E (Upgraded q)) = client_of q.session T
-shows T (M (the.Entry place)) = None
 shows T (M (the.Connected s client)) = Some client
 shows T (M (the.Fetched s page upto)) = client_of s T
 shows T (M (the.Granted s page)) = client_of s T

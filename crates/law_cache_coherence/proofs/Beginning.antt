@@ -17,7 +17,7 @@ use Rattle.spec_history.specs.History.{Aborted, Base, Committed, Fate, IsCommitt
 use Rattle.spec_history.specs.Laws.{Asks}
 use Rattle.spec_history.specs.Sound.{sound}
 use Rattle.session_outbox.specs.declared.answers.Welcome.{Welcome}
-use Rattle.client_port.specs.Views.{Calm, Came, Halted, MayCome, Opened, Unsettled, View}
+use Rattle.client_port.specs.Views.{Calm, Halted, MayCome, Opened, Unsettled, View}
 use Rattle.client_port.specs.Works.{Answered, ConnectWork, Does}
 use Rattle.spec_trace.proofs.Exactness.{by_items, exact-beginning, known}
 use Rattle.spec_trace.proofs.Sessions.{session-end}
@@ -114,7 +114,6 @@ joined_quiet old new r w committed d seen = by d.met refl d.answer
 
     by : (u : Unsettled) → d.met ≡ u → Answered {X = Welcome} r (Ok w) u d.at (new.seen r) (new.unsettled r) (ConnectWork c (Ok w) b d.at (new.seen r) (new.unsettled r)) → IsQuiet new r w.session (λ t. false)
     by (MayCome e) m a = absurd a.0
-    by Came m a = absurd a.0
     by Halted m a = absurd a.0
     by Calm m a =
         let after : new.seen r ≡ d.at ++ M (the.Connected w.session c) ∷ [] = a.1.0 in

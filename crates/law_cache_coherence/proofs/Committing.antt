@@ -1,7 +1,7 @@
 -- A client whose transaction commits, is prepared, or turns out to have committed.
 use Rattle.law_cache_coherence.proofs.Other.{told_plain}
-use Rattle.law_cache_coherence.proofs.Passing.{IsFinishing, IsPassive, after_entry, answers_in, behind, keeps_on, replies_now, same_client, was_live}
-use Rattle.law_cache_coherence.specs.Fitting.{Copies, CopiesFit, FitsAt, KeepsUp, Kept, NoneToFinish, SameCopies, StaysRight, WritesOnPages, one_if, replies, with_writes}
+use Rattle.law_cache_coherence.proofs.Passing.{IsFinishing, IsPassive, after_entry, answers_in, behind, keeps_on, replies_now, same_client, waits_no_page, was_live}
+use Rattle.law_cache_coherence.specs.Fitting.{Copies, CopiesFit, FitsAt, KeepsUp, Kept, NoneToFinish, SameCopies, StaysRight, one_if, replies, with_writes}
 use Rattle.log_entries.specs.declared.entry.Entry.TheVariants.{Decided, Finished, Life, One, Prepared, Upgraded}
 use Rattle.log_entries.specs.declared.entry.Entry.{Entry}
 use Rattle.log_entries.specs.declared.request.Request.{Request}
@@ -18,9 +18,10 @@ use Rattle.spec_trace.proofs.Kept.{Later, move-later, step-kept}
 use Rattle.spec_trace.proofs.Own.{own-right}
 use Rattle.spec_trace.proofs.Taken.{keeps-pages}
 use Rattle.spec_trace.proofs.Undecided.{current-grown, current-more, pages-grown}
-use Rattle.spec_trace.specs.Current.{InStep, IsCurrent, IsOwnWrite, NoneAborted, OthersOrSame, PassesItem}
+use Rattle.spec_trace.specs.Current.{InStep, IsCurrent, IsOwnWrite, NoPageWaits, NoneAborted, OthersOrSame, PassesItem}
 use Rattle.spec_trace.specs.Session.{Grant, Invalid, Notice, Page, Session, Upgrade, acked_after, is_news, move, notice, session, session_lives, upto_of, waiting}
 use Rattle.spec_trace.specs.Trace.{E, Item, entries}
+use Rattle.spec_trace.specs.Exact.{WritesOnPages}
 use Rattle.std.proofs.Common.{Bool, List, [], ap, arith, cond, false, inl, inr, length, refl, subst, sym, true, ◌+◌, ◌++◌, ◌∙◌, ◌∷◌, ◌≡◌, ◌≤◌, ℕ}
 use Rattle.std.proofs.lemmas.List.Elements.{All-cons, All-nil, All-weaker}
 use Rattle.std.specs.List.{All, filter}
@@ -131,11 +132,11 @@ module _ (c : ℕ) (b : Base) (T : List Item) (committed : Ts → Bool) (kept : 
         by (Some d) g copy =
             let page = page_of tells x (wrote d g) in
             let low = low_page (get h.v.pages x.page) (length (entries T)) page (λ n is. (keeps-pages b kept.session T h.v h.there before).below x.page n is) in
-            (inl (length (entries T) + 1, own-right b T e kept.session h.v w q x o h.there there k.step commits (g ∙ copy) low), pages-grown b T (E e) kept.session h.v w x.page ps page)
+            (inl (length (entries T) + 1, own-right b T e kept.session h.v w q x o h.there there k.step commits (g ∙ copy) low (waits_no_page b h.v x (idle_replies h.v kept.awaits idle k.asked))), pages-grown b T (E e) kept.session h.v w x.page ps page)
         by None g copy =
             let y = f.current x o here copy in (
               current-grown b T (E e) kept.session h.v w committed x o ps k.step y.1 sd none
-                  (subst (OthersOrSame kept.session x o) (sym commits) (All-cons (λ c. has_written c.1 x ≡ true → (nat_eq c.1.session kept.session ≡ false) ⊎ (get (written c.1) x ≡ Some o)) (length (entries T), q) [] (λ z. let e : false ≡ true = sym (ap is_some g) ∙ z in cc) (All-nil (λ c. has_written c.1 x ≡ true → (nat_eq c.1.session kept.session ≡ false) ⊎ (get (written c.1) x ≡ Some o)))))
+                  (subst (OthersOrSame kept.session h.v x o) (sym commits) (All-cons (λ c. has_written c.1 x ≡ true → (nat_eq c.1.session kept.session ≡ false) ⊎ ((get (written c.1) x ≡ Some o) × NoPageWaits h.v x)) (length (entries T), q) [] (λ z. let e : false ≡ true = sym (ap is_some g) ∙ z in cc) (All-nil (λ c. has_written c.1 x ≡ true → (nat_eq c.1.session kept.session ≡ false) ⊎ ((get (written c.1) x ≡ Some o) × NoPageWaits h.v x)))))
                   y.0,
               pages-grown b T (E e) kept.session h.v w x.page ps y.1,
             )

@@ -1,13 +1,13 @@
 -- A session that is live while nothing is unsettled was so before.
 use Rattle.law_cache_coherence.proofs.Leaving.{HasCalled, Left, acts, behind_call, seen_right}
-use Rattle.law_cache_coherence.proofs.Quiet.{calm_back, came_calm, ends, grown_client, halted_calm, lives_back}
+use Rattle.law_cache_coherence.proofs.Quiet.{calm_back, coming_calm, down_calm, ends, grown_client, halted_calm, lives_back}
 use Rattle.law_cache_coherence.proofs.Telling.{client_stays}
 use Rattle.law_cache_coherence.specs.Seen.{IsSeenRight}
 use Rattle.log_entries.specs.declared.entry.Entry.TheVariants.{Decided, Finished, Life, One, Prepared, Upgraded}
 use Rattle.spec_history.specs.History.{Base}
 use Rattle.client_port.specs.Acting.{Acts}
 use Rattle.client_port.specs.Growing.{Gains, GainsAll, Grew}
-use Rattle.client_port.specs.Views.{Calm, Came, Halted, MayCome, Opened, Unsettled, View}
+use Rattle.client_port.specs.Views.{Calm, Halted, MayCome, Opened, Unsettled, View}
 use Rattle.spec_trace.proofs.Exactness.{exact-beginning, exact-owed}
 use Rattle.spec_trace.specs.Exact.{ItemIsExact, exact}
 use Rattle.spec_trace.specs.Gaps.{client_in}
@@ -26,21 +26,14 @@ module _ (c : ℕ) (b : Base) (s : ℕ) where
 
   one_lived : (T : List Item) (u w : Unsettled) (i : Item) → Gains b c u T i w → ItemIsExact b T i → client_in b T s ≡ Some c → Lives w (T ++ i ∷ []) → Lives u T
   one_lived T Calm w i g k mine was = (refl, lives_back c b s T i k mine was.1)
-  one_lived T (MayCome e) w (M m) g k mine was = absurd g
+  one_lived T (MayCome e) w (M m) g k mine was = absurd (coming_calm c b s e w g.1 was.0)
   one_lived T (MayCome e) w (E (Life n)) g k mine was = absurd (ends c b s T n k mine was.1)
-  one_lived T (MayCome e) w (E (One q)) g k mine was = absurd (came_calm c b s w g.1 was.0)
-  one_lived T (MayCome e) w (E (Prepared q)) g k mine was = absurd (came_calm c b s w g.1 was.0)
-  one_lived T (MayCome e) w (E (Decided v d)) g k mine was = absurd (came_calm c b s w g.1 was.0)
-  one_lived T (MayCome e) w (E (Finished v d)) g k mine was = absurd (came_calm c b s w g.1 was.0)
-  one_lived T (MayCome e) w (E (Upgraded q)) g k mine was = absurd (came_calm c b s w g.1 was.0)
-  one_lived T Came w (M m) g k mine was = absurd g
-  one_lived T Came w (E (Life n)) g k mine was = absurd (ends c b s T n k mine was.1)
-  one_lived T Came w (E (One q)) g k mine was = absurd g
-  one_lived T Came w (E (Prepared q)) g k mine was = absurd g
-  one_lived T Came w (E (Decided v d)) g k mine was = absurd g
-  one_lived T Came w (E (Finished v d)) g k mine was = absurd g
-  one_lived T Came w (E (Upgraded q)) g k mine was = absurd g
-  one_lived T Halted w (M m) g k mine was = absurd g
+  one_lived T (MayCome e) w (E (One q)) g k mine was = absurd (down_calm c b s e (One q) T w g was.0)
+  one_lived T (MayCome e) w (E (Prepared q)) g k mine was = absurd (down_calm c b s e (Prepared q) T w g was.0)
+  one_lived T (MayCome e) w (E (Decided v d)) g k mine was = absurd (down_calm c b s e (Decided v d) T w g was.0)
+  one_lived T (MayCome e) w (E (Finished v d)) g k mine was = absurd (down_calm c b s e (Finished v d) T w g was.0)
+  one_lived T (MayCome e) w (E (Upgraded q)) g k mine was = absurd (down_calm c b s e (Upgraded q) T w g was.0)
+  one_lived T Halted w (M m) g k mine was = absurd (halted_calm c b s w g.1 was.0)
   one_lived T Halted w (E (Life n)) g k mine was = absurd (ends c b s T n k mine was.1)
   one_lived T Halted w (E (One q)) g k mine was = absurd (halted_calm c b s w g.1 was.0)
   one_lived T Halted w (E (Prepared q)) g k mine was = absurd (halted_calm c b s w g.1 was.0)

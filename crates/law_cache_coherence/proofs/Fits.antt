@@ -1,20 +1,21 @@
 -- The examples of what fits.
 use Rattle.law_cache_coherence.proofs.Committing.{some_at}
-use Rattle.law_cache_coherence.specs.Examples.{copy_of_x, keeping, no_copy}
+use Rattle.law_cache_coherence.specs.Examples.{awaiting, copy_of_x, keeping, newer_of_x, no_copy, page_waits}
 use Rattle.law_cache_coherence.specs.Fitting.{Copies, FitsAt, KeepsUp, StaysRight}
 use Rattle.spec_history.specs.Examples.{box, home, setting_x, x}
 use Rattle.spec_history.specs.History.{objects_at, writers}
 use Rattle.client_port.specs.Views.{Calm}
 use Rattle.spec_trace.specs.Current.{IsCurrent, OthersSince, RightAt}
 use Rattle.spec_trace.specs.ExactExamples.{fetched, nothing_committed}
-use Rattle.spec_trace.specs.Session.{Invalid, Session, session, session_lives, upto_of}
+use Rattle.spec_trace.specs.Session.{Invalid, Page, Session, session, session_lives, upto_of}
 use Rattle.spec_trace.specs.SessionExamples.{invalid_taken, restarted, written_since}
 use Rattle.spec_trace.specs.Trace.{Item, entries}
-use Rattle.std.proofs.Common.{Bool, List, [], ap, arith, cond, false, inl, inr, refl, subst, sym, true, ◌∙◌, ◌∷◌, ◌≡◌, ◌≤◌, ℕ}
+use Rattle.std.proofs.Common.{Bool, List, [], ap, arith, cond, false, inl, inr, refl, subst, suc, sym, true, zero, ℕ, ◌∙◌, ◌∷◌, ◌≡◌, ◌≤◌}
 use Rattle.std.proofs.lemmas.List.Elements.{All-cons, All-nil}
 use Rattle.std.proofs.lemmas.Map.Views.{tells_apart}
 use Rattle.std.specs.Option.{IsSomeAnd}
 use Rattle.std.specs.Prelude.{None, Option, Some, nat_eq, negsuc, pos, ℤ}
+use Rattle.std.specs.List.{slice_get}
 use Rattle.thor_value.proofs.NameOrders.{oref_exact}
 use Rattle.thor_value.specs.FiniteMap.{get, has}
 use Rattle.thor_value.specs.Names.{same_oref}
@@ -41,8 +42,16 @@ each_copy T h y o is = let k = one_copy y o is in subst (λ z. Holds T z o) (sym
 none_since : OthersSince 2 1 (writers home (entries fetched) x)
 none_since = All-nil (λ c. 1 ≤ c.0 → nat_eq c.1.session 2 ≡ false)
 
+-- the page was taken
+page_taken : (i k : ℕ) → 1 ≤ i → slice_get (Page 0 1 ∷ []) i ≡ Some (Page 0 k) → 1 ≤ k
+page_taken zero k l e = absurd (low l)
+  where
+    low : 1 ≤ 0 → ⊥
+    low h = omega arith
+page_taken (suc i) k l e = cc
+
 right : IsSomeAnd (session home fetched 2) (λ v. RightAt home (entries fetched) 2 v x (box 0) 1)
-right = record { unknown = omega arith; there = omega arith; cached = omega arith; value = refl; others = none_since }
+right = record { unknown = omega arith; there = omega arith; cached = omega arith; value = refl; others = none_since; before = page_taken }
 
 unsettled : {A : Type 0} → false ≡ true → A
 unsettled e = cc
@@ -67,8 +76,16 @@ taken = record {
 since_then : OthersSince 2 1 (writers home (entries written_since) x)
 since_then = All-cons (λ c. 1 ≤ c.0 → nat_eq c.1.session 2 ≡ false) (2, setting_x 2 7) [] (λ l. refl) (All-nil (λ c. 1 ≤ c.0 → nat_eq c.1.session 2 ≡ false))
 
+taken_then : (i k : ℕ) → 1 ≤ i → slice_get (Page 0 1 ∷ Invalid (x ∷ []) 2 ∷ []) i ≡ Some (Page 0 k) → 1 ≤ k
+taken_then zero k l e = absurd (low l)
+  where
+    low : 1 ≤ 0 → ⊥
+    low h = omega arith
+taken_then (suc zero) k l e = cc
+taken_then (suc (suc i)) k l e = cc
+
 right_then : IsSomeAnd (session home written_since 2) (λ v. RightAt home (entries written_since) 2 v x (box 0) 1)
-right_then = record { unknown = omega arith; there = omega arith; cached = omega arith; value = refl; others = since_then }
+right_then = record { unknown = omega arith; there = omega arith; cached = omega arith; value = refl; others = since_then; before = taken_then }
 
 pub written : FitsAt 2 home Calm written_since nothing_committed (keeping 1 copy_of_x)
 written = record {
@@ -173,4 +190,34 @@ stale h = by ((k.copies refl).current x (box 0) refl refl).0
     by (inl r) =
         let m : r.0 ≡ 3 = only r.0 (subst (λ (n : ℕ). n ≤ r.0) u r.1.unknown) r.1.there in
         not_written (ap (λ (n : ℕ). get (objects_at home (entries invalid_taken) n) x) (sym m) ∙ r.1.value)
+    by (inr y) = unsettled y.2.settled
+
+pub newer : ¬ FitsAt 2 home Calm page_waits nothing_committed (awaiting newer_of_x)
+newer h = by ((k.copies refl).current x (box 7) refl refl).0
+  where
+    of_session : (P : Session → Type 0) → IsSomeAnd (session home page_waits 2) P → P h.v
+    of_session P p = some_at P (session home page_waits 2) h.v h.there p
+
+    k : KeepsUp home page_waits nothing_committed h.v (awaiting newer_of_x)
+    k = h.keeps refl (of_session (λ v. session_lives v ≡ true) refl)
+
+    u : upto_of h.v ≡ 1
+    u = of_session (λ v. upto_of v ≡ 1) refl
+
+    first : slice_get h.v.sent 0 ≡ Some (Page 0 1)
+    first = of_session (λ v. slice_get v.sent 0 ≡ Some (Page 0 1)) refl
+
+    none : h.v.taken ≡ 0
+    none = of_session (λ v. v.taken ≡ 0) refl
+
+    low : (n : ℕ) → n ≡ 0 → n ≤ 0
+    low n e = omega arith
+
+    only : (m : ℕ) → 1 ≤ m → m ≤ 1 → m ≡ 1
+    only m l g = omega arith
+
+    by : IsCurrent home (entries page_waits) 2 h.v nothing_committed x (box 7) → ⊥
+    by (inl r) =
+        let m : r.0 ≡ 1 = only r.0 (subst (λ (n : ℕ). n ≤ r.0) u r.1.unknown) (r.1.before 0 1 (low h.v.taken none) first) in
+        not_written (sym (ap (λ (n : ℕ). get (objects_at home (entries page_waits) n) x) (sym m) ∙ r.1.value))
     by (inr y) = unsettled y.2.settled

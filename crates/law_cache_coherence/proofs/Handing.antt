@@ -2,7 +2,7 @@
 use Rattle.law_cache_coherence.proofs.Lending.{Front, agrees_now, answered_front, fits_now, met_fits, none_aborted_now, none_more, one_more, own_now, sound_now, unmarked_front}
 use Rattle.law_cache_coherence.proofs.Staying.{when_live}
 use Rattle.law_cache_coherence.proofs.Working as works
-use Rattle.law_cache_coherence.specs.Fitting.{Agrees, Copies, FitsAt, Kept, NoneToFinish, SameCopies, WritesOnPages, with_writes}
+use Rattle.law_cache_coherence.specs.Fitting.{Agrees, Copies, FitsAt, Kept, NoneToFinish, SameCopies, with_writes}
 use Rattle.law_cache_coherence.specs.Seen.{IsSeenRight, LinkIn}
 use Rattle.client_state.specs.Links.{is_reply}
 use Rattle.client_state.specs.declared.link.Link.TheVariants.{Apart, Joined, Unsettled as unsettled}
@@ -16,13 +16,14 @@ use Rattle.spec_history.specs.Sound.{sound}
 use Rattle.session_outbox.specs.declared.answers.Asked as answer
 use Rattle.session_outbox.specs.declared.answers.Verdict.{Verdict}
 use Rattle.client_port.specs.Growing.{Called}
-use Rattle.client_port.specs.Views.{Calm, Came, Halted, MayCome, Unsettled, View}
+use Rattle.client_port.specs.Views.{Calm, Halted, MayCome, Unsettled, View}
 use Rattle.client_port.specs.Works.{Answered, AskWork, CommitWork, DecideWork, Decides, Does, FinishWork, ForgetWork, OutageWith, PrepareWork, RequestRefused, alone_entry, is_prepared_by}
 use Rattle.spec_trace.specs.Current.{NoneAborted}
 use Rattle.spec_trace.specs.Notices.{lives}
 use Rattle.spec_trace.specs.Session.{session}
 use Rattle.spec_trace.specs.Trace.{E, Item, M, entries}
 use Rattle.spec_trace.specs.declared.mark.Mark.TheVariants as the
+use Rattle.spec_trace.specs.Exact.{WritesOnPages}
 use Rattle.std.proofs.Common.{Bool, List, false, refl, subst, sym, true, ◌∙◌, ◌≡◌, ℕ}
 use Rattle.std.specs.Prelude.{Err, None, Ok, Option, Result, Some}
 use Rattle.thor_value.specs.declared.names.Ts.{Ts}
@@ -106,14 +107,12 @@ module _ (old new : View) (r : ℕ) (committed : Ts → Bool) (seen : IsSeenRigh
   any_fits : {X : Type 0} (result : Result X Refusal) (work : Type 0) (m : Unsettled) → met ≡ m → Answered r result m at (new.seen r) (new.unsettled r) work → (work → Agrees (old.opened.base r) (entries (new.seen r)) keeping.session committed → Fits Calm at keeping → Fits (new.unsettled r) (new.seen r) keeping) → Fits (new.unsettled r) (new.seen r) keeping
   any_fits result work Calm e a f = so keeping.copies (λ calm live. f a (agrees_now old new r committed called.same seen keeping.session calm live) (calm_here e calm live))
   any_fits result work (MayCome d) e a f = stays (MayCome d) e a.1 a.2
-  any_fits result work Came e a f = stays Came e a.1 a.2
   any_fits result work Halted e a f = stays Halted e a.1 a.2
 
   -- a call that is answered Ok has done its work
   ok_fits : {X : Type 0} (x : X) (work : Type 0) (left : Copies) (m : Unsettled) → met ≡ m → Answered {X = X} r (Ok x) m at (new.seen r) (new.unsettled r) work → (work → While (Fits Calm at keeping → Fits (new.unsettled r) (new.seen r) (record keeping { copies = left }))) → Fits (new.unsettled r) (new.seen r) (record keeping { copies = left })
   ok_fits x work left Calm e a f = so left (λ calm live. f a calm live (calm_here e calm live))
   ok_fits x work left (MayCome d) e a f = absurd a.0
-  ok_fits x work left Came e a f = absurd a.0
   ok_fits x work left Halted e a f = absurd a.0
 
 -- ---- calls of a session

@@ -15,7 +15,7 @@ use Rattle.session_outbox.specs.declared.answers.Verdict.{Verdict}
 use Rattle.session_outbox.specs.declared.answers.Welcome.{Welcome}
 use Rattle.session_outbox.specs.declared.message.Message.{Message}
 use Rattle.client_port.specs.Growing.{Called, Grew}
-use Rattle.client_port.specs.Views.{Calm, Came, Halted, MayCome, Opened, Unsettled, View}
+use Rattle.client_port.specs.Views.{Calm, Halted, MayCome, Opened, Unsettled, View}
 use Rattle.client_port.specs.Works as works
 use Rattle.client_port.specs.Works.{Answered, AskWork, CommitWork, ConnectWork, DecideWork, Does, DrawWork, FetchWork, FinishWork, ForgetWork, GrantWork, IsAsMet, IsBehind, IsHalted, MayHaveLeft, OutageWith, PrepareWork, ReceiveWork, RefusedMarked, RefusedUnmarked, RequestRefused, alone_entry, is_prepared_by}
 use Rattle.spec_trace.specs.Calls.{next_page}
@@ -71,7 +71,6 @@ module _ (such : Entry → Bool) (b : Base) (at after : List Item) (u : Unsettle
   left_behind : (e : Entry) (valid : Type 0) → such e ≡ false → (v : Unsettled) → MayHaveLeft e valid v → NoneComes such v
   left_behind e valid other Calm m = absurd m
   left_behind e valid other (MayCome d) m = ap such m.0 ∙ other
-  left_behind e valid other Came m = absurd m
   left_behind e valid other Halted m = tt
 
   stopped : (e : Entry) (valid : Type 0) → such e ≡ false → (after ≡ at) × MayHaveLeft e valid u → Adds such at after u
@@ -168,7 +167,6 @@ left_front such met at after u (inr a) = none_more at after a.1
 answered_left : (such : Entry → Bool) {X : Type 0} (r : ℕ) (result : Result X Refusal) (met : Unsettled) (at after : List Item) (u : Unsettled) (work : Type 0) → (work → Adds such at after u) → Answered r result met at after u work → Left such met at after u
 answered_left such r result Calm at after u work f h = inl (refl, f h)
 answered_left such r result (MayCome e) at after u work f h = inr ((λ x. cc), h.1, h.2)
-answered_left such r result Came at after u work f h = inr ((λ x. cc), h.1, h.2)
 answered_left such r result Halted at after u work f h = inr ((λ x. cc), h.1, h.2)
 
 module _ (such : Entry → Bool) (old new : View) where

@@ -25,7 +25,7 @@ use Rattle.session_outbox.specs.declared.answers.At.{At}
 use Rattle.session_outbox.specs.declared.answers.Welcome.{Welcome}
 use Rattle.session_outbox.specs.declared.message.Message.{Message}
 use Rattle.client_port.specs.Growing.{Called}
-use Rattle.client_port.specs.Views.{Calm, Came, Halted, MayCome, Opened, Unsettled, View}
+use Rattle.client_port.specs.Views.{Calm, Halted, MayCome, Opened, Unsettled, View}
 use Rattle.client_port.specs.Works.{Answered, ConnectWork, Does, DrawWork, FetchWork, GrantWork, IsDown, ReceiveWork, RefusedMarked, RefusedUnmarked}
 use Rattle.base_reasons.specs.declared.reason.Reason.TheVariants as reasons
 use Rattle.base_reasons.specs.declared.reason.Reason.{Reason}
@@ -106,7 +106,6 @@ one_more at after i e = (i ∷ [], e)
 pub answered_front : {X : Type 0} (r : ℕ) (result : Result X Refusal) (met : Unsettled) (at after : List Item) (u : Unsettled) (work : Type 0) → (work → Front at after) → Answered r result met at after u work → Front at after
 answered_front r result Calm at after u work f h = f h
 answered_front r result (MayCome e) at after u work f h = none_more at after h.1
-answered_front r result Came at after u work f h = none_more at after h.1
 answered_front r result Halted at after u work f h = none_more at after h.1
 
 module _ (b : Base) (at after : List Item) (u : Unsettled) (s : ℕ) where
@@ -279,7 +278,6 @@ module _ (old new : View) (r : ℕ) (committed : Ts → Bool) (at : List Item) (
       answer_fits : (result : Result X Refusal) (work : Type 0) (m : Unsettled) → met ≡ m → Answered r result m at after u work → CopiesBehind result r before copies left → (met ≡ Calm → work → Then (slice_get (links_of result r before) r)) → Then (slice_get (links_of result r before) r)
       answer_fits result work Calm e a h f = f e a
       answer_fits result work (MayCome d) e a h f = down_fits result (MayCome d) e a.0 a.1 a.2 h
-      answer_fits result work Came e a h f = down_fits result Came e a.0 a.1 a.2 h
       answer_fits result work Halted e a h f = down_fits result Halted e a.0 a.1 a.2 h
 
     none : NoneAborted b (entries after) committed
@@ -365,11 +363,9 @@ module _ (old new : View) (repo : ℕ) (before : List Link) (copies : Copies) (c
   joins : (met : Unsettled) (at : List Item) (result : Result Welcome Refusal) → Answered repo result met at (new.seen repo) (new.unsettled repo) (ConnectWork old.opened.client result (old.opened.base repo) at (new.seen repo) (new.unsettled repo)) → Joins result
   joins Calm at (Ok w) a = subst (λ (o : Option Link). LinkAt (record new { opened = old.opened }) repo committed o copies) (sym (changes_here before repo (λ l. Joined w.session w.place Idle) Apart there)) (works.connected old.opened.client (old.opened.base repo) committed at (new.seen repo) (new.unsettled repo) w copies none a)
   joins (MayCome e) at (Ok w) a = absurd a.0
-  joins Came at (Ok w) a = absurd a.0
   joins Halted at (Ok w) a = absurd a.0
   joins Calm at (Err k) a = still_apart k
   joins (MayCome e) at (Err k) a = still_apart k
-  joins Came at (Err k) a = still_apart k
   joins Halted at (Err k) a = still_apart k
 
 pub connected : (old new : View) (repo : ℕ) (before after : List Link) (copies : Copies) (committed : Ts → Bool) → Connects true old new repo old.opened.client before after → IsSeenRight new repo committed → slice_get before repo ≡ Some Apart
@@ -418,13 +414,11 @@ module _ (old new : View) (r s upto : ℕ) (waits : Waits) (committed : Ts → B
     none_done : (m : Unsettled) → met ≡ m → Answered {X = Option Message} r (Ok None) m at (new.seen r) (new.unsettled r) (ReceiveWork s (Ok None) base at (new.seen r) (new.unsettled r)) → Behind (Joined s upto waits) copies
     none_done Calm e w = so upto (is_reply waits) copies (λ calm live. works.none_came old.opened.client base committed at (new.seen r) (new.unsettled r) keeping there_sound there_none (calm_here' e calm live) w)
     none_done (MayCome d) e w = absurd w.0
-    none_done Came e w = absurd w.0
     none_done Halted e w = absurd w.0
 
     refused_done : (z : Refusal) (m : Unsettled) → met ≡ m → Answered {X = Option Message} r (Err z) m at (new.seen r) (new.unsettled r) (ReceiveWork s (Err z) base at (new.seen r) (new.unsettled r)) → Behind (Joined s upto waits) copies
     refused_done z Calm e w = so upto (is_reply waits) copies (λ calm live. works.unmarked_fits old.opened.client base committed at (new.seen r) (new.unsettled r) keeping there_sound there_none (calm_here' e calm live) z w)
     refused_done z (MayCome d) e w = stays (MayCome d) e w.1 w.2
-    refused_done z Came e w = stays Came e w.1 w.2
     refused_done z Halted e w = stays Halted e w.1 w.2
 
     module _ (m : Message) (objects : ℕ → Option Obj) (left : Copies) (top : is_news (notice_of m) ≡ true → place_of (notice_of m) + 1 < 2 ^ 64) (content : base.tells ≡ true → BringsContent base (entries (new.seen r)) objects m) (be : Becomes base.repo objects m copies left) where
@@ -435,7 +429,6 @@ module _ (old new : View) (r s upto : ℕ) (waits : Waits) (committed : Ts → B
           subst (FitsOrNone old.opened.client base (new.unsettled r) (new.seen r) committed left) (sym (tells_took m s upto waits left top))
           (so (bound (notice_of m)) (awaits_behind (notice_of m) (is_reply waits)) left (λ calm live. works.received old.opened.client base committed at (new.seen r) (new.unsettled r) keeping there_sound there_none (calm_here' e calm live) m left (λ tells. become base (entries at) objects m copies left (content' tells) be) w))
       message_done (MayCome d) e w = absurd w.0
-      message_done Came e w = absurd w.0
       message_done Halted e w = absurd w.0
 
 -- the trace at the call is a front of the one behind it

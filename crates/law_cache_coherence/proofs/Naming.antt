@@ -122,7 +122,6 @@ module _ (b : Base) (s : ℕ) where
   new_named T (M (the.Took n p)) pages names k h x named = cc
   new_named T (M (the.Fetched n page upto)) pages names k h x named = no_answer (nat_eq n s) page (state b (entries T)).length k names h
   new_named T (M (the.Granted n page)) pages names k h x named = no_grant (nat_eq n s) page (state b (entries T)).length k names h
-  new_named T (M (the.Entry p)) pages names k h x named = cc
   new_named T (M (the.Drew n t)) pages names k h x named = cc
   new_named T (M (the.Forgot t)) pages names k h x named = cc
   new_named T (M (the.Refused n q r)) pages names k h x named = cc

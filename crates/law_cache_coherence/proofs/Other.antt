@@ -70,7 +70,6 @@ module _ (b : Base) (c : ℕ) (T : List Item) (s : ℕ) (v : Session) (committed
   taking (M (the.Took n place)) other k = apart n other
   taking (M (the.Connected n d)) other k = fresh_number n d k.0
   taking (E e) other k = refl
-  taking (M (the.Entry p)) other k = refl
   taking (M (the.Fetched n page upto)) other k = refl
   taking (M (the.Granted n page)) other k = refl
   taking (M (the.Drew n t)) other k = refl
@@ -88,7 +87,6 @@ module _ (b : Base) (c : ℕ) (T : List Item) (s : ℕ) (v : Session) (committed
   acked (E (Finished t k)) other = refl
   acked (E (Upgraded q)) other = unacked q.session (max v.acked q.upto) other
   acked (M (the.Fetched n page upto)) other = unacked n (max v.acked upto) other
-  acked (M (the.Entry p)) other = refl
   acked (M (the.Connected n d)) other = refl
   acked (M (the.Granted n page)) other = refl
   acked (M (the.Took n place)) other = refl
@@ -100,7 +98,6 @@ module _ (b : Base) (c : ℕ) (T : List Item) (s : ℕ) (v : Session) (committed
   plain (E e) other = told_plain s (state b (entries T)) v (commit_of b (state b (entries T)) e)
   plain (M (the.Fetched n page upto)) other = ap (λ (t : Bool). answers_in (cond t (Some (Page page (state b (entries T)).length)) None)) (apart n other)
   plain (M (the.Granted n page)) other = ap (λ (t : Bool). answers_in (cond t (Some (Grant page (state b (entries T)).length)) None)) (apart n other)
-  plain (M (the.Entry p)) other = refl
   plain (M (the.Connected n d)) other = refl
   plain (M (the.Took n place)) other = refl
   plain (M (the.Drew n t)) other = refl

@@ -15,7 +15,7 @@ use Rattle.spec_trace.proofs.Taken.{after-mark}
 use Rattle.spec_trace.proofs.Told.{Went, went}
 use Rattle.spec_trace.proofs.Traces.{entries-append}
 use Rattle.spec_trace.proofs.Undecided.{current-grown, pages-grown}
-use Rattle.spec_trace.specs.Current.{InStep, IsOwnWrite, NoneAborted, OthersOrSame, OthersSince, OthersWrite, PassesItem, commits_in, is_taking}
+use Rattle.spec_trace.specs.Current.{InStep, IsOwnWrite, NoPageWaits, NoneAborted, OthersOrSame, OthersSince, OthersWrite, PassesItem, commits_in, is_taking}
 use Rattle.spec_trace.specs.Session.{Grant, Invalid, Notice, Page, Session, Upgrade, acked_after, is_news, is_silent, meet, move, moved, notice, or_retired, push, rested, retired, session, session_lives, taken_after, upto_of, waiting}
 use Rattle.spec_trace.specs.Trace.{E, Item, M, entries}
 use Rattle.spec_trace.specs.declared.mark.Mark.TheVariants as the
@@ -23,7 +23,7 @@ use Rattle.std.proofs.Common.{Bool, List, [], ap, arith, cond, drop, false, inl,
 use Rattle.std.proofs.lemmas.Bool.{eqb-true}
 use Rattle.std.proofs.lemmas.List.Elements.{All-append, All-cons, All-nil, All-tail, All-head, All-weaker, filter-append}
 use Rattle.std.proofs.lemmas.List.{append-nil}
-use Rattle.std.specs.List.{All, filter}
+use Rattle.std.specs.List.{All, filter, slice_get}
 use Rattle.std.specs.Option.{is_some}
 use Rattle.std.specs.Prelude.{None, Option, Some, nat_eq, not, ◌⊎◌}
 use Rattle.thor_value.specs.FiniteMap.{get}
@@ -79,7 +79,6 @@ module _ (b : Base) where
   not_taken s taken (M (the.Took n k)) h = ap (λ (t : Bool). cond t (taken + 1) taken) h
   not_taken s taken (M (the.Fetched n page upto)) h = refl
   not_taken s taken (M (the.Granted n page)) h = refl
-  not_taken s taken (M (the.Entry k)) h = refl
   not_taken s taken (M (the.Connected n d)) h = refl
   not_taken s taken (M (the.Drew n t)) h = refl
   not_taken s taken (M (the.Forgot t)) h = refl
@@ -113,6 +112,39 @@ module _ (b : Base) where
 
   pub replies_now : (s : ℕ) (S : State) (i : Item) (v : Session) → v.taken ≤ length v.sent → is_taking s i ≡ false → session_lives (move b s S i v) ≡ true → replies (move b s S i v) ≡ replies v ++ answers_in (notice b s S v.pages i)
   replies_now s S i v l h live = ap (filter (λ m. not (is_news m))) (waits_now s S i v l h live) ∙ filter-append (λ m. not (is_news m)) (waiting v) (list_of (notice b s S v.pages i))
+
+  -- ---- what waits
+
+  all_at : (P : Notice → Type 0) (ms : List Notice) (i : ℕ) (m : Notice) → All P ms → slice_get ms i ≡ Some m → P m
+  all_at P [] i m a e = cc
+  all_at P (x ∷ xs) zero m a e = let same : x ≡ m = cc in subst P same (All-head P x xs a)
+  all_at P (x ∷ xs) (suc i) m a e = all_at P xs i m (All-tail P x xs a) e
+
+  -- what holds of each message behind the first n holds of one there
+  waiting_at : (P : Notice → Type 0) (n : ℕ) (ms : List Notice) (i : ℕ) (m : Notice) → All P (drop n ms) → n ≤ i → slice_get ms i ≡ Some m → P m
+  waiting_at P zero ms i m a le e = all_at P ms i m a e
+  waiting_at P (suc n) [] i m a le e = cc
+  waiting_at P (suc n) (x ∷ xs) zero m a le e = absurd (omega arith)
+  waiting_at P (suc n) (x ∷ xs) (suc i) m a le e = waiting_at P n xs i m a (omega arith) e
+
+  no_page : (ms : List Notice) (i page k : ℕ) → filter (λ m. not (is_news m)) ms ≡ [] → slice_get ms i ≡ Some (Page page k) → ⊥
+  no_page [] i page k f e = cc
+  no_page (Page p q ∷ ms) i page k f e = cc
+  no_page (Grant p q ∷ ms) i page k f e = cc
+  no_page (Invalid xs q ∷ ms) zero page k f e = cc
+  no_page (Invalid xs q ∷ ms) (suc i) page k f e = no_page ms i page k f e
+  no_page (Upgrade n q ∷ ms) zero page k f e = cc
+  no_page (Upgrade n q ∷ ms) (suc i) page k f e = no_page ms i page k f e
+
+  no_page_behind : (n : ℕ) (ms : List Notice) (i page k : ℕ) → filter (λ m. not (is_news m)) (drop n ms) ≡ [] → n ≤ i → slice_get ms i ≡ Some (Page page k) → ⊥
+  no_page_behind zero ms i page k f le e = no_page ms i page k f e
+  no_page_behind (suc n) [] i page k f le e = cc
+  no_page_behind (suc n) (x ∷ xs) zero page k f le e = absurd (omega arith)
+  no_page_behind (suc n) (x ∷ xs) (suc i) page k f le e = no_page_behind n xs i page k f (omega arith) e
+
+  -- where no answer waits, no page does
+  pub waits_no_page : (v : Session) (x : Oref) → replies v ≡ [] → NoPageWaits v x
+  waits_no_page v x none i k le at = no_page_behind v.taken v.sent i x.page k none le at
 
   -- ---- the history
 
@@ -188,20 +220,23 @@ module _ (b : Base) where
 
     module _ (copies : Copies) (f : CopiesFit b (entries T) s v committed copies) where
       -- what the item commits of the session's own are the copies
-      same_or_other : (x : Oref) (o : Obj) → x.repo ≡ b.repo → copies x ≡ Some o → OthersOrSame s x o (commits_in b (entries T) i)
-      same_or_other x o here copy = All-weaker (λ c. nat_eq c.1.session s ≡ true → IsFinishing b (entries T) committed c.1) (λ c. has_written c.1 x ≡ true → (nat_eq c.1.session s ≡ false) ⊎ (get (written c.1) x ≡ Some o)) one (commits_in b (entries T) i) p.commits
+      same_or_other : (x : Oref) (o : Obj) → x.repo ≡ b.repo → copies x ≡ Some o → OthersOrSame s v x o (commits_in b (entries T) i)
+      same_or_other x o here copy = All-weaker (λ c. nat_eq c.1.session s ≡ true → IsFinishing b (entries T) committed c.1) (λ c. has_written c.1 x ≡ true → (nat_eq c.1.session s ≡ false) ⊎ ((get (written c.1) x ≡ Some o) × NoPageWaits v x)) one (commits_in b (entries T) i) p.commits
         where
-          one : (c : ℕ × Request) → (nat_eq c.1.session s ≡ true → IsFinishing b (entries T) committed c.1) → has_written c.1 x ≡ true → (nat_eq c.1.session s ≡ false) ⊎ (get (written c.1) x ≡ Some o)
+          one : (c : ℕ × Request) → (nat_eq c.1.session s ≡ true → IsFinishing b (entries T) committed c.1) → has_written c.1 x ≡ true → (nat_eq c.1.session s ≡ false) ⊎ ((get (written c.1) x ≡ Some o) × NoPageWaits v x)
           one c h wrote = by (nat_eq c.1.session s) refl
             where
-              by : (t : Bool) → nat_eq c.1.session s ≡ t → (nat_eq c.1.session s ≡ false) ⊎ (get (written c.1) x ≡ Some o)
+              by : (t : Bool) → nat_eq c.1.session s ≡ t → (nat_eq c.1.session s ≡ false) ⊎ ((get (written c.1) x ≡ Some o) × NoPageWaits v x)
               by false e = inl e
               by true e =
                   let g = h e in
                   let d = there_wrote (get (written c.1) x) wrote in
                   let own : g.o.request.session ≡ s = ap (λ (r : Request). r.session) g.request ∙ eqb-true c.1.session s e in
                   let w : IsOwnWrite b (entries T) s committed x d.0 g.t g.o = record { there = g.there; open' = g.open'; own = own; wrote = ap (λ (r : Request). get (written r) x) g.request ∙ d.1; settled = g.settled } in
-                  inr (d.1 ∙ ap (λ (z : Obj). Some z) (sym (f.own x o d.0 g.t g.o here w copy)))
+                  inr (
+                    d.1 ∙ ap (λ (z : Obj). Some z) (sym (f.own x o d.0 g.t g.o here w copy)),
+                    λ j k le at. (waiting_at (StaysRight b (entries T) s committed) v.taken v.sent j (Page x.page k) f.pages le at x refl).1 d.0 g.t g.o w,
+                  )
 
       -- the item commits nothing of the session's own on a page that waits
       others_write : (x : Oref) → ((d : Obj) (t : Ts) (w : Known) → ¬ IsOwnWrite b (entries T) s committed x d t w) → OthersWrite s x (commits_in b (entries T) i)

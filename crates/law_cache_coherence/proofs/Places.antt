@@ -255,7 +255,6 @@ module _ (b : Base) (s : ℕ) (x : Oref) (k : ℕ) where
   told_behind S (M (the.Took n p)) o other h = told_mapped S (M (the.Took n p)) o h
   told_behind S (M (the.Fetched n page upto)) o other h = told_mapped S (M (the.Fetched n page upto)) o h
   told_behind S (M (the.Granted n page)) o other h = told_mapped S (M (the.Granted n page)) o h
-  told_behind S (M (the.Entry p)) o other h = told_mapped S (M (the.Entry p)) o h
   told_behind S (M (the.Drew n t)) o other h = told_mapped S (M (the.Drew n t)) o h
   told_behind S (M (the.Forgot t)) o other h = told_mapped S (M (the.Forgot t)) o h
   told_behind S (M (the.Refused n q r)) o other h = told_mapped S (M (the.Refused n q r)) o h

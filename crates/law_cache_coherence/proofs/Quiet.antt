@@ -18,8 +18,8 @@ use Rattle.spec_history.proofs.Places.{came_end}
 use Rattle.spec_history.specs.History.{Base, Committed, Known, Open, State, commit_of, known_by, state}
 use Rattle.spec_history.specs.Laws.{Asks}
 use Rattle.spec_history.specs.Sound.{sound}
-use Rattle.client_port.specs.Growing.{Gains, GainsAll, Grew, MayHalt}
-use Rattle.client_port.specs.Views.{Calm, Came, Halted, MayCome, Opened, Unsettled, View}
+use Rattle.client_port.specs.Growing.{ComesDown, Gains, GainsAll, Grew, MayHalt}
+use Rattle.client_port.specs.Views.{Calm, Halted, MayCome, Opened, Unsettled, View}
 use Rattle.spec_trace.proofs.Exactness.{exact-beginning, exact-owed, move-lives}
 use Rattle.spec_trace.proofs.Taken.{after-mark}
 use Rattle.spec_trace.proofs.Traces.{entries-append}
@@ -122,29 +122,28 @@ module _ (c : ℕ) (b : Base) (s : ℕ) where
   abbrev pub Was : Unsettled → List Item → Ts → Type 0
   Was u T t = (u ≡ Calm) × (lives (session b T s) ≡ true) × StandsOpen T t
 
-  pub came_calm : (w : Unsettled) → w ≡ Came → w ≡ Calm → ⊥
-  came_calm w e f = let g : Came ≡ Calm = sym e ∙ f in cc
+  pub coming_calm : (e : Entry) (w : Unsettled) → w ≡ MayCome e → w ≡ Calm → ⊥
+  coming_calm e w is f = let g : MayCome e ≡ Calm = sym is ∙ f in cc
 
   pub halted_calm : (w : Unsettled) → w ≡ Halted → w ≡ Calm → ⊥
   halted_calm w e f = let g : Halted ≡ Calm = sym e ∙ f in cc
 
+  pub down_calm : (e d : Entry) (T : List Item) (w : Unsettled) → ComesDown b c e T d w → w ≡ Calm → ⊥
+  down_calm e d T w h f = elim h [
+    | inl own ↦ halted_calm w own.1 f
+    | inr other ↦ coming_calm e w other.1 f
+  ]
+
   one_back : (T : List Item) (u w : Unsettled) (i : Item) (t : Ts) → Gains b c u T i w → ItemIsExact b T i → sound b (entries (T ++ i ∷ [])) → client_in b T s ≡ Some c → Was w (T ++ i ∷ []) t → Was u T t
   one_back T Calm w i t g k sd mine was = (refl, lives_back T i k mine was.1, others_back T i t mine g.0 sd was.2)
-  one_back T (MayCome e) w (M m) t g k sd mine was = absurd g
+  one_back T (MayCome e) w (M m) t g k sd mine was = absurd (coming_calm e w g.1 was.0)
   one_back T (MayCome e) w (E (Life n)) t g k sd mine was = absurd (ends T n k mine was.1)
-  one_back T (MayCome e) w (E (One q)) t g k sd mine was = absurd (came_calm w g.1 was.0)
-  one_back T (MayCome e) w (E (Prepared q)) t g k sd mine was = absurd (came_calm w g.1 was.0)
-  one_back T (MayCome e) w (E (Decided v d)) t g k sd mine was = absurd (came_calm w g.1 was.0)
-  one_back T (MayCome e) w (E (Finished v d)) t g k sd mine was = absurd (came_calm w g.1 was.0)
-  one_back T (MayCome e) w (E (Upgraded q)) t g k sd mine was = absurd (came_calm w g.1 was.0)
-  one_back T Came w (M m) t g k sd mine was = absurd g
-  one_back T Came w (E (Life n)) t g k sd mine was = absurd (ends T n k mine was.1)
-  one_back T Came w (E (One q)) t g k sd mine was = absurd g
-  one_back T Came w (E (Prepared q)) t g k sd mine was = absurd g
-  one_back T Came w (E (Decided v d)) t g k sd mine was = absurd g
-  one_back T Came w (E (Finished v d)) t g k sd mine was = absurd g
-  one_back T Came w (E (Upgraded q)) t g k sd mine was = absurd g
-  one_back T Halted w (M m) t g k sd mine was = absurd g
+  one_back T (MayCome e) w (E (One q)) t g k sd mine was = absurd (down_calm e (One q) T w g was.0)
+  one_back T (MayCome e) w (E (Prepared q)) t g k sd mine was = absurd (down_calm e (Prepared q) T w g was.0)
+  one_back T (MayCome e) w (E (Decided v d)) t g k sd mine was = absurd (down_calm e (Decided v d) T w g was.0)
+  one_back T (MayCome e) w (E (Finished v d)) t g k sd mine was = absurd (down_calm e (Finished v d) T w g was.0)
+  one_back T (MayCome e) w (E (Upgraded q)) t g k sd mine was = absurd (down_calm e (Upgraded q) T w g was.0)
+  one_back T Halted w (M m) t g k sd mine was = absurd (halted_calm w g.1 was.0)
   one_back T Halted w (E (Life n)) t g k sd mine was = absurd (ends T n k mine was.1)
   one_back T Halted w (E (One q)) t g k sd mine was = absurd (halted_calm w g.1 was.0)
   one_back T Halted w (E (Prepared q)) t g k sd mine was = absurd (halted_calm w g.1 was.0)
@@ -154,9 +153,12 @@ module _ (c : ℕ) (b : Base) (s : ℕ) where
 
   pub calm_back : (u w : Unsettled) → MayHalt u w → w ≡ Calm → u ≡ Calm
   calm_back Calm w m e = refl
-  calm_back (MayCome d) w m e = let g : MayCome d ≡ Calm = sym m ∙ e in cc
-  calm_back Came w m e = absurd (came_calm w m e)
-  calm_back Halted w m e = absurd (halted_calm w m e)
+  calm_back (MayCome d) Calm m e = absurd m
+  calm_back (MayCome d) (MayCome f) m e = cc
+  calm_back (MayCome d) Halted m e = cc
+  calm_back Halted Calm m e = absurd m
+  calm_back Halted (MayCome f) m e = absurd m
+  calm_back Halted Halted m e = e
 
   all_back : (T is : List Item) (u w : Unsettled) (t : Ts) → GainsAll b c u T is w → exact b (T ++ is) → sound b (entries (T ++ is)) → client_in b T s ≡ Some c → Was w (T ++ is) t → Was u T t
   all_back T [] u w t g k sd mine was = let now : Was w T t = subst (λ (S : List Item). Was w S t) (append-nil T) was in (calm_back u w g now.0, now.1, now.2)

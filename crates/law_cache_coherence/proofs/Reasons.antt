@@ -15,7 +15,7 @@ use Rattle.session_outbox.specs.declared.answers.Welcome.{Welcome}
 use Rattle.session_outbox.specs.declared.message.Message.{Message}
 use Rattle.session_outbox.specs.declared.message.Message.TheVariants as message
 use Rattle.client_port.specs.Acting.{IsTaken, Refuses, RefusesAsk, RefusesCommit, RefusesConnect, RefusesDraw, RefusesFetch, RefusesGrant, RefusesPrepare, RefusesReceive, Takes}
-use Rattle.client_port.specs.Views.{Calm, Came, Halted, MayCome, Unsettled, View}
+use Rattle.client_port.specs.Views.{Calm, Halted, MayCome, Unsettled, View}
 use Rattle.client_port.specs.Works.{Answered, AskWork, CommitWork, ConnectWork, Does, DrawWork, FetchWork, GrantWork, PrepareWork, ReceiveWork, RefusedMarked, RefusedUnmarked, RequestRefused, alone_entry}
 use Rattle.log_entries.specs.declared.entry.Entry.TheVariants.{Prepared}
 use Rattle.base_reasons.specs.declared.reason.Reason.{Reason}
@@ -36,7 +36,6 @@ use Rattle.repo_refusals.specs.declared.refusal.Refusal.{Refusal}
 pub was_calm : (X : Type 0) (r : ℕ) (k : Reason) (met : Unsettled) (at after : List Item) (u : Unsettled) (work : Type 0) → Answered {X = X} r (Err (refused.Reason k)) met at after u work → work
 was_calm X r k Calm at after u work h = h
 was_calm X r k (MayCome e) at after u work h = absurd h.0
-was_calm X r k Came at after u work h = absurd h.0
 was_calm X r k Halted at after u work h = absurd h.0
 
 module _ (b : Base) (at after : List Item) (u : Unsettled) (k : Reason) (s : ℕ) where
@@ -81,7 +80,6 @@ module _ (old new : View) (r s floor : ℕ) (t : Ts) where
   drawn_by : (met : Unsettled) (at behind : List Item) (w : Unsettled) → Answered {X = Ts} r (Ok t) met at behind w (DrawWork s floor (Ok t) (old.opened.base r) at behind w) → floor < t.time
   drawn_by Calm at behind w h = h.2
   drawn_by (MayCome e) at behind w h = absurd h.0
-  drawn_by Came at behind w h = absurd h.0
   drawn_by Halted at behind w h = absurd h.0
 
   drawn : (result : Result Ts Refusal) → result ≡ Ok t → Draws result → floor < t.time
@@ -113,7 +111,6 @@ module _ (old new : View) (r s : ℕ) (names : List Oref) (k : ℕ) (x : Oref) (
   took_by : (met : Unsettled) (at : List Item) (w : Unsettled) → Answered {X = Option Message} r (Ok (Some (message.Invalid names k))) met at (new.seen r) w (ReceiveWork s (Ok (Some (message.Invalid names k))) (old.opened.base r) at (new.seen r) w) → IsWriteSeen old new r x k
   took_by Calm at w h = record { session_is = s; at = at; taken = h.2.0; wrote = named_by (old.opened.base r) at s names k x named (session (old.opened.base r) at s) refl h.0 }
   took_by (MayCome e) at w h = absurd h.0
-  took_by Came at w h = absurd h.0
   took_by Halted at w h = absurd h.0
 
 pub write_seen : (old new : View) (r : ℕ) (names : List Oref) (k : ℕ) → IsTaken old new r (message.Invalid names k) → (x : Oref) → list_any (same_oref x) names ≡ true → IsWriteSeen old new r x k

@@ -12,14 +12,13 @@ use Rattle.client_port.specs.Works.{alone_entry}
 use Rattle.spec_trace.proofs.Accepted.{one, prepared, upgraded}
 use Rattle.spec_trace.proofs.Exactness.{exact-end}
 use Rattle.spec_trace.proofs.Traces.{entries-append}
-use Rattle.spec_trace.specs.Calls.{was_granted}
-use Rattle.spec_trace.specs.Exact.{ComesFromSession, exact}
+use Rattle.spec_trace.specs.Exact.{ComesFromSession, WritesOnPages, exact}
 use Rattle.spec_trace.specs.Session.{Session, session}
 use Rattle.spec_trace.specs.Trace.{E, Item, entries}
 use Rattle.spec_trace.specs.Verdict.{verdict}
 use Rattle.std.proofs.Common.{Bool, List, [], ap, cond, false, refl, subst, sym, true, ◌++◌, ◌∙◌, ◌∷◌, ◌≡◌, ℕ}
 use Rattle.std.specs.Option.{IsSomeAnd, option_map}
-use Rattle.std.specs.Prelude.{IsTrue, None, Option, Some}
+use Rattle.std.specs.Prelude.{None, Option, Some}
 
 client_of : (o : Option Session) (c d : ℕ) → option_map (λ (v : Session). v.client) o ≡ Some c → d ≡ c → IsSomeAnd o (λ v. v.client ≡ d)
 client_of None c d e f = cc
@@ -40,7 +39,8 @@ module _ (port : View) (r s : ℕ) (q : Request) (m : MaySend port r s q) (sd : 
     accepted = accepted_own;
     client = client_of (session b T q.session) port.opened.client q.who.client (ap (λ (n : ℕ). option_map (λ (v : Session). v.client) (session b T n)) m.session ∙ m.own) m.client;
     upto = m.upto;
-    granted = λ x created wrote. subst (λ (n : ℕ). IsTrue (was_granted T n x.page)) (sym m.session) (m.granted x created wrote);
+    granted = m.granted;
+    paged = subst (λ (n : ℕ). WritesOnPages b T n q) (sym m.session) m.paged;
   }
 
   then_both : (e : Entry) → sound b (entries T ++ e ∷ []) → exact b (T ++ E e ∷ []) → sound b (entries (T ++ E e ∷ [])) × exact b (T ++ E e ∷ [])

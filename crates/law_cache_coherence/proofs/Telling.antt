@@ -47,7 +47,6 @@ module _ (c : ℕ) (b : Base) where
       by true e = let low = known b T s v h in let same = eqb-true n s e in let up : last_session T < n = k.0 in absurd (omega arith)
   unbegun T s v (M (the.Took n place)) h k = session-end b T (M (the.Took n place)) s ∙ ap (λ (u : Option Session). meet b s (state b (entries T)) u (M (the.Took n place))) h
   unbegun T s v (E e) h k = behind b T (E e) s v h refl
-  unbegun T s v (M (the.Entry p)) h k = behind b T (M (the.Entry p)) s v h refl
   unbegun T s v (M (the.Fetched n page upto)) h k = behind b T (M (the.Fetched n page upto)) s v h refl
   unbegun T s v (M (the.Granted n page)) h k = behind b T (M (the.Granted n page)) s v h refl
   unbegun T s v (M (the.Drew n t)) h k = behind b T (M (the.Drew n t)) s v h refl

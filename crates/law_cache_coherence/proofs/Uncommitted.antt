@@ -12,8 +12,8 @@ use Rattle.spec_history.proofs.Steps as steps
 use Rattle.spec_history.proofs.Telling.{known-unleft}
 use Rattle.spec_history.specs.History.{Aborted, Base, Committed, Fate, IsCommitted, Known, Open, State, commit_by, commit_of, known_by, known_in, state}
 use Rattle.spec_history.specs.Sound.{owes, sound}
-use Rattle.client_port.specs.Growing.{Gains, GainsAll, Grew, MayHalt}
-use Rattle.client_port.specs.Views.{Calm, Came, Halted, MayCome, Unsettled}
+use Rattle.client_port.specs.Growing.{ComesDown, Gains, GainsAll, Grew, MayHalt}
+use Rattle.client_port.specs.Views.{Calm, Halted, MayCome, Unsettled}
 use Rattle.spec_trace.proofs.Exactness.{exact-beginning, exact-owed}
 use Rattle.spec_trace.proofs.Taken.{after-mark}
 use Rattle.spec_trace.proofs.Traces.{entries-append}
@@ -123,23 +123,29 @@ module _ (c : ℕ) (b : Base) where
 
   -- ---- growth
 
+  -- what is on its way behind an entry that comes while the client's own e may come
+  comes_none : (e d : Entry) (T : List Item) (t : Ts) (w : Unsettled) → ComesDown b c e T d w → decides t e ≡ false → NoneComes (decides t) w
+  comes_none e d T t w h coming = elim h [
+    | inl own ↦ subst (NoneComes (decides t)) (sym own.1) tt
+    | inr other ↦ subst (NoneComes (decides t)) (sym other.1) coming
+  ]
+
   gains_none : (T : List Item) (t : Ts) (u w : Unsettled) (i : Item) → Gains b c u T i w → sound b (entries T) → t.repo ≡ b.repo → DoomedAt c b u T t → (is_such (decides t) i ≡ false) × NoneComes (decides t) w
   gains_none T t Calm w i g sd home d = (others_none T t d.o home d.there sd d.own i g.0, subst (NoneComes (decides t)) (sym g.1) tt)
-  gains_none T t (MayCome e) w (M m) g sd home d = absurd g
+  gains_none T t (MayCome e) w (M m) g sd home d = (refl, subst (NoneComes (decides t)) (sym g.1) d.coming)
   gains_none T t (MayCome e) w (E (Life n)) g sd home d = (refl, subst (NoneComes (decides t)) (sym g) tt)
-  gains_none T t (MayCome e) w (E (One q)) g sd home d = (refl, subst (NoneComes (decides t)) (sym g.1) tt)
-  gains_none T t (MayCome e) w (E (Prepared q)) g sd home d = (refl, subst (NoneComes (decides t)) (sym g.1) tt)
-  gains_none T t (MayCome e) w (E (Decided v k)) g sd home d = (ap (decides t) g.0 ∙ d.coming, subst (NoneComes (decides t)) (sym g.1) tt)
-  gains_none T t (MayCome e) w (E (Finished v k)) g sd home d = (refl, subst (NoneComes (decides t)) (sym g.1) tt)
-  gains_none T t (MayCome e) w (E (Upgraded q)) g sd home d = (refl, subst (NoneComes (decides t)) (sym g.1) tt)
-  gains_none T t Came w (M m) g sd home d = absurd g
-  gains_none T t Came w (E (Life n)) g sd home d = (refl, subst (NoneComes (decides t)) (sym g) tt)
-  gains_none T t Came w (E (One q)) g sd home d = absurd g
-  gains_none T t Came w (E (Prepared q)) g sd home d = absurd g
-  gains_none T t Came w (E (Decided v k)) g sd home d = absurd g
-  gains_none T t Came w (E (Finished v k)) g sd home d = absurd g
-  gains_none T t Came w (E (Upgraded q)) g sd home d = absurd g
-  gains_none T t Halted w (M m) g sd home d = absurd g
+  gains_none T t (MayCome e) w (E (One q)) g sd home d = (refl, comes_none e (One q) T t w g d.coming)
+  gains_none T t (MayCome e) w (E (Prepared q)) g sd home d = (refl, comes_none e (Prepared q) T t w g d.coming)
+  gains_none T t (MayCome e) w (E (Decided v k)) g sd home d = (
+    elim g [
+      | inl own ↦ ap (decides t) own.0 ∙ d.coming
+      | inr other ↦ others_none T t d.o home d.there sd d.own (E (Decided v k)) other.0
+    ],
+    comes_none e (Decided v k) T t w g d.coming,
+  )
+  gains_none T t (MayCome e) w (E (Finished v k)) g sd home d = (refl, comes_none e (Finished v k) T t w g d.coming)
+  gains_none T t (MayCome e) w (E (Upgraded q)) g sd home d = (refl, comes_none e (Upgraded q) T t w g d.coming)
+  gains_none T t Halted w (M m) g sd home d = (refl, subst (NoneComes (decides t)) (sym g.1) tt)
   gains_none T t Halted w (E (Life n)) g sd home d = (refl, subst (NoneComes (decides t)) (sym g) tt)
   gains_none T t Halted w (E (One q)) g sd home d = (refl, subst (NoneComes (decides t)) (sym g.1) tt)
   gains_none T t Halted w (E (Prepared q)) g sd home d = (refl, subst (NoneComes (decides t)) (sym g.1) tt)
@@ -151,10 +157,12 @@ module _ (c : ℕ) (b : Base) where
   halts_none t Calm Calm m d = tt
   halts_none t Calm Halted m d = tt
   halts_none t Calm (MayCome e) m d = absurd m
-  halts_none t Calm Came m d = absurd m
-  halts_none t (MayCome e) w m d = subst (NoneComes (decides t)) (sym m) d
-  halts_none t Came w m d = subst (NoneComes (decides t)) (sym m) tt
-  halts_none t Halted w m d = subst (NoneComes (decides t)) (sym m) tt
+  halts_none t (MayCome e) Calm m d = tt
+  halts_none t (MayCome e) (MayCome f) m d = subst (λ (x : Entry). decides t x ≡ false) (sym m) d
+  halts_none t (MayCome e) Halted m d = tt
+  halts_none t Halted Calm m d = tt
+  halts_none t Halted (MayCome e) m d = absurd m
+  halts_none t Halted Halted m d = tt
 
   all_on : (T is : List Item) (u w : Unsettled) (t : Ts) → GainsAll b c u T is w → exact b (T ++ is) → sound b (entries (T ++ is)) → t.repo ≡ b.repo → DoomedAt c b u T t → DoomedAt c b w (T ++ is) t
   all_on T [] u w t g k sd home d = subst (λ (S : List Item). DoomedAt c b w S t) (sym (append-nil T)) (record { o = d.o; there = d.there; own = d.own; uncommitted = d.uncommitted; coming = halts_none t u w g d.coming })

@@ -4,7 +4,7 @@ use Rattle.law_cache_coherence.proofs.Handing.{link_asked, link_committed, link_
 use Rattle.law_cache_coherence.proofs.Learned.{commit_learned, prepare_learned}
 use Rattle.law_cache_coherence.proofs.Lending.{changes_here, connected, drew, fetched, granted, received_message, received_none, received_refused}
 use Rattle.law_cache_coherence.proofs.Stepping.{all_fit}
-use Rattle.law_cache_coherence.specs.Fitting.{Copies, FitsAt, NoneToFinish, SameCopies, WritesOnPages, with_writes}
+use Rattle.law_cache_coherence.specs.Fitting.{Copies, FitsAt, NoneToFinish, SameCopies, with_writes}
 use Rattle.law_cache_coherence.specs.Links.{Becomes, BringsContent}
 use Rattle.law_cache_coherence.specs.Seen.{IsSeenRight, LinkAt, LinkIn, called_at}
 use Rattle.law_cache_coherence.specs.Steps.{AllSeenRight, LinksFit, OthersStay}
@@ -30,6 +30,7 @@ use Rattle.base_reasons.specs.declared.reason.Reason.TheVariants as reasons
 use Rattle.spec_trace.specs.Notices.{lives, notice_of}
 use Rattle.spec_trace.specs.Session.{is_news, place_of, session}
 use Rattle.spec_trace.specs.Trace.{entries}
+use Rattle.spec_trace.specs.Exact.{WritesOnPages}
 use Rattle.std.proofs.Common.{Bool, List, [], ap, arith, cond, false, refl, subst, suc, sym, true, zero, ◌+◌, ◌<◌, ◌^◌, ◌∙◌, ◌∷◌, ◌≡◌, ◌≢◌, ℕ}
 use Rattle.std.proofs.lemmas.Bool.Decides.{nat_tests}
 use Rattle.std.proofs.lemmas.Option.{same_Some}

@@ -3,7 +3,7 @@ use Rattle.law_cache_coherence.proofs.Asking.{fits_begun, fits_fetched, fits_gra
 use Rattle.law_cache_coherence.proofs.Committing.{fits_committed, fits_finishing, fits_undecided, is_open_so, request_acks, some_at}
 use Rattle.law_cache_coherence.proofs.Growing.{grown_one}
 use Rattle.law_cache_coherence.proofs.Taking.{fits_taken}
-use Rattle.law_cache_coherence.specs.Fitting.{Agrees, Copies, FitsAt, HoldsNone, Kept, NoneToFinish, SameCopies, WritesOnPages, awaits_behind, behind_message, with_writes}
+use Rattle.law_cache_coherence.specs.Fitting.{Agrees, Copies, FitsAt, HoldsNone, Kept, NoneToFinish, SameCopies, awaits_behind, behind_message, with_writes}
 use Rattle.log_entries.specs.declared.entry.Entry.TheVariants.{Decided, Finished, One, Prepared, Upgraded}
 use Rattle.log_entries.specs.declared.entry.Entry.{Entry}
 use Rattle.log_entries.specs.declared.request.Request.{Request}
@@ -15,7 +15,7 @@ use Rattle.session_outbox.specs.declared.answers.Asked as answer
 use Rattle.session_outbox.specs.declared.answers.Verdict.{Verdict}
 use Rattle.session_outbox.specs.declared.answers.Welcome.{Welcome}
 use Rattle.session_outbox.specs.declared.message.Message.{Message}
-use Rattle.client_port.specs.Views.{Calm, Came, Halted, MayCome, Unsettled}
+use Rattle.client_port.specs.Views.{Calm, Halted, MayCome, Unsettled}
 use Rattle.client_port.specs.Works.{AskWork, CommitWork, ConnectWork, DecideWork, Decides, DrawWork, FetchWork, FinishWork, ForgetWork, GrantWork, IsAsMet, IsBehind, IsHalted, MayHaveLeft, OutageWith, PrepareWork, ReceiveWork, RefusedMarked, RefusedUnmarked, RequestRefused, is_prepared_by}
 use Rattle.spec_trace.specs.Notices.{lives, notice_of}
 use Rattle.spec_trace.proofs.Taken.{after-mark}
@@ -25,6 +25,7 @@ use Rattle.spec_trace.specs.Session.{acked_after, bound, place_of, session, sess
 use Rattle.spec_trace.specs.Trace.{E, Item, M, entries}
 use Rattle.spec_trace.specs.declared.mark.Mark.TheVariants as the
 use Rattle.spec_trace.specs.declared.mark.Mark.{Mark}
+use Rattle.spec_trace.specs.Exact.{WritesOnPages}
 use Rattle.std.proofs.Common.{Bool, List, [], ap, arith, cond, false, refl, subst, sym, true, ◌++◌, ◌∙◌, ◌∷◌, ◌≡◌, ◌≢◌, ◌≤◌, ℕ}
 use Rattle.std.proofs.lemmas.Bool.{eqb-true}
 use Rattle.std.specs.List.{slice_get}
@@ -91,7 +92,6 @@ module _ (c : ℕ) (b : Base) (committed : Ts → Bool) where
         by : (x : Unsettled) → MayHaveLeft e valid x → FitsAt c b x at committed kept
         by Calm l = absurd l
         by (MayCome d) l = record { v = h.v; there = h.there; own = h.own; keeps = λ f g. cc }
-        by Came l = absurd l
         by Halted l = halted at kept h
 
     pub request_any : (s : ℕ) (e : Entry) (q : Request) (r : Refusal) → RequestRefused e b at s q r after u → FitsAt c b u after committed kept

@@ -6,7 +6,7 @@ use Rattle.log_entries.specs.declared.entry.Entry.{Entry}
 use Rattle.client_port.specs.Acting as acting
 use Rattle.client_port.specs.Acting.{Acts, Asked, Committed, Connected, Drew, Fetched, Forgot, Granted, Received, Rests}
 use Rattle.spec_history.specs.History.{Base, IsCommitted, Known, Open, known_by}
-use Rattle.client_port.specs.Views.{Calm, Came, Halted, MayCome, Unsettled, View}
+use Rattle.client_port.specs.Views.{Calm, Halted, MayCome, Unsettled, View}
 use Rattle.client_port.specs.Works.{alone_entry}
 use Rattle.spec_trace.specs.Gaps.{client_in}
 use Rattle.spec_trace.specs.Notices.{lives}
@@ -65,7 +65,6 @@ ActsWithin old new a running = (e : Entry) (t : Ts) → entry_asked old new a �
 abbrev pub NoneComes : (Entry → Bool) → Unsettled → Type 0
 NoneComes such Calm = Unit {0}
 NoneComes such (MayCome e) = such e ≡ false
-NoneComes such Came = Unit {0}
 NoneComes such Halted = Unit {0}
 
 -- Of the repository that coordinates t, whose trace is T: t was prepared there by a session of the client c, hasn't

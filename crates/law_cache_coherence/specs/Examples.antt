@@ -5,7 +5,8 @@ use Rattle.log_entries.specs.declared.entry.Entry.TheVariants.{Decided, Life}
 use Rattle.spec_history.specs.Examples.{at, box, x}
 use Rattle.spec_trace.specs.ExactExamples.{deciding}
 use Rattle.spec_trace.specs.Trace.{E, Item}
-use Rattle.std.specs.Prelude.{List, None, Some, [], cond, false, take, true, ℕ, ◌++◌, ◌∷◌}
+use Rattle.spec_trace.specs.SessionExamples.{written_since}
+use Rattle.std.specs.Prelude.{List, None, Some, [], cond, drop, false, take, true, ℕ, ◌++◌, ◌∷◌}
 use Rattle.thor_value.specs.Names.{same_oref}
 
 -- a copy of x as it was at the beginning, and none
@@ -15,15 +16,26 @@ copy_of_x y = cond (same_oref y x) (Some (box 0)) None
 abbrev pub no_copy : Copies
 no_copy y = None
 
+-- The page waits for client 2 while the first one writes x; and a copy of what that wrote.
+abbrev pub page_waits : List Item
+page_waits = take 4 written_since ++ drop 5 written_since
+
+abbrev pub newer_of_x : Copies
+newer_of_x y = cond (same_oref y x) (Some (box 7)) None
+
 -- client 2 waits for no answer, knows the places below this one, and has these copies
 abbrev pub keeping : ℕ → Copies → Kept
 keeping upto copies = record { session = 2; upto = upto; awaits = false; copies = copies }
+
+-- it waits for its page
+abbrev pub awaiting : Copies → Kept
+awaiting copies = record (keeping 1 copies) { awaits = true }
 
 -- ---- doomed transactions
 
 -- Client 1 has prepared a transaction at its coordinator,
 abbrev pub prepared : List Item
-prepared = take 4 deciding
+prepared = take 6 deciding
 
 -- which is then restarted
 abbrev pub lost : List Item

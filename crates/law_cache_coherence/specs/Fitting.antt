@@ -114,10 +114,6 @@ HoldsNone b copies = (x : Oref) → x.repo ≡ b.repo → copies x ≡ None
 abbrev pub NoneToFinish : Base → List Entry → ℕ → (Ts → Bool) → Type 0
 NoneToFinish b H s committed = (t : Ts) (o : Known) → known_by b H t ≡ Some o → o.fate ≡ Open → o.request.session ≡ s → committed t ≡ false
 
--- the pages of what q wrote are the session's
-abbrev pub WritesOnPages : Base → List Item → ℕ → Request → Type 0
-WritesOnPages b T s q = (x : Oref) → has_written q x ≡ true → IsSomeAnd (session b T s) (λ v. has v.pages x.page ≡ true)
-
 -- ---- what becomes of copies
 
 -- the copies with what q wrote

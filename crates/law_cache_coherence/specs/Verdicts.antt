@@ -1,6 +1,6 @@
 -- What is told between of transactions that have committed at their coordinators, and what a client has to hold of its own
 -- transaction then.
-use Rattle.law_cache_coherence.specs.Fitting.{Copies, HoldsNone, NoneToFinish, SameCopies, WritesOnPages, with_writes}
+use Rattle.law_cache_coherence.specs.Fitting.{Copies, HoldsNone, NoneToFinish, SameCopies, with_writes}
 use Rattle.client_state.specs.Links.{is_reply}
 use Rattle.client_state.specs.declared.link.Link.TheVariants.{Apart, Joined, Unsettled}
 use Rattle.client_state.specs.declared.link.Link.{Link}
@@ -11,6 +11,7 @@ use Rattle.client_port.specs.Works.{is_prepared_by}
 use Rattle.spec_trace.specs.Notices.{lives}
 use Rattle.spec_trace.specs.Session.{session}
 use Rattle.spec_trace.specs.Trace.{Item, entries}
+use Rattle.spec_trace.specs.Exact.{WritesOnPages}
 use Rattle.std.specs.List.{slice_get}
 use Rattle.std.specs.Prelude.{Bool, List, None, Option, Some, false, true, ℕ, ◌<◌, ◌≡◌, ◌⊎◌}
 use Rattle.thor_value.specs.declared.names.Ts.{Ts}

@@ -1,7 +1,7 @@
 //! What each call of a client makes of what it keeps: its work (`law_client_views::Works`) leads from what fits to what fits,
 //! where the client changes its link and its copies as said here.
 
-ghost use Rattle.law_cache_coherence.specs.Fitting.{Agrees, Copies, FitsAt, HoldsNone, Kept, NoneToFinish, SameCopies, WritesOnPages, awaits_behind, behind_message, with_writes};
+ghost use Rattle.law_cache_coherence.specs.Fitting.{Agrees, Copies, FitsAt, HoldsNone, Kept, NoneToFinish, SameCopies, awaits_behind, behind_message, with_writes};
 ghost use Rattle.log_entries.specs.declared.request.Request.{Request};
 ghost use Rattle.spec_history.specs.History.{Base, Known, known_by, state};
 ghost use Rattle.spec_history.specs.Requests.{has_read};
@@ -17,6 +17,7 @@ ghost use Rattle.spec_trace.specs.Current.{NoneAborted};
 ghost use Rattle.spec_trace.specs.Session.{bound};
 ghost use Rattle.spec_trace.specs.Trace.{Item, entries};
 ghost use Rattle.spec_trace.specs.Verdict.{verdict};
+ghost use Rattle.spec_trace.specs.Exact.{WritesOnPages};
 ghost use Rattle.std.specs.Prelude.{Bool, Err, List, None, Ok, Option, Result, Some, false, true, ℕ, ◌≡◌};
 ghost use Rattle.thor_value.specs.FiniteMap.{get};
 ghost use Rattle.thor_value.specs.declared.names.Oref.{Oref};

@@ -1,6 +1,6 @@
 //! What fits a trace and what doesn't, on small traces (`specs/Examples.antt`).
 
-ghost use Rattle.law_cache_coherence.specs.Examples.{copy_of_x, keeping, no_copy, unanswered};
+ghost use Rattle.law_cache_coherence.specs.Examples.{awaiting, copy_of_x, keeping, newer_of_x, no_copy, page_waits, unanswered};
 ghost use Rattle.law_cache_coherence.specs.Fitting.{Agrees, AgreesStanding, FitsAt};
 ghost use Rattle.spec_history.specs.Examples.{home};
 ghost use Rattle.client_port.specs.Views.{Calm};
@@ -19,12 +19,14 @@ pub fn what_fits()
 {}
 
 /// A copy that is kept behind the message that names it doesn't fit; nor does a client that has raised what it knows before
-/// it took the message, one that hasn't raised it behind, and one under another client's session.
+/// it took the message, one that hasn't raised it behind, one under another client's session, and a copy that is newer than a
+/// page that waits.
 pub fn what_does_not_fit()
     ensures kept { ¬ FitsAt 2 home Calm invalid_taken nothing_committed (keeping 3 copy_of_x) }
     ensures early { ¬ FitsAt 2 home Calm written_since nothing_committed (keeping 3 no_copy) }
     ensures late { ¬ FitsAt 2 home Calm invalid_taken nothing_committed (keeping 1 no_copy) }
     ensures other { ¬ FitsAt 1 home Calm fetched nothing_committed (keeping 1 copy_of_x) }
+    ensures newer { ¬ FitsAt 2 home Calm page_waits nothing_committed (awaiting newer_of_x) }
 {}
 
 /// Where a decision to commit has come while its call stopped, and its client isn't told yet, it needn't be counted: the session

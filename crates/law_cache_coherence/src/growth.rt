@@ -1,11 +1,11 @@
 //! What others do leaves what a client keeps as it is.
 
-ghost use Rattle.law_cache_coherence.specs.Fitting.{Agrees, Copies, FitsAt, Kept, NoneToFinish, SameCopies, WritesOnPages, with_writes};
+ghost use Rattle.law_cache_coherence.specs.Fitting.{Agrees, Copies, FitsAt, Kept, NoneToFinish, SameCopies, with_writes};
 ghost use Rattle.spec_history.specs.History.{Base, Known, Open, known_by};
 ghost use Rattle.spec_history.specs.Sound.{sound};
 ghost use Rattle.client_port.specs.Growing.{Grew};
 ghost use Rattle.client_port.specs.Views.{Calm, Unsettled};
-ghost use Rattle.spec_trace.specs.Exact.{exact};
+ghost use Rattle.spec_trace.specs.Exact.{WritesOnPages, exact};
 ghost use Rattle.spec_trace.specs.Trace.{Item, entries};
 ghost use Rattle.std.specs.Prelude.{Bool, List, Some, false, true, ℕ, ◌≡◌, ◌⊎◌};
 ghost use Rattle.thor_value.specs.declared.names.Ts.{Ts};

@@ -1,6 +1,6 @@
 //! The same of the calls that send a transaction, and of those that name no session.
 
-ghost use Rattle.law_cache_coherence.specs.Fitting.{Copies, NoneToFinish, SameCopies, WritesOnPages, with_writes};
+ghost use Rattle.law_cache_coherence.specs.Fitting.{Copies, NoneToFinish, SameCopies, with_writes};
 ghost use Rattle.law_cache_coherence.specs.Seen.{IsSeenRight, LinkIn};
 ghost use Rattle.client_state.specs.Links.{is_reply};
 ghost use Rattle.client_state.specs.declared.link.Link.{Link};
@@ -13,6 +13,7 @@ ghost use Rattle.session_outbox.specs.declared.answers.Verdict.{Verdict};
 ghost use Rattle.client_port.specs.Views.{View};
 ghost use Rattle.client_port.specs.Works.{AskWork, CommitWork, DecideWork, Does, FinishWork, ForgetWork, PrepareWork};
 ghost use Rattle.spec_trace.specs.Trace.{entries};
+ghost use Rattle.spec_trace.specs.Exact.{WritesOnPages};
 ghost use Rattle.std.specs.Prelude.{Bool, Err, Ok, Option, Result, Some, false, true, ℕ, ◌≡◌};
 ghost use Rattle.thor_value.specs.declared.names.Ts.{Ts};
 ghost use Rattle.repo_refusals.specs.declared.refusal.Refusal.{Refusal};

@@ -1,7 +1,7 @@
 //! That a client which fits with all its links fits so behind each call.
 
 ghost use Rattle.client_cache.specs.Copies.{Contents, kept};
-ghost use Rattle.law_cache_coherence.specs.Fitting.{Copies, NoneToFinish, SameCopies, WritesOnPages, with_writes};
+ghost use Rattle.law_cache_coherence.specs.Fitting.{Copies, NoneToFinish, SameCopies, with_writes};
 ghost use Rattle.law_cache_coherence.specs.Links.{Becomes, BringsContent};
 ghost use Rattle.law_cache_coherence.specs.Steps.{AllSeenRight, LinksFit};
 ghost use Rattle.client_state.specs.Calling.{Connects, CopiesRefused, Draws, Fetches, Grants};
@@ -22,6 +22,7 @@ ghost use Rattle.client_port.specs.Works.{AskWork, CommitWork, DecideWork, Does,
 ghost use Rattle.spec_trace.specs.Notices.{notice_of};
 ghost use Rattle.spec_trace.specs.Session.{place_of};
 ghost use Rattle.spec_trace.specs.Trace.{entries};
+ghost use Rattle.spec_trace.specs.Exact.{WritesOnPages};
 ghost use Rattle.std.specs.List.{slice_get};
 ghost use Rattle.std.specs.Prelude.{Bool, Err, List, None, Ok, Option, Result, Some, false, true, ℕ, ◌+◌, ◌<◌, ◌^◌, ◌≡◌, ◌≢◌};
 ghost use Rattle.thor_value.specs.declared.memory.NoMemory.{NoMemory};

@@ -22,7 +22,7 @@ use Rattle.session_outbox.specs.declared.answers.At.{At}
 use Rattle.paused_eval.proofs.Hands.{seen_split}
 use Rattle.client_port.specs.Growing.{Grew}
 use Rattle.client_port.specs.Views as views
-use Rattle.client_port.specs.Views.{Calm, Came, Halted, MayCome, Opened, View}
+use Rattle.client_port.specs.Views.{Calm, Halted, MayCome, Opened, View}
 use Rattle.client_port.specs.Works.{Answered, CommitWork, Does, MayHaveLeft, alone_entry}
 use Rattle.spec_trace.specs.Exact.{exact}
 use Rattle.spec_trace.specs.Gaps.{client_in}
@@ -99,7 +99,6 @@ not_calm old new r s q (refused.Stopped z) stopped d calm = by d.met d.answer
     by : (met : views.Unsettled) → Answered {X = ℕ} r (Err (refused.Stopped z)) met d.at (new.seen r) (new.unsettled r) (CommitWork s q (Err (refused.Stopped z)) (old.opened.base r) d.at (new.seen r) (new.unsettled r)) → ⊥
     by Calm w = subst (MayHaveLeft (alone_entry q) (verdict (old.opened.base r) d.at s q ≡ None)) calm w.1
     by (MayCome e) w = absurd w.0
-    by Came w = absurd w.0
     by Halted w = absurd w.0
 
 -- ---- a step

@@ -6,7 +6,7 @@ use Rattle.law_cache_coherence.proofs.Learned.{fewer_fit}
 use Rattle.law_cache_coherence.proofs.Lending.{changes_here, exact_now, numbered_now, sound_now}
 use Rattle.law_cache_coherence.proofs.OwnVerdicts.{others_told, own_told}
 use Rattle.law_cache_coherence.proofs.Whole.{all_inside, ask_all, as_it_is, at_other, committed_inside, connect_all, draw_all, fetch_inside, finish_all, forget_all, grant_inside, message_inside, none_all, refused_all}
-use Rattle.law_cache_coherence.specs.Fitting.{Copies, HoldsNone, Kept, NoneToFinish, with_writes}
+use Rattle.law_cache_coherence.specs.Fitting.{Copies, HoldsNone, NoneToFinish, with_writes}
 use Rattle.law_cache_coherence.specs.Links.{Becomes, BringsContent}
 use Rattle.law_cache_coherence.specs.Seen.{LinkAt, LinkIn}
 use Rattle.law_cache_coherence.specs.Steps.{AllSeenRight, LinksFit}
@@ -43,7 +43,7 @@ use Rattle.session_outbox.specs.declared.message.Message.{Message}
 use Rattle.paused_eval.specs.Copies.{AreAmong}
 use Rattle.client_port.specs.Acting.{Committed as has_committed, Connected as has_connected}
 use Rattle.client_port.specs.Views as views
-use Rattle.client_port.specs.Views.{Calm, Came, Halted, MayCome, Opened, View}
+use Rattle.client_port.specs.Views.{Calm, Halted, MayCome, Opened, View}
 use Rattle.client_port.specs.Works.{Answered, AskWork, CommitWork, DecideWork, Does, IsOutage, ReceiveWork, RefusedUnmarked, alone_entry}
 use Rattle.spec_trace.proofs.Taken.{after-mark}
 use Rattle.spec_trace.specs.Exact.{exact}
@@ -137,7 +137,6 @@ module _ (repo : ℕ) (old left : Contents) where
 -- a repository out of order has settled nothing
 out_of_order : (r s : ℕ) (k : Refusal) (b : Base) (met : views.Unsettled) (at after : List Item) (u : views.Unsettled) → IsOutage k → Answered {X = Option Message} r (Err k) met at after u (RefusedUnmarked b at s k after u) → u ≡ Calm → ⊥
 out_of_order r s k b (MayCome e) at after u outage a calm = let f : MayCome e ≡ Calm = sym a.2 ∙ calm in cc
-out_of_order r s k b Came at after u outage a calm = let f : Came ≡ Calm = sym a.2 ∙ calm in cc
 out_of_order r s k b Halted at after u outage a calm = let f : Halted ≡ Calm = sym a.2 ∙ calm in cc
 out_of_order r s (refused.Reason z) b Calm at after u outage a calm = absurd outage
 out_of_order r s (refused.Down n) b Calm at after u outage a calm = let f : Halted ≡ Calm = sym a.1.1 ∙ calm in cc
@@ -268,7 +267,6 @@ module _ (old new : View) (before after : Held) (committed later : Ts → Bool) 
             → IsSomeAnd (session (new.opened.base at.repo) (new.seen at.repo) at.session) (λ v. waits_for v ≡ [])
         nothing T Calm a = subst (λ (o : Opened). IsSomeAnd (session (o.base at.repo) (new.seen at.repo) at.session) (λ v. waits_for v ≡ [])) (sym d.called.same) (subst (λ (S : List Item). IsSomeAnd (session (old.opened.base at.repo) S at.session) (λ v. waits_for v ≡ [])) (sym a.2.0) a.0)
         nothing T (MayCome e) a = absurd a.0
-        nothing T Came a = absurd a.0
         nothing T Halted a = absurd a.0
 
     -- there is a place behind that of news
@@ -286,7 +284,6 @@ module _ (old new : View) (before after : Held) (committed later : Ts → Bool) 
             let most : length (entries d.at) < 2 ^ 64 = subst (λ (H : List Entry). length H < 2 ^ 64) same short in
             omega arith
         by (MayCome e) w = absurd w.0
-        by Came w = absurd w.0
         by Halted w = absurd w.0
 
     stops : (at : At) (k : Refusal) → Does {X = Option Message} old new at.repo (Err k) (ReceiveWork at.session (Err k)) → IsOutage k → StopsWaiting at.repo before after → LinksFit new later links copies → LinksFit new later after.links.items copies
@@ -332,7 +329,6 @@ module _ (old new : View) (before after : Held) (committed later : Ts → Bool) 
               → verdict base d.at s.at.session s.request ≡ None × (new.seen s.at.repo ≡ d.at ++ E (alone_entry s.request) ∷ [])
           by Calm w = (w.0, w.2.0)
           by (MayCome e) w = absurd w.0
-          by Came w = absurd w.0
           by Halted w = absurd w.0
 
       -- where the repository is there
@@ -350,9 +346,8 @@ module _ (old new : View) (before after : Held) (committed later : Ts → Bool) 
         commits_there made settled wrote elsewhere =
             let h : HasSession s.at (slice_get links s.at.repo) = has_session s.at (slice_get links s.at.repo) its in
             let up : s.request.upto ≡ h.upto = acknowledges s of h.upto h.waits (h.is ∙ ap (λ (n : ℕ). Some (Joined n h.upto h.waits)) (sym of.session)) in
-            let k : Kept = record { session = s.at.session; upto = h.upto; awaits = is_reply h.waits; copies = copies } in
             committed_inside old new s.at h.upto h.waits links copies later right h.is fit made elsewhere s.request place d up (λ inside. quiet d.called.same idle_all s.at.repo (Joined s.at.session h.upto h.waits) inside h.is) (subst (λ (o : Opened). s.at.repo < new.opened.repos → new.unsettled s.at.repo ≡ Calm → lives (session (o.base s.at.repo) (new.seen s.at.repo) s.at.session) ≡ true → NoneToFinish (o.base s.at.repo) (entries d.at) s.at.session later) d.called.same settled)
-            (λ fits tells. writes_on_pages base d.at s.request exact_behind sound_behind old.opened.client later k fits accepted.0 of.session held tells) (λ tells x here. wrote x (here ∙ number))
+            (λ fits tells. writes_on_pages base d.at s.request exact_behind sound_behind s.at.session of.session) (λ tells x here. wrote x (here ∙ number))
 
       -- elsewhere nothing is asked
       commits : (made : Copies) → SettledOwed new s.at.repo d.at s.at.session later → ((x : Oref) → x.repo ≡ s.at.repo → made x ≡ with_writes s.request copies x) → ((x : Oref) → x.repo ≢ s.at.repo → made x ≡ copies x) → LinksFit new later links made

@@ -63,7 +63,6 @@ grant_page s S pages (M (the.Granted n k)) page g =
     let same : k ≡ page = eqb-true k page both.1 in
     ap (λ (t : Bool). has (cond t (cache pages k S.length) pages) page) here ∙ ap (λ (p : ℕ). has (cache pages p S.length) page) same ∙ has_cached pages page S.length
 grant_page s S pages (E e) page g = cc
-grant_page s S pages (M (the.Entry k)) page g = cc
 grant_page s S pages (M (the.Connected n c)) page g = cc
 grant_page s S pages (M (the.Fetched n k upto)) page g = cc
 grant_page s S pages (M (the.Took n k)) page g = cc
@@ -77,7 +76,6 @@ module _ (b : Base) where
       let v = some_and (session b T n) (λ v. (session_lives v ≡ true) × ((k ≡ next_page b T) × (k < most_pages))) x in
       subst (λ (m : ℕ). m ≤ last_session T) (eqb-true n s (and_parts (nat_eq n s) (nat_eq k page) g).0) (known b T n v.0 v.1)
   grant_session T (E e) s page x g = cc
-  grant_session T (M (the.Entry k)) s page x g = cc
   grant_session T (M (the.Connected n c)) s page x g = cc
   grant_session T (M (the.Fetched n k upto)) s page x g = cc
   grant_session T (M (the.Took n k)) s page x g = cc
@@ -155,7 +153,6 @@ module _ (b : Base) where
       omega arith
   new_below T (M (the.Fetched n page upto)) s pages m is news = absurd (answer_place (nat_eq n s) (Page page (state b (entries T)).length) m refl is news)
   new_below T (M (the.Granted n page)) s pages m is news = absurd (answer_place (nat_eq n s) (Grant page (state b (entries T)).length) m refl is news)
-  new_below T (M (the.Entry k)) s pages m is news = cc
   new_below T (M (the.Connected n c)) s pages m is news = cc
   new_below T (M (the.Took n k)) s pages m is news = cc
   new_below T (M (the.Drew n t)) s pages m is news = cc

@@ -23,7 +23,7 @@ use Rattle.session_outbox.specs.declared.message.Message.{Message}
 use Rattle.client_port.specs.Acting.{Acts}
 use Rattle.client_port.specs.Growing.{Grew}
 use Rattle.client_port.specs.Views as views
-use Rattle.client_port.specs.Views.{Calm, Came, Halted, MayCome, Opened, View}
+use Rattle.client_port.specs.Views.{Calm, Halted, MayCome, Opened, View}
 use Rattle.client_port.specs.Works.{Answered, ConnectWork, Does}
 use Rattle.base_reasons.specs.declared.reason.Reason.TheVariants as reasons
 use Rattle.spec_trace.proofs.Exactness.{sessions-rise}
@@ -261,7 +261,6 @@ given_once old new before r s given gone (IsGiven w d is) = by d.met d.answer
         let number = a.0.session in
         absurd (omega (arith, number, is))
     by (MayCome i) a = absurd a.0
-    by Came a = absurd a.0
     by Halted a = absurd a.0
 
 -- ---- a run

@@ -38,14 +38,15 @@ use Rattle.session_outbox.specs.declared.message.Message.TheVariants as messages
 use Rattle.session_outbox.specs.declared.message.Message.{Message}
 use Rattle.paused_eval.specs.Copies.{AreAmong, last_of}
 use Rattle.client_port.specs.Growing.{Called, Grew}
-use Rattle.client_port.specs.Views.{Calm, Came, MayCome}
+use Rattle.client_port.specs.Views.{Calm, Halted, MayCome}
 use Rattle.client_port.specs.Works.{AskWork, CommitWork, ConnectWork, Does, DrawWork, GrantWork, ReceiveWork}
-use Rattle.spec_trace.proofs.Exactness.{exact-beginning}
+use Rattle.spec_trace.proofs.Exactness.{exact-beginning, exact-end}
 use Rattle.spec_trace.proofs.Traces.{entries-append}
 use Rattle.spec_trace.specs.Calls.{welcome}
-use Rattle.spec_trace.specs.Exact.{exact}
+use Rattle.spec_trace.specs.Exact.{ItemIsExact, exact}
 use Rattle.spec_trace.specs.Trace.{E, Item, M, entries}
 use Rattle.spec_trace.specs.declared.mark.Mark.TheVariants as the
+use Rattle.spec_trace.proofs.WrittenPages.{one_granted, one_paged}
 use Rattle.std.proofs.Common.{rules, Bool, List, [], ap, arith, cond, drop, false, inl, inr, refl, subst, suc, sym, take, true, zero, ◌++◌, ◌<◌, ◌^◌, ◌∙◌, ◌∷◌, ◌≡◌, ◌≢◌, ℕ}
 use Rattle.std.proofs.lemmas.Bool.{cases_eq, eqb-true}
 use Rattle.std.proofs.lemmas.List.{append-nil}
@@ -65,8 +66,29 @@ use Rattle.repo_refusals.specs.declared.refusal.Refusal.TheVariants as refused
 
 -- ---- what is seen
 
+has_page : exact only (take 5 whole)
+has_page = search rules
+
+second_page : 1 < 2
+second_page = omega arith
+
+creates : ItemIsExact only (take 5 whole) (E (One made))
+creates = record {
+  accepted = refl;
+  client = refl;
+  upto = omega arith;
+  granted = one_granted only (take 5 whole) made z (box 7) refl second_page;
+  paged = one_paged only (take 5 whole) made z (box 7) refl refl;
+}
+
+exact_made : exact only (take 6 whole)
+exact_made = exact-end only (take 5 whole) (E (One made)) has_page creates
+
+connects : ItemIsExact only (take 6 whole) (M (the.Connected 2 2))
+connects = search rules
+
 exact_whole : exact only whole
-exact_whole = search rules
+exact_whole = exact-end only (take 6 whole) (M (the.Connected 2 2)) exact_made connects
 
 sound_whole : sound only (entries whole)
 sound_whole = (decides_sound only (entries whole)).0 refl
@@ -108,7 +130,7 @@ called T S = record {
 
 -- the trace behind the restart
 exact_restarted : exact only restarted
-exact_restarted = search rules
+exact_restarted = exact-end only (take 6 whole) (E (Life 2)) exact_made tt
 
 sound_restarted : sound only (entries restarted)
 sound_restarted = (decides_sound only (entries restarted)).0 refl
@@ -305,13 +327,13 @@ module _ (first joined drawn waits taken last : Held) (h : HoldsOnTheWay first j
   told = AskedOwn 0 (at 1) verdict does (h.commits.client ∙ sym h.takes.client, h.commits.links ∙ sym h.takes.links, λ x. inl (h.commits.copies_are x ∙ sym (written_seen x)))
     where
       does : Does {X = answer.Asked} (seeing restarted) (seeing restarted) 0 (Ok (answers.Settled verdict)) (AskWork (at 1) (Ok (answers.Settled verdict)))
-      does = record { at = restarted; met = Calm; called = called restarted restarted; answer = ((refl, refl), (refl, refl)) }
+      does = record { at = restarted; met = Calm; called = called restarted restarted; answer = ((refl, λ later. refl), (refl, refl)) }
 
   comes : (n : ℕ) → n < 1 → Grew only 1 (cond (nat_eq n 0) (MayCome (One made)) Calm) (cond (nat_eq n 0) (take 5 whole) []) Calm (cond (nat_eq n 0) restarted [])
   comes n low = by (nat_eq n 0)
     where
       by : (t : Bool) → Grew only 1 (cond t (MayCome (One made)) Calm) (cond t (take 5 whole) []) Calm (cond t restarted [])
-      by true = record { gap = E (One made) ∷ E (Life 2) ∷ []; gains = (Came, (refl, refl), (Calm, refl, tt)); ends = refl }
+      by true = record { gap = E (One made) ∷ E (Life 2) ∷ []; gains = (Halted, inl (refl, refl), (Calm, refl, tt)); ends = refl }
       by false = still only []
 
   pub run_stopped : Leads (position_after 5 taken) (stopped taken ∷ behind_it taken asking ∷ []) (behind_it last NonePending)

@@ -37,7 +37,7 @@ use Rattle.session_outbox.specs.declared.answers.Verdict.{Verdict}
 use Rattle.session_outbox.specs.declared.message.Message.TheVariants.{Grant, Invalid, Page, Upgrade}
 use Rattle.session_outbox.specs.declared.message.Message.{Message}
 use Rattle.client_port.specs.Views as views
-use Rattle.client_port.specs.Views.{Calm, Came, Halted, MayCome, Opened, View}
+use Rattle.client_port.specs.Views.{Calm, Halted, MayCome, Opened, View}
 use Rattle.client_port.specs.Works.{Answered, AskWork, CommitWork, Does, PrepareWork, alone_entry}
 use Rattle.spec_trace.proofs.Traces.{entries-append}
 use Rattle.spec_trace.specs.Trace.{E, Item, entries}
@@ -71,7 +71,6 @@ commit_front old new r s q place d = by d.met d.answer
     by : (met : views.Unsettled) → Answered {X = ℕ} r (Ok place) met d.at (new.seen r) (new.unsettled r) (CommitWork s q (Ok place) (old.opened.base r) d.at (new.seen r) (new.unsettled r)) → Front d.at (new.seen r)
     by Calm w = (E (alone_entry q) ∷ [], w.2.0)
     by (MayCome e) w = absurd w.0
-    by Came w = absurd w.0
     by Halted w = absurd w.0
 
 module _ (old new : View) (same : new.opened ≡ old.opened) (one : HasOneRepository old) (then_one : HasOneRepository new) (grows : Front (old.seen 0) (new.seen 0)) where
@@ -151,7 +150,6 @@ module _ (old new : View) (same : new.opened ≡ old.opened) (one : HasOneReposi
         by : (met : views.Unsettled) → Answered {X = ℕ} s.at.repo (Ok place) met d.at (new.seen s.at.repo) (new.unsettled s.at.repo) (PrepareWork s.at.session s.request (Ok place) (old.opened.base s.at.repo) d.at (new.seen s.at.repo) (new.unsettled s.at.repo)) → ⊥
         by Calm w = prepares w.2.0 (first_or_not s.at.repo)
         by (MayCome e) w = absurd w.0
-        by Came w = absurd w.0
         by Halted w = absurd w.0
 
     prepares_none : (moves : Moves old new before after) → NonePrepared old new before after moves

@@ -1,29 +1,25 @@
 -- What a request that commits has written: it lies on pages of its session, and what a transform makes is what its request writes.
 use Rattle.client_cache.specs.Pages.{page_of, same_name, same_page}
 use Rattle.law_cache_coherence.proofs.Linked.{named_at}
-use Rattle.law_cache_coherence.specs.Fitting.{Copies, FitsAt, Kept, WritesOnPages, with_writes}
+use Rattle.law_cache_coherence.specs.Fitting.{Copies, with_writes}
 use Rattle.log_entries.specs.declared.entry.Entry.TheVariants.{One, Upgraded}
 use Rattle.log_entries.specs.declared.request.Request.{Request}
-use Rattle.law_client_steps.proofs.Granting.{has_granted}
 use Rattle.spec_history.proofs.Growth.{owed-end}
-use Rattle.spec_history.proofs.Listed.{is_some_and}
 use Rattle.spec_history.proofs.Places.{admitted}
 use Rattle.spec_history.specs.History.{Base, state}
 use Rattle.spec_history.specs.Laws.{Asks}
-use Rattle.spec_history.specs.Requests.{has_created, has_written, is_upgrade, written}
+use Rattle.spec_history.specs.Requests.{has_written, is_upgrade, written}
 use Rattle.spec_history.specs.Sound.{Admits, sound}
-use Rattle.client_port.specs.Views.{Calm}
 use Rattle.client_port.specs.Works.{alone_entry}
-use Rattle.spec_trace.proofs.Exactness.{exact-beginning, exact-owed}
+use Rattle.spec_trace.proofs.Exactness.{exact-owed}
 use Rattle.spec_trace.proofs.Traces.{entries-append}
 use Rattle.base_reasons.specs.declared.reason.Reason.TheVariants as reasons
-use Rattle.spec_trace.specs.Calls.{was_granted}
-use Rattle.spec_trace.specs.Exact.{ComesFromSession, ItemIsExact, exact}
+use Rattle.spec_trace.specs.Exact.{ComesFromSession, ItemIsExact, WritesOnPages, exact}
 use Rattle.spec_trace.specs.Session.{Session, session, session_lives}
 use Rattle.spec_trace.specs.Trace.{E, Item, entries}
-use Rattle.spec_trace.specs.Verdict.{stale, verdict, verdict_by}
+use Rattle.spec_trace.specs.Verdict.{stale, verdict_by}
 use Rattle.std.proofs.Common.{Bool, List, [], ap, cond, false, refl, subst, sym, true, ◌++◌, ◌∙◌, ◌∷◌, ◌≡◌, ◌≢◌, ℕ}
-use Rattle.std.specs.Option.{is_some, option_or}
+use Rattle.std.specs.Option.{option_or}
 use Rattle.std.proofs.lemmas.Bool.{and_parts, eqb-true}
 use Rattle.std.specs.Prelude.{None, Option, Some, nat_eq}
 use Rattle.thor_value.proofs.FiniteMap.{get-insert}
@@ -31,7 +27,6 @@ use Rattle.thor_value.proofs.NameOrders.{oref_total}
 use Rattle.thor_value.specs.FiniteMap.{empty, get, has, overwrite}
 use Rattle.thor_value.specs.Names.{oref_cmp}
 use Rattle.thor_value.specs.declared.names.Oref.{Oref}
-use Rattle.thor_value.specs.declared.names.Ts.{Ts}
 use Rattle.thor_value.specs.declared.values.Obj.{Obj}
 use Rattle.repo_refusals.specs.Refusals.{first_refusal, full}
 use Rattle.repo_refusals.specs.Window.{window}
@@ -62,11 +57,7 @@ accepted_lives b T s q v accepted = by (session_lives v) accepted
     by true a = refl
     by false a = cc
 
--- ---- names and pages
-
-some_there : {X : Type 0} (o : Option X) → is_some o ≡ true → (x : X) × (o ≡ Some x)
-some_there None e = cc
-some_there (Some x) e = (x, refl)
+-- ---- what a request writes
 
 module _ (b : Base) (T : List Item) (q : Request) (kept_so : exact b (T ++ E (alone_entry q) ∷ [])) (owed : sound b (entries (T ++ E (alone_entry q) ∷ []))) where
   admits : Admits b (state b (entries T)) q
@@ -76,22 +67,9 @@ module _ (b : Base) (T : List Item) (q : Request) (kept_so : exact b (T ++ E (al
   pub writes_here : (x : Oref) → has_written q x ≡ true → x.repo ≡ b.repo
   writes_here x wrote = admits.vouched.here x (admits.vouched.within x wrote)
 
-  -- what it writes lies on pages of the session, where the client has copies of what it hasn't created
-  pub writes_on_pages : (c : ℕ) (committed : Ts → Bool) (k : Kept) → FitsAt c b Calm T committed k → verdict b T k.session q ≡ None → q.session ≡ k.session
-      → ((x : Oref) → has_written q x ≡ true → has_created q x ≡ false → is_some (k.copies x) ≡ true) → b.tells ≡ true → WritesOnPages b T k.session q
-  writes_on_pages c committed k h accepted own held tells x wrote = is_some_and (session b T k.session) (λ v. has v.pages x.page ≡ true) h.v h.there (by (has_created q x) refl)
-    where
-      live : session_lives h.v ≡ true
-      live = accepted_lives b T k.session q h.v (ap (verdict_by b (entries T) k.session q) (sym h.there) ∙ accepted)
-
-      from : ComesFromSession b T q
-      from = from_alone b T q (exact-owed b T (E (alone_entry q)) kept_so)
-
-      by : (t : Bool) → has_created q x ≡ t → has h.v.pages x.page ≡ true
-      by true made = has_granted b k.session x.page T (exact-beginning b T (E (alone_entry q) ∷ []) kept_so) (subst (λ (n : ℕ). was_granted T n x.page ≡ true) own (from.granted x made wrote)) h.v h.there live
-      by false old =
-          let o = some_there (k.copies x) (held x wrote old) in
-          (((h.keeps refl live).copies tells).current x o.0 (writes_here x wrote) o.1).1
+  -- what it writes lies on pages of the session
+  pub writes_on_pages : (s : ℕ) → q.session ≡ s → WritesOnPages b T s q
+  writes_on_pages s own = subst (λ (n : ℕ). WritesOnPages b T n q) own ((from_alone b T q (exact-owed b T (E (alone_entry q)) kept_so)).paged)
 
 -- ---- what a transform writes
 

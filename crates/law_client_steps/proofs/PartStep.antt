@@ -53,7 +53,7 @@ use Rattle.session_outbox.specs.declared.message.Message.TheVariants.{Grant, Inv
 use Rattle.session_outbox.specs.declared.message.Message.{Message}
 use Rattle.client_port.specs.Growing.{Grew}
 use Rattle.client_port.specs.Views as views
-use Rattle.client_port.specs.Views.{Calm, Came, Halted, MayCome, Opened, View}
+use Rattle.client_port.specs.Views.{Calm, Halted, MayCome, Opened, View}
 use Rattle.client_port.specs.Works.{Answered, AskWork, CommitWork, Does, alone_entry}
 use Rattle.law_client_views.specs.Conditions.{seen_histories}
 use Rattle.spec_trace.proofs.Exactness.{exact-beginning}
@@ -326,7 +326,6 @@ module _ (old new : View) (before after : Held) (one : HasRepositories old) (the
           uncommitted old new same_opened one then_one grown doomed before.links.items quiet t (coordinated old one s.at.repo (was s.at.repo inside) t before_call.2.o before_call.2.there)
           (q.doomed before_call.0 before_call.1 t before_call.2.o before_call.2.there before_call.2.open' before_call.2.own refl)
       by t o is open' mine (MayCome i) e w = absurd w.0
-      by t o is open' mine Came e w = absurd w.0
       by t o is open' mine Halted e w = absurd w.0
 
   sends : (a : SendsNothing old new before after) → SendsOwed old new before after behind a

@@ -40,7 +40,7 @@ prepared_so s o open' mine = rw (mine, open') (itself s)
     itself n = grind (arith, nat_tests)
 
 -- what runs no more and is handed on needn't be counted
-changes_running : (port : View) (r s : ℕ) (running next : Ts → Bool) → ((t : Ts) → running t ≡ true → (next t ≡ true) ⊎ (is_prepared_by s (known_by (port.opened.base r) (entries (port.seen r)) t) ≡ false)) → IsQuiet port r s running → IsQuiet port r s next
+changes_running : (port : View) (r s : ℕ) (running next : Ts → Bool) → (port.unsettled r ≡ Calm → lives (session (port.opened.base r) (port.seen r) s) ≡ true → (t : Ts) → running t ≡ true → (next t ≡ true) ⊎ (is_prepared_by s (known_by (port.opened.base r) (entries (port.seen r)) t) ≡ false)) → IsQuiet port r s running → IsQuiet port r s next
 changes_running port r s running next goes q = record {
   own = q.own;
   doomed = λ calm live t o there open' mine none. by calm live t o there open' mine none (running t) refl;
@@ -49,13 +49,13 @@ changes_running port r s running next goes q = record {
     by : port.unsettled r ≡ Calm → lives (session (port.opened.base r) (port.seen r) s) ≡ true → (t : Ts) (o : Known) → known_by (port.opened.base r) (entries (port.seen r)) t ≡ Some o → o.fate ≡ Open → o.request.session ≡ s → next t ≡ false
         → (x : Bool) → running t ≡ x → IsDoomed port t
     by calm live t o there open' mine none false e = q.doomed calm live t o there open' mine e
-    by calm live t o there open' mine none true e = elim (goes t e) [
+    by calm live t o there open' mine none true e = elim (goes calm live t e) [
       | inl still ↦ let f : false ≡ true = sym none ∙ still in cc
       | inr handed ↦ let f : false ≡ true = sym handed ∙ ap (is_prepared_by s) there ∙ prepared_so s o open' mine in cc
     ]
 
 pub changes_all : (port : View) (links : List Link) (running next : Ts → Bool)
-    → ((r s : ℕ) → r < port.opened.repos → is_session_of s (slice_get links r) ≡ true → (t : Ts) → running t ≡ true → (next t ≡ true) ⊎ (is_prepared_by s (known_by (port.opened.base r) (entries (port.seen r)) t) ≡ false))
+    → ((r s : ℕ) → r < port.opened.repos → is_session_of s (slice_get links r) ≡ true → port.unsettled r ≡ Calm → lives (session (port.opened.base r) (port.seen r) s) ≡ true → (t : Ts) → running t ≡ true → (next t ≡ true) ⊎ (is_prepared_by s (known_by (port.opened.base r) (entries (port.seen r)) t) ≡ false))
     → AreQuiet port links running → AreQuiet port links next
 changes_all port links running next goes q = record { each = λ r s within its. changes_running port r s running next (goes r s within its) (q.each r s within its) }
 

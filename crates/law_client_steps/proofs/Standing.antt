@@ -23,7 +23,7 @@ use Rattle.spec_history.specs.Requests.{has_read, is_upgrade}
 use Rattle.spec_history.specs.Sound.{sound}
 use Rattle.session_outbox.specs.declared.answers.At.{At}
 use Rattle.client_port.specs.Growing.{Called}
-use Rattle.client_port.specs.Views.{Calm, Came, Halted, MayCome, Opened, Unsettled, View}
+use Rattle.client_port.specs.Views.{Calm, Halted, MayCome, Opened, Unsettled, View}
 use Rattle.client_port.specs.Works.{Answered, CommitWork, Does, PrepareWork, alone_entry}
 use Rattle.spec_trace.proofs.Sessions.{session-end}
 use Rattle.spec_trace.proofs.Traces.{entries-append}
@@ -84,7 +84,6 @@ module _ (old new : View) (at : At) (q : Request) (held : Held) (committed : Ts 
       by : (m : Unsettled) → d.met ≡ m → Answered {X = ℕ} at.repo (Ok place) m d.at (new.seen at.repo) (new.unsettled at.repo) (CommitWork at.session q (Ok place) b d.at (new.seen at.repo) (new.unsettled at.repo)) → Stands d.at
       by Calm e w = accepted d.at d.met d.called front e w.2.1 (still_there d.at (alone_entry q) (no_life q) w.2.0 w.0) w.0 once
       by (MayCome i) e w = absurd w.0
-      by Came e w = absurd w.0
       by Halted e w = absurd w.0
 
   prepares : (place : ℕ) (d : Does {X = ℕ} old new at.repo (Ok place) (PrepareWork at.session q (Ok place))) → known_by b (entries d.at) q.tx ≡ None → Stands d.at
@@ -96,7 +95,6 @@ module _ (old new : View) (at : At) (q : Request) (held : Held) (committed : Ts 
       by : (m : Unsettled) → d.met ≡ m → Answered {X = ℕ} at.repo (Ok place) m d.at (new.seen at.repo) (new.unsettled at.repo) (PrepareWork at.session q (Ok place) b d.at (new.seen at.repo) (new.unsettled at.repo)) → Stands d.at
       by Calm e w = accepted d.at d.met d.called front e w.2.1 (still_there d.at (Prepared q) refl w.2.0 w.0) w.0 once
       by (MayCome i) e w = absurd w.0
-      by Came e w = absurd w.0
       by Halted e w = absurd w.0
 
 pub committed_reads : (old new : View) (at : At) (q : Request) (place : ℕ) (held : Held) (committed : Ts → Bool) (d : Does {X = ℕ} old new at.repo (Ok place) (CommitWork at.session q (Ok place))) → IsSeenRight new at.repo committed → at.repo < old.opened.repos

@@ -10,7 +10,7 @@ use Rattle.law_client_views.proofs.Judged.{verdict_marks}
 use Rattle.law_client_views.specs.Plain as plain
 use Rattle.law_client_views.specs.Plain.{Stepped, left_by, message_of, next_stamp, received, received_by, refuse, requested, answer_of_asked}
 use Rattle.client_port.specs.Views.{Calm}
-use Rattle.client_port.specs.Works.{AskWork, Answers, CommitWork, ConnectWork, DecideWork, Decides, DrawWork, FetchWork, FinishWork, ForgetWork, GrantWork, IsMarked, PrepareWork, ReceiveWork, RequestRefused, alone_entry, commits_by, is_prepared_by}
+use Rattle.client_port.specs.Works.{Answers, AskWork, CommitWork, ConnectWork, DecideWork, Decides, DrawWork, FetchWork, FinishWork, ForgetWork, GrantWork, IsAbout, IsMarked, PrepareWork, ReceiveWork, RequestRefused, alone_entry, commits_by, is_prepared_by}
 use Rattle.spec_trace.specs.Notices.{lives, notice_of}
 use Rattle.spec_trace.specs.Calls.{Asked, Settled, Undecided, asked, drawn_time, last_drawn, next_page, next_session, welcome}
 use Rattle.spec_trace.specs.Exact.{IsDrawn, IsGoneIn, most_pages}
@@ -180,7 +180,7 @@ decides b T s t c = by (lives (session b T s)) refl (is_prepared_by s (known_by 
     decided = (refl, (refl, refl))
 
     stands : Decides false t c (record { tx = t; commit = commits_by b T t }) b T T Calm
-    stands = (refl, (refl, refl))
+    stands = (λ later. refl, (refl, refl))
 
     by : (l : Bool) → lives (session b T s) ≡ l → (u : Bool) → is_prepared_by s (known_by b (entries T) t) ≡ u
         → MeetsDecide b T s t c (cond l (cond u (Ok (record { tx = t; commit = c }), T ++ E (Decided t c) ∷ []) (Ok (record { tx = t; commit = commits_by b T t }), T)) (Err (refused.Reason (reasons.Gone s)), T))
@@ -203,8 +203,12 @@ pub forgets : (b : Base) (T : List Item) (t : Ts) → ForgetWork t (plain.forget
 forgets b T t = (refl, refl)
 
 pub asks : (b : Base) (T : List Item) (t : Ts) → AskWork t (plain.ask b T t).0 b T (plain.ask b T t).1 Calm
-asks b T t = (by (asked b T t), (refl, refl))
+asks b T t = ((about (asked b T t), λ later. by (asked b T t)), (refl, refl))
   where
-    by : (a : Asked) → Answers t (answer_of_asked t a) a
+    about : (a : Asked) → IsAbout t (answer_of_asked t a)
+    about Undecided = tt
+    about (Settled c) = refl
+
+    by : (a : Asked) → Answers (answer_of_asked t a) a
     by Undecided = refl
-    by (Settled c) = (refl, refl)
+    by (Settled c) = refl

@@ -10,14 +10,14 @@ use Rattle.law_client_views.proofs.Meeting.{commits}
 use Rattle.client_port.specs.Growing.{Called, Grew}
 use Rattle.law_client_views.specs.Outages.{next_life, restarted, restarted_with, with_seen}
 use Rattle.law_client_views.specs.Plain as plain
-use Rattle.client_port.specs.Views.{Calm, Came, Halted, MayCome, Unsettled, View}
+use Rattle.client_port.specs.Views.{Calm, Halted, MayCome, Unsettled, View}
 use Rattle.client_port.specs.Works.{Answered, CommitWork, DecideWork, Does, IsDown, IsOutage, MayHaveLeft, OutageWith, RefusedMarked, RefusedUnmarked, RequestRefused}
 use Rattle.spec_trace.proofs.Exactness.{exact-end}
 use Rattle.spec_trace.proofs.Traces.{entries-append}
 use Rattle.spec_trace.specs.Exact.{EntryIsExact, exact}
 use Rattle.spec_trace.specs.Gaps.{maker}
 use Rattle.spec_trace.specs.Trace.{E, Item, entries}
-use Rattle.std.proofs.Common.{Bool, List, [], ap, append_assoc, arith, cond, false, refl, subst, sym, true, ◌++◌, ◌∷◌, ◌≡◌, ◌≢◌, ℕ}
+use Rattle.std.proofs.Common.{Bool, List, [], ap, append_assoc, arith, cond, false, inl, refl, subst, sym, true, ℕ, ◌++◌, ◌∷◌, ◌≡◌, ◌≢◌}
 use Rattle.std.proofs.lemmas.Bool.Decides.{nat_tests}
 use Rattle.std.proofs.lemmas.Bool.{eqb-true}
 use Rattle.std.specs.Option.{is_none}
@@ -88,11 +88,11 @@ module _ (b : Base) (c : ℕ) (T : List Item) where
 
       by : (e : Entry) → is_life e ≡ false → Grew b c (MayCome e) T Calm (restarted_with b T e)
       by (Life n) h = cc
-      by (One q) h = record { gap = E (One q) ∷ next_life b (T ++ E (One q) ∷ []) ∷ []; gains = (Came, (refl, refl), (Calm, refl, tt)); ends = behind (One q) }
-      by (Prepared q) h = record { gap = E (Prepared q) ∷ next_life b (T ++ E (Prepared q) ∷ []) ∷ []; gains = (Came, (refl, refl), (Calm, refl, tt)); ends = behind (Prepared q) }
-      by (Decided t k) h = record { gap = E (Decided t k) ∷ next_life b (T ++ E (Decided t k) ∷ []) ∷ []; gains = (Came, (refl, refl), (Calm, refl, tt)); ends = behind (Decided t k) }
-      by (Finished t k) h = record { gap = E (Finished t k) ∷ next_life b (T ++ E (Finished t k) ∷ []) ∷ []; gains = (Came, (refl, refl), (Calm, refl, tt)); ends = behind (Finished t k) }
-      by (Upgraded q) h = record { gap = E (Upgraded q) ∷ next_life b (T ++ E (Upgraded q) ∷ []) ∷ []; gains = (Came, (refl, refl), (Calm, refl, tt)); ends = behind (Upgraded q) }
+      by (One q) h = record { gap = E (One q) ∷ next_life b (T ++ E (One q) ∷ []) ∷ []; gains = (Halted, inl (refl, refl), (Calm, refl, tt)); ends = behind (One q) }
+      by (Prepared q) h = record { gap = E (Prepared q) ∷ next_life b (T ++ E (Prepared q) ∷ []) ∷ []; gains = (Halted, inl (refl, refl), (Calm, refl, tt)); ends = behind (Prepared q) }
+      by (Decided t k) h = record { gap = E (Decided t k) ∷ next_life b (T ++ E (Decided t k) ∷ []) ∷ []; gains = (Halted, inl (refl, refl), (Calm, refl, tt)); ends = behind (Decided t k) }
+      by (Finished t k) h = record { gap = E (Finished t k) ∷ next_life b (T ++ E (Finished t k) ∷ []) ∷ []; gains = (Halted, inl (refl, refl), (Calm, refl, tt)); ends = behind (Finished t k) }
+      by (Upgraded q) h = record { gap = E (Upgraded q) ∷ next_life b (T ++ E (Upgraded q) ∷ []) ∷ []; gains = (Halted, inl (refl, refl), (Calm, refl, tt)); ends = behind (Upgraded q) }
 
   pub others_life : Grew b c Calm T Calm (restarted b T)
   others_life = record { gap = next_life b T ∷ []; gains = (Calm, (nobody, refl), tt); ends = refl }
@@ -139,7 +139,6 @@ module _ (old : View) (r : ℕ) where
     down_answers : (u : Unsettled) → u ≢ Calm → IsDown r result → Answered r result u (old.seen r) (old.seen r) u (work (old.opened.base r) (old.seen r) (old.seen r) u)
     down_answers Calm other d = absurd (other refl)
     down_answers (MayCome e) other d = (d, refl, refl)
-    down_answers Came other d = (d, refl, refl)
     down_answers Halted other d = (d, refl, refl)
 
     pub does_down : old.unsettled r ≢ Calm → IsDown r result → Does old old r result work

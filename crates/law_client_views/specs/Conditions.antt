@@ -4,14 +4,14 @@ use Rattle.law_board_calls.specs.Justified.{KindIsJustified}
 use Rattle.law_board_calls.specs.declared.calls.CallKind.{CallKind}
 use Rattle.log_entries.specs.declared.request.Request.{Request}
 use Rattle.spec_history.specs.History.{state}
-use Rattle.spec_history.specs.Requests.{has_created, has_written}
+use Rattle.spec_history.specs.Requests.{has_written}
 use Rattle.spec_history.specs.Sound.{Vouches, sound}
 use Rattle.client_port.specs.Views.{View}
-use Rattle.spec_trace.specs.Calls.{was_granted}
-use Rattle.spec_trace.specs.Exact.{exact}
+use Rattle.spec_trace.specs.Calls.{next_page}
+use Rattle.spec_trace.specs.Exact.{WritesOnPages, exact}
 use Rattle.spec_trace.specs.Gaps.{client_in}
 use Rattle.spec_trace.specs.Trace.{entries}
-use Rattle.std.specs.Prelude.{IsTrue, Some, length, ℕ, ◌<◌, ◌≡◌, ◌≤◌}
+use Rattle.std.specs.Prelude.{Some, length, true, ℕ, ◌<◌, ◌≡◌, ◌≤◌}
 use Rattle.thor_value.specs.declared.names.Oref.{Oref}
 
 -- the histories that are seen
@@ -43,12 +43,13 @@ pub record MayCall (port : View) (r : ℕ) (kind : CallKind) : Type 0 where
 abbrev pub MayFetch : View → ℕ → ℕ → Type 0
 MayFetch port r upto = upto ≤ length (entries (port.seen r))
 
--- Its sender vouches for the request q of the session s, which is its client's, and its client knows no place that
--- isn't there. What it created stands on pages that were granted to the session.
+-- The request q of the session s, which is its client's, owes nothing by itself, and its client knows no place that
+-- isn't there. What it writes stands on pages that were granted, and that the session has.
 pub record MaySend (port : View) (r s : ℕ) (q : Request) : Type 0 where
   pub session : q.session ≡ s
   pub own : IsOwnSession port r s
   pub upto : q.upto ≤ length (entries (port.seen r))
   pub vouched : Vouches (port.opened.base r) (state (port.opened.base r) (entries (port.seen r))) q
   pub client : q.who.client ≡ port.opened.client
-  pub granted : (x : Oref) → IsTrue (has_created q x) → IsTrue (has_written q x) → IsTrue (was_granted (port.seen r) s x.page)
+  pub granted : (x : Oref) → has_written q x ≡ true → x.page < next_page (port.opened.base r) (port.seen r)
+  pub paged : WritesOnPages (port.opened.base r) (port.seen r) s q

@@ -1,3 +1,4 @@
 pub mod Conditions
 pub mod Outages
 pub mod Plain
+pub mod Standing

@@ -4,7 +4,7 @@ ghost use Rattle.log_entries.specs.declared.entry.Entry.TheVariants.{Decided};
 ghost use Rattle.spec_history.specs.Examples.{at, home, x};
 ghost use Rattle.session_outbox.specs.declared.answers.Asked.TheVariants as answers;
 ghost use Rattle.session_outbox.specs.declared.message.Message.TheVariants as messages;
-ghost use Rattle.client_port.specs.Views.{Calm, Came, Halted, MayCome};
+ghost use Rattle.client_port.specs.Views.{Calm, Halted, MayCome};
 ghost use Rattle.client_port.specs.Works.{Answered, AskWork, CommitWork, ConnectWork, DecideWork, FetchWork, ForgetWork, ReceiveWork};
 ghost use Rattle.base_reasons.specs.declared.reason.Reason.TheVariants as reasons;
 ghost use Rattle.spec_trace.specs.ExactExamples.{deciding, forgetting, refusing};
@@ -24,20 +24,20 @@ pub fn what_calls_do()
     ensures takes { ReceiveWork 2 (Ok (Some (messages.Invalid (x ∷ []) 2))) home written_since invalid_taken Calm }
     ensures none_waits { ReceiveWork 2 (Ok None) home invalid_taken invalid_taken Calm }
     ensures stale { CommitWork 2 (second_reads 3 0) (Err (refused.Reason (reasons.Stale x 2))) home written_since refusing Calm }
-    ensures decides { DecideWork 1 (at 1) true (Ok (record { tx = at 1; commit = true })) home (take 4 deciding) deciding Calm }
+    ensures decides { DecideWork 1 (at 1) true (Ok (record { tx = at 1; commit = true })) home (take 6 deciding) deciding Calm }
     ensures forgets { ForgetWork (at 1) (Ok tt) home deciding forgetting Calm }
     ensures asks { AskWork (at 1) (Ok (answers.Settled (record { tx = at 1; commit = true }))) home deciding deciding Calm }
     ensures gone { FetchWork 2 0 0 (Err (refused.Reason (reasons.Gone 2))) home connected_anew connected_anew Calm }
-    ensures stops { DecideWork 1 (at 1) true (Err (refused.Stopped 0)) home (take 4 deciding) (take 4 deciding) (MayCome (Decided (at 1) true)) }
-    ensures down { DecideWork 1 (at 1) true (Err (refused.Down 0)) home (take 4 deciding) (take 4 deciding) Halted }
+    ensures stops { DecideWork 1 (at 1) true (Err (refused.Stopped 0)) home (take 6 deciding) (take 6 deciding) (MayCome (Decided (at 1) true)) }
+    ensures down { DecideWork 1 (at 1) true (Err (refused.Down 0)) home (take 6 deciding) (take 6 deciding) Halted }
     ensures waits { Answered {X = Unit {0}} 0 (Err (refused.Down 0)) (MayCome (Decided (at 1) true)) deciding deciding (MayCome (Decided (at 1) true)) ⊥ }
 {}
 
-/// What they don't do: an outage leaves it open that more comes, a message that waits isn't found, a decision comes without its
-/// answer, and what is decided is told as undecided.
+/// What they don't do: an outage leaves it open that more comes, a message that waits isn't found, a decision stops and leaves
+/// nothing unsettled, and what is decided is told as undecided.
 pub fn what_calls_do_not()
     ensures calm { ¬ FetchWork 2 0 3 (Err (refused.Down 0)) home invalid_taken invalid_taken Calm }
     ensures unseen { ¬ ReceiveWork 2 (Ok None) home written_since written_since Calm }
-    ensures came { ¬ DecideWork 1 (at 1) true (Err (refused.Stopped 0)) home (take 4 deciding) (take 4 deciding) Came }
+    ensures still_calm { ¬ DecideWork 1 (at 1) true (Err (refused.Stopped 0)) home (take 6 deciding) (take 6 deciding) Calm }
     ensures undecided { ¬ AskWork (at 1) (Ok answers.Undecided) home deciding deciding Calm }
 {}

@@ -3,8 +3,8 @@
 use Rattle.law_atomic_commit.proofs.Parts.{part_lives}
 use Rattle.law_atomic_commit.specs.Several.{AreSound, IsAtomic, Several, part}
 use Rattle.spec_history.proofs.Prefixes.{judged}
-use Rattle.spec_history.proofs.Serial.{created_once, upgrades_fence}
-use Rattle.spec_history.specs.History.{CommittedBelow, Known, Lives}
+use Rattle.spec_history.proofs.Serial.{upgrades_fence}
+use Rattle.spec_history.specs.History.{CommittedBelow, Known, Lives, objects_at}
 use Rattle.spec_history.specs.Requests.{has_created, has_written}
 use Rattle.std.proofs.Common.{sym, true, ℕ, ◌++◌, ◌≡◌, ◌∙◌, ◌∷◌}
 use Rattle.std.specs.Prelude.{None, Some, ◌↔◌}
@@ -18,10 +18,10 @@ use Rattle.law_global_order.specs.Whole.{Commit, stored}
 
 module _ (S : Several) (at : IsAtomic S) (sd : AreSound S) where
   pub fresh-at-turn : (done rest : Es) (e : Commit) → Lists S (done ++ e ∷ rest) → (r : ℕ) (o : Known) (x : Oref) → part S r e.0 ≡ Some o
-      → has_created o.request x ≡ true → has_written o.request x ≡ true → get (stored S done r) x ≡ None
-  fresh-at-turn done rest e c r o x is fresh wrote =
+      → has_created o.request x ≡ true → has_written o.request x ≡ true → get (objects_at (S.base r) (S.history r) o.place) x ≡ None → get (stored S done r) x ≡ None
+  fresh-at-turn done rest e c r o x is fresh wrote none =
       joined_at_turn S at sd done rest e c r o x is ((judged (S.base r) (S.history r) (sd.each r) e.0 o is).vouched.within x wrote)
-      ∙ (created_once (S.base r) (S.history r) (sd.each r)).unused e.0 o x (record { there = is; fresh = fresh; wrote = wrote })
+      ∙ none
 
   pub upgrades-agree : UpgradesAgree S
   upgrades-agree r t u w o v h is it other up = (

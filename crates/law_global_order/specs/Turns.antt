@@ -34,10 +34,11 @@ abbrev pub JoinedAtTurn : Several → Type 0
 JoinedAtTurn S = (done : List Commit) (e : Commit) → IsTurn S done e → (r : ℕ) (o : Known) (x : Oref) → part S r e.0 ≡ Some o → has_read o.request x ≡ true
     → get (stored S done r) x ≡ get (objects_at (S.base r) (S.history r) o.place) x
 
--- A name that a transaction gave to a new object has nothing at its turn.
+-- A name that a transaction gave to a new object has nothing at its turn, where it had nothing at its place.
 abbrev pub FreshAtTurn : Several → Type 0
 FreshAtTurn S = (done : List Commit) (e : Commit) → IsTurn S done e → (r : ℕ) (o : Known) (x : Oref) → part S r e.0 ≡ Some o
-    → has_created o.request x ≡ true → has_written o.request x ≡ true → get (stored S done r) x ≡ None
+    → has_created o.request x ≡ true → has_written o.request x ≡ true
+    → get (objects_at (S.base r) (S.history r) o.place) x ≡ None → get (stored S done r) x ≡ None
 
 -- Of the upgrades other than t, those that committed below the request of t at r are those that have
 -- committed, wherever, and are before it by timestamp.

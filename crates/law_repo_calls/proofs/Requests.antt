@@ -8,7 +8,7 @@ use Rattle.log_entries.specs.declared.request.Request.{Request}
 use Rattle.spec_history.specs.History as history
 use Rattle.spec_history.specs.History.{Base}
 use Rattle.spec_history.specs.Participants.{IsAlone}
-use Rattle.spec_history.specs.Requests.{has_created, has_written, is_upgrade_kind}
+use Rattle.spec_history.specs.Requests.{is_upgrade_kind}
 use Rattle.law_repo_memory.specs.Running.{Repository}
 use Rattle.mob_buffer.specs.Buffer as buffer
 use Rattle.object_codec.specs.Spelling.{obj_bytes}
@@ -21,8 +21,8 @@ use Rattle.law_repo_calls.specs.Seen.{StandsRight, seen}
 use Rattle.law_repo_calls.specs.Vouching.{IsSent}
 use Rattle.law_repo_memory.proofs.Judging.{epoch-fits}
 use Rattle.law_repo_memory.specs.Agreeing.{state_of, trace_of}
-use Rattle.spec_trace.specs.Calls.{was_granted}
 use Rattle.spec_trace.specs.Session.{session}
+use Rattle.spec_trace.specs.Exact.{WritesOnPages}
 use Rattle.law_repo_runs.specs.Happening.{MayMake, RequestIsMade, WasMaking, WasRefused}
 use Rattle.serial_model.proofs.SortedMaps.{put_all}
 use Rattle.std.proofs.Common.{Bool, List, Option, [], ◌∷◌, ap, arith, cond, false, inl, inr, length, refl, subst, sym, true, ℕ, ◌+◌, ◌<◌, ◌∙◌, ◌≡◌, ◌≤◌}
@@ -30,7 +30,7 @@ use Rattle.std.proofs.lemmas.Bool.{eqb-true, ltb-false, ltb-true}
 use Rattle.std.specs.List.{fold, list_any, sum_by}
 use Rattle.std.specs.Map.{keys_of}
 use Rattle.std.specs.Option.{IsSomeAnd, option_or}
-use Rattle.std.specs.Prelude.{IsTrue, None, Some, nat_eq, nat_lt, ◌||◌, ◌⊎◌}
+use Rattle.std.specs.Prelude.{None, Some, nat_eq, nat_lt, ◌||◌, ◌⊎◌}
 use Rattle.thor_value.proofs.NameOrders.{oref_total}
 use Rattle.thor_value.specs.FiniteMap.{Map, values}
 use Rattle.thor_value.specs.Names.{oref_cmp}
@@ -123,7 +123,7 @@ module _ (b : Base) (x : Shown) (k : StandsRight b x) (up : x.is_up ≡ true) (s
     vouched = sent.vouched;
     client = subst (λ (t : ℕ). IsSomeAnd (session b (trace_of x.trace) t) (λ v. v.client ≡ q.who.client)) (sym sent.own) sent.client;
     upto = sent.upto;
-    granted = subst (λ (t : ℕ). (n : Oref) → IsTrue (has_created q n) → IsTrue (has_written q n) → IsTrue (was_granted (trace_of x.trace) t n.page)) (sym sent.own) sent.granted;
+    paged = subst (λ (t : ℕ). WritesOnPages b (trace_of x.trace) t q) (sym sent.own) sent.paged;
   }
 
   pub was_refused : (r : Refusal) → judged x.held x.memory s q ≡ Some r → WasRefused b (seen x) s (Some q) r

@@ -7,28 +7,26 @@ use Rattle.repo_core.specs.Shown.{Shown}
 use Rattle.law_repo_memory.specs.Agreeing.{state_of, trace_of}
 use Rattle.law_repo_memory.specs.Judging.{IsVouched}
 use Rattle.law_repo_memory.specs.Running.{CanBegin}
-use Rattle.spec_history.specs.Requests.{has_created, has_written}
-use Rattle.spec_trace.specs.Calls.{was_granted}
 use Rattle.spec_trace.specs.Session.{session}
+use Rattle.spec_trace.specs.Exact.{WritesOnPages}
 use Rattle.std.specs.Option.{IsSomeAnd}
-use Rattle.std.specs.Prelude.{[], IsTrue, None, length, true, ℕ, ◌+◌, ◌<◌, ◌^◌, ◌≡◌, ◌≤◌}
+use Rattle.std.specs.Prelude.{[], None, length, true, ℕ, ◌+◌, ◌<◌, ◌^◌, ◌≡◌, ◌≤◌}
 use Rattle.repo_format.specs.Fresh.{first_ts, page_count}
 use Rattle.thor_value.specs.FiniteMap.{empty, has}
-use Rattle.thor_value.specs.declared.names.Oref.{Oref}
 use Rattle.thor_value.specs.declared.names.Ts.{Ts}
 
 -- the next upgrade can be counted in 32 bits
 abbrev pub IsCounted : Shown → Type 0
 IsCounted x = length x.held.upgrades + 1 < 2 ^ 32
 
--- The sender of the request q of the session s vouches for it: it is that session's and its client's, it owes nothing to the
--- state, it knows no place that isn't there, and what it created stands on pages that were granted to its session.
+-- The request q of the session s owes nothing by itself: it is that session's and its client's, it knows no place that isn't
+-- there, and what it writes stands on pages that were granted and that the session has.
 pub record IsSent (b : Base) (x : Shown) (s : ℕ) (q : Request) : Type 0 where
   pub own : q.session ≡ s
   pub vouched : IsVouched b x.trace x.held q
   pub client : IsSomeAnd (session b (trace_of x.trace) s) (λ v. v.client ≡ q.who.client)
   pub upto : q.upto ≤ length x.trace.history
-  pub granted : (n : Oref) → IsTrue (has_created q n) → IsTrue (has_written q n) → IsTrue (was_granted (trace_of x.trace) s n.page)
+  pub paged : WritesOnPages b (trace_of x.trace) s q
   pub counted : IsCounted x
 
 -- the decision to commit a transaction was made here in this run

@@ -4,7 +4,6 @@ use Rattle.repo_state.specs.declared.held.Held.{Held}
 use Rattle.repo_sessions.specs.Sessions.{is_live}
 use Rattle.spec_history.proofs.Listed.{is_some_and}
 use Rattle.spec_history.specs.History.{Base, epoch_of, known_by, known_in, state}
-use Rattle.spec_history.specs.Requests.{has_created, has_written}
 use Rattle.law_repo_memory.proofs.Judging.{accepted-by-trace, verdict-exact}
 use Rattle.law_repo_memory.proofs.Opens.{undecided-some}
 use Rattle.law_repo_memory.specs.Agreeing.{Agrees, state_of, trace_of}
@@ -13,19 +12,27 @@ use Rattle.spec_trace.specs.Notices.{lives}
 use Rattle.log_entries.specs.declared.entry.Entry.TheVariants.{Decided}
 use Rattle.log_entries.specs.declared.entry.Entry.{Entry}
 use Rattle.spec_trace.proofs.Traces.{entries-items}
-use Rattle.spec_trace.specs.Calls.{drawn_time, last_drawn, next_page, was_granted}
-use Rattle.spec_trace.specs.Exact.{ComesFromSession, EntryIsExact, IsDrawn, IsGoneIn, IsLiveAnd, MarkIsExact, most_pages}
+use Rattle.spec_trace.specs.Calls.{drawn_time, last_drawn, next_page}
+use Rattle.spec_trace.specs.Exact.{ComesFromSession, EntryIsExact, IsDrawn, IsGoneIn, IsLiveAnd, MarkIsExact, WritesOnPages, most_pages}
 use Rattle.spec_trace.specs.Session.{Ended, Live, Retired, Session, Stage, is_ended, session, session_ended, session_lives}
 use Rattle.spec_trace.specs.Session as stages
 use Rattle.spec_trace.specs.Trace.{entries}
 use Rattle.spec_trace.specs.declared.mark.Mark.TheVariants as the
-use Rattle.std.proofs.Common.{Bool, List, ap, arith, cond, refl, subst, sym, ℕ, ◌<◌, ◌≡◌, ◌≤◌, ◌∙◌}
+use Rattle.std.proofs.Common.{Bool, List, [], ap, arith, cond, refl, subst, sym, ℕ, ◌<◌, ◌≡◌, ◌≤◌, ◌∙◌, ◌∷◌}
 use Rattle.std.proofs.lemmas.Bool.{lt-ltb}
+use Rattle.std.proofs.lemmas.Map.Views.{tells_apart}
+use Rattle.std.specs.List.{AllByRecursion}
 use Rattle.std.specs.Map.{keys_of}
-use Rattle.std.specs.Option.{IsSomeAnd, option_or}
-use Rattle.std.specs.Prelude.{IsTrue, None, Option, Some, false, length, true, ◌^◌}
+use Rattle.std.specs.Option.{IsSomeAnd, is_some, option_or}
+use Rattle.std.specs.Ordering.{eq_by_cmp}
+use Rattle.std.specs.Prelude.{None, Option, Some, false, length, true, ◌^◌}
+use Rattle.thor_value.proofs.FiniteMap.{get-insert}
+use Rattle.thor_value.proofs.NameOrders.{oref_exact, oref_total}
+use Rattle.thor_value.specs.FiniteMap.{Map, empty, get, has, insert, overwrite}
+use Rattle.thor_value.specs.Names.{oref_cmp}
 use Rattle.thor_value.specs.declared.names.Oref.{Oref}
 use Rattle.thor_value.specs.declared.names.Ts.{Ts}
+use Rattle.thor_value.specs.declared.values.Obj.{Obj}
 use Rattle.repo_trace.specs.Recorded.{Recorded}
 use Rattle.two_phase.specs.Contents.{open_at}
 use Rattle.validation_queue.specs.Names.{IsInOrder}
@@ -96,14 +103,32 @@ live_not_ended (Some v) e = by v.stage refl e
     by Retired k h = cc
     by Ended k h = cc
 
+-- ---- pages below a number
+
+-- what some writes leave lies on pages below n, where they do and what stood there did
+written_below : (n : ℕ) (ws : List (Oref × Obj)) (m : Map oref_cmp Obj) → ((y : Oref) → has m y ≡ true → y.page < n) → AllByRecursion (λ w. w.0.page < n) ws → (x : Oref) → has (overwrite m ws) x ≡ true → x.page < n
+written_below n [] m old all x there = old x there
+written_below n (w ∷ ws) m old all x there = written_below n ws (insert m w.0 w.1) added all.1 x there
+  where
+    by : (y : Oref) (t : Bool) → eq_by_cmp oref_cmp y w.0 ≡ t → is_some (cond t (Some w.1) (get m y)) ≡ true → y.page < n
+    by y true same k = subst (λ (z : Oref). z.page < n) (sym (tells_apart oref_exact y w.0 same)) all.0
+    by y false other k = old y k
+
+    added : (y : Oref) → has (insert m w.0 w.1) y ≡ true → y.page < n
+    added y h = by y (eq_by_cmp oref_cmp y w.0) refl (sym (ap is_some (get-insert oref_total m w.0 w.1 y)) ∙ h)
+
+none_there : (n : ℕ) (y : Oref) → has {R = oref_cmp} {X = Obj} empty y ≡ true → y.page < n
+none_there n y e = let no : false ≡ true = e in cc
+
 -- a request of a live session that is accepted by what is in memory
 pub comes-exact : (b : Base) (r : Recorded) (h : Held) (M : Memory) (q : Request) → Agrees b r h M → SessionsAnswer b (trace_of r) M.sessions → IsAccepted b r h M q.session q → IsSomeAnd (session b (trace_of r) q.session) (λ v. v.client ≡ q.who.client) → q.upto ≤ length r.history
-    → ((x : Oref) → IsTrue (has_created q x) → IsTrue (has_written q x) → IsTrue (was_granted (trace_of r) q.session x.page)) → ComesFromSession b (trace_of r) q
-comes-exact b r h M q a sessions accepted client upto granted = record {
+    → AllByRecursion (λ w. w.0.page < h.next_grant) q.writes → WritesOnPages b (trace_of r) q.session q → ComesFromSession b (trace_of r) q
+comes-exact b r h M q a sessions accepted client upto granted paged = record {
   accepted = accepted-by-trace b r h M q.session q a sessions accepted;
   client = client;
   upto = subst (λ (H : List Entry). q.upto ≤ length H) (sym (entries-items r.history r.marks a.held.owed.trace)) upto;
-  granted = granted;
+  granted = λ x wrote. subst (λ (n : ℕ). x.page < n) a.held.next (written_below h.next_grant q.writes empty (none_there h.next_grant) granted x wrote);
+  paged = paged;
 }
 
 -- the decision on what a live session has prepared

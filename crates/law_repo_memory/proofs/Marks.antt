@@ -4,16 +4,15 @@ use Rattle.repo_state.specs.declared.held.Held.{Held}
 use Rattle.spec_history.specs.History.{Base, State, state}
 use Rattle.law_repo_memory.proofs.Moving.{kept-by}
 use Rattle.law_repo_memory.proofs.Tables.{keeps-out, open-out}
-use Rattle.law_repo_memory.proofs.Traced.{drawn-end, forgotten-end, forgotten-same, next-end, next-same, places-more}
+use Rattle.law_repo_memory.proofs.Traced.{drawn-end, forgotten-end, forgotten-same, next-end, next-same}
 use Rattle.law_repo_memory.specs.Agreeing.{Agrees, HeldAgrees, IsOwed, state_of, trace_of}
 use Rattle.law_repo_memory.specs.Tables.{TableAgrees}
-use Rattle.spec_trace.proofs.Traces.{entries-items, items-end}
+use Rattle.spec_trace.proofs.Traces.{entries-items, items-mark, trace-mark}
 use Rattle.spec_trace.specs.Calls.{drawn_after, forgets, granted_at, is_forgotten, is_kept, last_drawn, next_page}
-use Rattle.spec_trace.specs.Trace.{IsTrace, Item, M, item_of, places}
+use Rattle.spec_trace.specs.Trace.{IsTrace, Item, M}
 use Rattle.spec_trace.specs.declared.mark.Mark.TheVariants as the
 use Rattle.spec_trace.specs.declared.mark.Mark.{Mark}
 use Rattle.std.proofs.Common.{Bool, List, [], ap, arith, cond, refl, subst, sym, ℕ, ◌+◌, ◌++◌, ◌<◌, ◌≡◌, ◌≤◌, ◌∙◌, ◌∷◌}
-use Rattle.std.proofs.lemmas.List.{append-nil}
 use Rattle.std.proofs.lemmas.Map.Views.{tells_apart}
 use Rattle.std.specs.Option.{option_and_then}
 use Rattle.std.specs.Ordering.{eq_by_cmp}
@@ -29,21 +28,16 @@ use Rattle.two_phase.specs.declared.transaction.Transaction.TheVariants as trans
 use Rattle.two_phase.specs.declared.transaction.Transaction.{Transaction}
 use Rattle.repo_volatile.specs.Volatile.{Memory}
 
--- the mark is no entry's
-pub record IsPlain (H : List Entry) (m : Mark) : Type 0 where
-  pub item : item_of H m ≡ M m ∷ []
-  pub place : places (m ∷ []) ≡ []
-
 or_cases : (x y : Bool) → (x || y) ≡ true → (x ≡ false) → y ≡ true
 or_cases true y e h = cc
 or_cases false y e h = e
 
-module _ (b : Base) (r : Recorded) (m : Mark) (plain : IsPlain r.history m) where
+module _ (b : Base) (r : Recorded) (m : Mark) where
   pub trace-marked : trace_of (with_mark r m) ≡ trace_of r ++ M m ∷ []
-  trace-marked = items-end r.history r.marks m ∙ ap (λ is. trace_of r ++ is) plain.item
+  trace-marked = items-mark r.history r.marks m
 
-  pub is-trace-marked : IsTrace r.history r.marks → IsTrace r.history (r.marks ++ m ∷ [])
-  is-trace-marked h = places-more r.marks m ∙ (ap (λ ps. places r.marks ++ ps) plain.place ∙ (append-nil (places r.marks) ∙ h))
+  pub is-trace-marked : IsTrace r.history r.marks → IsTrace r.history (with_mark r m).marks
+  is-trace-marked h = trace-mark r.history r.marks m h
 
   pub forgotten-marked : (t : Ts) → forgets t (M m) ≡ false → is_forgotten (trace_of (with_mark r m)) t ≡ is_forgotten (trace_of r) t
   forgotten-marked t e = ap (λ (T : List Item). is_forgotten T t) trace-marked ∙ forgotten-same b (trace_of r) (M m) t e
@@ -97,11 +91,10 @@ module _ (b : Base) (r : Recorded) (m : Mark) (plain : IsPlain r.history m) wher
 
 pub agrees-drew : (b : Base) (r : Recorded) (h : Held) (K : Memory) (s : ℕ) (t : Ts) → Agrees b r h K → (N : Memory) → N.queue ≡ K.queue → N.requested ≡ K.requested → N.drawn ≡ t.time → Agrees b (with_mark r (the.Drew s t)) h N
 agrees-drew b r h K s t a N queue requested drawn =
-    let plain : IsPlain r.history (the.Drew s t) = record { item = refl; place = refl } in
     record {
-      held = subst (HeldAgrees b (with_mark r (the.Drew s t)) h) (sym requested) (held-marked b r (the.Drew s t) plain h K.requested a.held refl (λ u. refl));
+      held = subst (HeldAgrees b (with_mark r (the.Drew s t)) h) (sym requested) (held-marked b r (the.Drew s t) h K.requested a.held refl (λ u. refl));
       queue = queue ∙ a.queue;
-      drawn = drawn ∙ sym (drawn-marked b r (the.Drew s t) plain a.held.owed);
+      drawn = drawn ∙ sym (drawn-marked b r (the.Drew s t) a.held.owed);
     }
 
 -- ---- a page that is granted
@@ -110,18 +103,15 @@ module _ (b : Base) (r : Recorded) (h : Held) (requested : Set ts_cmp) (s : ℕ)
   abbrev granted : Mark
   granted = the.Granted s h.next_grant
 
-  granted-plain : IsPlain r.history granted
-  granted-plain = record { item = refl; place = refl }
-
   granted-next : h.next_grant + 1 ≡ next_page b (trace_of (with_mark r granted))
   granted-next =
       let e : next_page b (trace_of r) ≡ h.next_grant = sym a.next in
-      let f : next_page b (trace_of (with_mark r granted)) ≡ max (next_page b (trace_of r)) (h.next_grant + 1) = ap (next_page b) (trace-marked b r granted granted-plain) ∙ next-end b (trace_of r) (M granted) in
+      let f : next_page b (trace_of (with_mark r granted)) ≡ max (next_page b (trace_of r)) (h.next_grant + 1) = ap (next_page b) (trace-marked b r granted) ∙ next-end b (trace_of r) (M granted) in
       omega arith
 
   pub held-granted : HeldAgrees b (with_mark r granted) (record h { next_grant = h.next_grant + 1 }) requested
   held-granted =
-      let o : IsOwed b (with_mark r granted) = owed-marked b r granted granted-plain a.owed (λ t e. cc) in
+      let o : IsOwed b (with_mark r granted) = owed-marked b r granted a.owed (λ t e. cc) in
       record {
         owed = o;
         repo = a.repo;
@@ -130,7 +120,7 @@ module _ (b : Base) (r : Recorded) (h : Held) (requested : Set ts_cmp) (s : ℕ)
         threshold = a.threshold;
         upgrades = a.upgrades;
         table = a.table;
-        kept = λ t l. a.kept t l ∙ (kept-by b r a.owed t ∙ (ap (λ x. has (state_of b r).kept t && not x) (sym (forgotten-marked b r granted granted-plain t refl)) ∙ sym (kept-by b (with_mark r granted) o t)));
+        kept = λ t l. a.kept t l ∙ (kept-by b r a.owed t ∙ (ap (λ x. has (state_of b r).kept t && not x) (sym (forgotten-marked b r granted t refl)) ∙ sym (kept-by b (with_mark r granted) o t)));
         next = granted-next;
         pages = let p : h.next_page ≤ h.next_grant = a.pages in omega arith;
         came = a.came;
@@ -142,14 +132,11 @@ module _ (b : Base) (r : Recorded) (h : Held) (requested : Set ts_cmp) (t : Ts) 
   abbrev forgot : Mark
   forgot = the.Forgot t
 
-  forgot-plain : IsPlain r.history forgot
-  forgot-plain = record { item = refl; place = refl }
-
   owed-forgot : IsOwed b (with_mark r forgot)
-  owed-forgot = owed-marked b r forgot forgot-plain a.owed (λ u e. subst (λ v. has (state_of b r).kept v ≡ true) (sym (tells_apart ts_exact u t e)) decided)
+  owed-forgot = owed-marked b r forgot a.owed (λ u e. subst (λ v. has (state_of b r).kept v ≡ true) (sym (tells_apart ts_exact u t e)) decided)
 
   forgotten-here : (u : Ts) → is_forgotten (trace_of (with_mark r forgot)) u ≡ (is_forgotten (trace_of r) u || eq_by_cmp ts_cmp u t)
-  forgotten-here u = ap (λ (T : List Item). is_forgotten T u) (trace-marked b r forgot forgot-plain) ∙ forgotten-end b (trace_of r) (M forgot) u
+  forgotten-here u = ap (λ (T : List Item). is_forgotten T u) (trace-marked b r forgot) ∙ forgotten-end b (trace_of r) (M forgot) u
 
   kept-forgot : (c : Contents) (u : Ts) → keeps (get c.transactions u) ≡ cond (eq_by_cmp ts_cmp u t) false (keeps (get h.table.transactions u)) → b.life < u.life → keeps (get c.transactions u) ≡ is_kept b (trace_of (with_mark r forgot)) u
   kept-forgot c u e l =
@@ -176,7 +163,7 @@ module _ (b : Base) (r : Recorded) (h : Held) (requested : Set ts_cmp) (t : Ts) 
     upgrades = a.upgrades;
     table = table;
     kept = λ u l. kept-forgot c u (keeps u) l;
-    next = a.next ∙ sym (ap (next_page b) (trace-marked b r forgot forgot-plain) ∙ next-same b (trace_of r) (M forgot) refl);
+    next = a.next ∙ sym (ap (next_page b) (trace-marked b r forgot) ∙ next-same b (trace_of r) (M forgot) refl);
     pages = a.pages;
     came = a.came;
   }

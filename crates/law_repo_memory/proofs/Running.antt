@@ -8,7 +8,7 @@ use Rattle.law_repo_memory.proofs.Accepted.{owes-decided, owes-finished, owes-on
 use Rattle.law_repo_memory.proofs.Decisions.{held-decided, held-finished}
 use Rattle.law_repo_memory.proofs.Entries.{agrees-decided, agrees-finished, agrees-life, agrees-one, agrees-prepared, agrees-upgraded}
 use Rattle.law_repo_memory.proofs.Lives.{held-life}
-use Rattle.law_repo_memory.proofs.Marks.{IsPlain, agrees-drew, agrees-marked, drawn-marked, held-forgot, held-granted}
+use Rattle.law_repo_memory.proofs.Marks.{agrees-drew, agrees-marked, drawn-marked, held-forgot, held-granted}
 use Rattle.law_repo_memory.proofs.Requests.{held-one, held-prepared, held-upgraded}
 use Rattle.law_repo_memory.specs.Agreeing.{Agrees, HeldAgrees, state_of, trace_of}
 use Rattle.law_repo_memory.specs.Coming.{Moves}
@@ -120,29 +120,28 @@ module _ (b : Base) (x y : Repository) (a : IsInAgreement b x) (queue : y.memory
   plainly : (m : Mark) → Agrees b (with_mark x.trace m) x.held y.memory → y.trace ≡ with_mark x.trace m → y.held ≡ x.held → IsInAgreement b y
   plainly m k trace held = subst (λ (r : Recorded). Agrees b r y.held y.memory) (sym trace) (subst (λ (h : Held). Agrees b (with_mark x.trace m) h y.memory) (sym held) k)
 
-  with-held : (m : Mark) (h : Held) → IsPlain x.trace.history m → HeldAgrees b (with_mark x.trace m) h x.memory.requested → ((S : State) (n : ℕ) → drawn_after S n (M m) ≡ n)
+  with-held : (m : Mark) (h : Held) → HeldAgrees b (with_mark x.trace m) h x.memory.requested → ((S : State) (n : ℕ) → drawn_after S n (M m) ≡ n)
       → y.trace ≡ with_mark x.trace m → y.held ≡ h → y.memory.drawn ≡ x.memory.drawn → IsInAgreement b y
-  with-held m h plain k undrawn trace held drawn =
+  with-held m h k undrawn trace held drawn =
       subst (λ (r : Recorded). Agrees b r y.held y.memory) (sym trace)
       (subst (λ (n : Held). Agrees b (with_mark x.trace m) n y.memory) (sym held) (record {
         held = subst (HeldAgrees b (with_mark x.trace m) h) (sym requested) k;
         queue = queue ∙ a.queue;
-        drawn = drawn ∙ (a.drawn ∙ sym (drawn-marked b x.trace m plain a.held.owed ∙ undrawn (state_of b x.trace) (last_drawn b (trace_of x.trace))));
+        drawn = drawn ∙ (a.drawn ∙ sym (drawn-marked b x.trace m a.held.owed ∙ undrawn (state_of b x.trace) (last_drawn b (trace_of x.trace))));
       }))
 
   marked : (m : Mark) → MarkChanges b x m y → y.trace ≡ with_mark x.trace m → IsInAgreement b y
-  marked (the.Entry place) c trace = absurd c
-  marked (the.Connected s client) c trace = plainly (the.Connected s client) (agrees-marked b x.trace (the.Connected s client) (record { item = refl; place = refl }) x.held x.memory a refl (λ t. refl) (λ S n. refl) y.memory queue requested c.1) trace c.0
-  marked (the.Fetched s page upto) c trace = plainly (the.Fetched s page upto) (agrees-marked b x.trace (the.Fetched s page upto) (record { item = refl; place = refl }) x.held x.memory a refl (λ t. refl) (λ S n. refl) y.memory queue requested c.1) trace c.0
-  marked (the.Took s place) c trace = plainly (the.Took s place) (agrees-marked b x.trace (the.Took s place) (record { item = refl; place = refl }) x.held x.memory a refl (λ t. refl) (λ S n. refl) y.memory queue requested c.1) trace c.0
-  marked (the.Refused s q r) c trace = plainly (the.Refused s q r) (agrees-marked b x.trace (the.Refused s q r) (record { item = refl; place = refl }) x.held x.memory a refl (λ t. refl) (λ S n. refl) y.memory queue requested c.1) trace c.0
+  marked (the.Connected s client) c trace = plainly (the.Connected s client) (agrees-marked b x.trace (the.Connected s client) x.held x.memory a refl (λ t. refl) (λ S n. refl) y.memory queue requested c.1) trace c.0
+  marked (the.Fetched s page upto) c trace = plainly (the.Fetched s page upto) (agrees-marked b x.trace (the.Fetched s page upto) x.held x.memory a refl (λ t. refl) (λ S n. refl) y.memory queue requested c.1) trace c.0
+  marked (the.Took s place) c trace = plainly (the.Took s place) (agrees-marked b x.trace (the.Took s place) x.held x.memory a refl (λ t. refl) (λ S n. refl) y.memory queue requested c.1) trace c.0
+  marked (the.Refused s q r) c trace = plainly (the.Refused s q r) (agrees-marked b x.trace (the.Refused s q r) x.held x.memory a refl (λ t. refl) (λ S n. refl) y.memory queue requested c.1) trace c.0
   marked (the.Drew s t) c trace = plainly (the.Drew s t) (agrees-drew b x.trace x.held x.memory s t a y.memory queue requested c.1) trace c.0
   marked (the.Granted s page) c trace =
       let k = held-granted b x.trace x.held x.memory.requested s a.held in
       let same : y.trace ≡ with_mark x.trace (the.Granted s x.held.next_grant) = trace ∙ ap (λ p. with_mark x.trace (the.Granted s p)) c.0 in
-      with-held (the.Granted s x.held.next_grant) (record x.held { next_grant = x.held.next_grant + 1 }) (record { item = refl; place = refl }) k (λ S n. refl) same c.1 c.2
+      with-held (the.Granted s x.held.next_grant) (record x.held { next_grant = x.held.next_grant + 1 }) k (λ S n. refl) same c.1 c.2
   marked (the.Forgot t) c trace =
-      with-held (the.Forgot t) (record x.held { table = cond (keeps (get x.held.table.transactions t)) (without x.held.table t) x.held.table }) (record { item = refl; place = refl })
+      with-held (the.Forgot t) (record x.held { table = cond (keeps (get x.held.table.transactions t)) (without x.held.table t) x.held.table })
       (held-forgot b x.trace x.held x.memory.requested t a.held c.0) (λ S n. refl) trace c.1 c.2
 
 pub mark-comes : (b : Base) (x y : Repository) (m : Mark) → IsInAgreement b x → MarkComes b x m y → IsInAgreement b y

@@ -3,9 +3,7 @@ use Rattle.spec_history.specs.History.{Base, State, start, state}
 use Rattle.spec_trace.proofs.Sessions.{passed, passed-entries}
 use Rattle.spec_trace.specs.Calls.{drawn_after, drawn_from, forgets, granted_at, is_forgotten, last_drawn, next_page}
 use Rattle.spec_trace.specs.Session.{pass}
-use Rattle.spec_trace.specs.Trace.{Item, entries, places}
-use Rattle.spec_trace.specs.declared.mark.Mark.TheVariants as the
-use Rattle.spec_trace.specs.declared.mark.Mark.{Mark}
+use Rattle.spec_trace.specs.Trace.{Item, entries}
 use Rattle.std.proofs.Common.{Bool, List, [], ap, arith, refl, ℕ, ◌++◌, ◌≡◌, ◌∙◌, ◌∷◌}
 use Rattle.std.proofs.lemmas.List.Folds.{list_any-append}
 use Rattle.std.proofs.lemmas.List.Sums.{fold-append}
@@ -38,10 +36,3 @@ module _ (b : Base) (T : List Item) where
 
   pub forgotten-same : (i : Item) (t : Ts) → forgets t i ≡ false → is_forgotten (T ++ i ∷ []) t ≡ is_forgotten T t
   forgotten-same i t e = forgotten-end i t ∙ (ap (λ x. is_forgotten T t || x) e ∙ or_false (is_forgotten T t))
-
--- the places that marks name, with those of one more
-pub places-more : (ms : List Mark) (m : Mark) → places (ms ++ m ∷ []) ≡ places ms ++ places (m ∷ [])
-places-more [] m = refl
-places-more (the.Entry p ∷ ms) m = ap (λ ps. p ∷ ps) (places-more ms m)
-places-more (the.Connected s c ∷ ms) m = places-more ms m
-places-more (k ∷ ms) m = places-more ms m

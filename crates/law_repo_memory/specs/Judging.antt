@@ -33,7 +33,7 @@ pub record IsAccepted (b : Base) (r : Recorded) (h : Held) (M : Memory) (s : ℕ
   pub unknown : knows M q.tx ≡ false
   pub unkept : has h.table.transactions q.tx ≡ false
 
--- What its sender vouches for: what it owes to the state, and that it writes on pages that were granted.
+-- What it owes by itself to the state, and that it writes on pages that were granted.
 pub record IsVouched (b : Base) (r : Recorded) (h : Held) (q : Request) : Type 0 where
   pub vouched : Vouches b (state_of b r) q
   pub granted : AllByRecursion (λ w. w.0.page < h.next_grant) q.writes

@@ -31,7 +31,7 @@ pub record Repository : Type 0 where
 abbrev pub IsInAgreement : Base → Repository → Type 0
 IsInAgreement b x = Agrees b x.trace x.held x.memory
 
--- a request comes: it is accepted, and its sender vouches for it
+-- a request comes: it is accepted, and owes nothing by itself
 pub record RequestComes (b : Base) (x : Repository) (q : Request) : Type 0 where
   pub session : ℕ
   pub sessions : SessionsAnswer b (trace_of x.trace) x.memory.sessions
@@ -57,7 +57,6 @@ pub record EntryComes (b : Base) (x : Repository) (e : Entry) (y : Repository) :
 
 -- what is held, and the time drawn last, behind a mark. A decision that is forgotten was made here in this run
 abbrev pub MarkChanges : Base → Repository → Mark → Repository → Type 0
-MarkChanges b x (the.Entry place) y = ⊥
 MarkChanges b x (the.Connected s client) y = (y.held ≡ x.held) × (y.memory.drawn ≡ x.memory.drawn)
 MarkChanges b x (the.Fetched s page upto) y = (y.held ≡ x.held) × (y.memory.drawn ≡ x.memory.drawn)
 MarkChanges b x (the.Granted s page) y = (page ≡ x.held.next_grant) × (y.held ≡ record x.held { next_grant = x.held.next_grant + 1 }) × (y.memory.drawn ≡ x.memory.drawn)

@@ -5,19 +5,18 @@ ghost use Rattle.log_entries.specs.declared.request.Request.{Request};
 ghost use Rattle.repo_state.specs.declared.held.Held.{Held};
 ghost use Rattle.repo_sessions.specs.Sessions.{is_live};
 ghost use Rattle.spec_history.specs.History.{Base, epoch_of};
-ghost use Rattle.spec_history.specs.Requests.{has_created, has_written};
 ghost use Rattle.law_repo_memory.specs.Agreeing.{Agrees, state_of, trace_of};
 ghost use Rattle.law_repo_memory.specs.Judging.{IsAccepted, SessionsAnswer};
 ghost use Rattle.law_repo_memory.specs.Running.{IsInAgreement, MarkComes, ObjectsMove, Repository};
-ghost use Rattle.spec_trace.specs.Calls.{drawn_time, was_granted};
-ghost use Rattle.spec_trace.specs.Exact.{ComesFromSession, EntryIsExact, MarkIsExact, most_pages};
+ghost use Rattle.spec_trace.specs.Calls.{drawn_time};
+ghost use Rattle.spec_trace.specs.Exact.{ComesFromSession, EntryIsExact, MarkIsExact, WritesOnPages, most_pages};
 ghost use Rattle.spec_trace.specs.Session.{session};
 ghost use Rattle.spec_trace.specs.declared.mark.Mark.TheVariants as the;
 ghost use Rattle.spec_trace.specs.declared.mark.Mark.{Mark};
+ghost use Rattle.std.specs.List.{AllByRecursion};
 ghost use Rattle.std.specs.Map.{keys_of};
 ghost use Rattle.std.specs.Option.{IsSomeAnd};
-ghost use Rattle.std.specs.Prelude.{Bool, IsTrue, None, Some, false, length, true, ℕ, ◌<◌, ◌^◌, ◌≡◌, ◌≤◌};
-ghost use Rattle.thor_value.specs.declared.names.Oref.{Oref};
+ghost use Rattle.std.specs.Prelude.{Bool, None, Some, false, length, true, ℕ, ◌<◌, ◌^◌, ◌≡◌, ◌≤◌};
 ghost use Rattle.thor_value.specs.declared.names.Ts.{Ts};
 ghost use Rattle.repo_trace.specs.Recorded.{Recorded};
 ghost use Rattle.two_phase.specs.Contents.{open_at};
@@ -68,14 +67,14 @@ pub fn refusals_are_exact()
 {}
 
 /// A request that is accepted by what is in memory comes from its session, where its sender is the session's client and
-/// created what it did on pages that were granted to it; and a transaction that a live session has prepared is decided by
+/// writes on pages that were granted and that the session has; and a transaction that a live session has prepared is decided by
 /// its session.
 pub fn entries_are_exact()
     ensures request { (b : Base) (r : Recorded) (h : Held) (M : Memory) (q : Request) → Agrees b r h M →
         SessionsAnswer b (trace_of r) M.sessions → IsAccepted b r h M q.session q →
         IsSomeAnd (session b (trace_of r) q.session) (λ v. v.client ≡ q.who.client) → q.upto ≤ length r.history →
-        ((x : Oref) → IsTrue (has_created q x) → IsTrue (has_written q x) →
-        IsTrue (was_granted (trace_of r) q.session x.page)) → ComesFromSession b (trace_of r) q }
+        AllByRecursion (λ w. w.0.page < h.next_grant) q.writes → WritesOnPages b (trace_of r) q.session q →
+        ComesFromSession b (trace_of r) q }
     ensures decided { (b : Base) (r : Recorded) (h : Held) (M : Memory) (t : Ts) (q : Request) (c : Bool) →
         Agrees b r h M → SessionsAnswer b (trace_of r) M.sessions → open_at h.table t ≡ Some q →
         is_live M.sessions q.session ≡ true → EntryIsExact b (trace_of r) (Decided t c) }

@@ -39,21 +39,21 @@ module _ (b : Base) (x : Repository) (a : IsInAgreement b x) (ss : SessionsAgree
       let c : RequestIsMade b x q = may.0 in
       record {
         owes = owes-one b x.trace x.held x.memory q.session q a answers c.accepted c.vouched.vouched may.1 may.2;
-        exact = comes-exact b x.trace x.held x.memory q a answers c.accepted c.client c.upto c.granted;
+        exact = comes-exact b x.trace x.held x.memory q a answers c.accepted c.client c.upto c.vouched.granted c.paged;
         fits = record { unkept = c.accepted.unkept; granted = c.vouched.granted };
       }
   may-be-next (Prepared q) may =
       let c : RequestIsMade b x q = may.0 in
       record {
         owes = owes-prepared b x.trace x.held x.memory q.session q a answers c.accepted c.vouched.vouched may.1;
-        exact = comes-exact b x.trace x.held x.memory q a answers c.accepted c.client c.upto c.granted;
+        exact = comes-exact b x.trace x.held x.memory q a answers c.accepted c.client c.upto c.vouched.granted c.paged;
         fits = record { unkept = c.accepted.unkept; granted = c.vouched.granted };
       }
   may-be-next (Upgraded q) may =
       let c : RequestIsMade b x q = may.0 in
       record {
         owes = owes-upgraded b x.trace x.held x.memory q.session q a answers c.accepted c.vouched.vouched may.1 may.2;
-        exact = comes-exact b x.trace x.held x.memory q a answers c.accepted c.client c.upto c.granted;
+        exact = comes-exact b x.trace x.held x.memory q a answers c.accepted c.client c.upto c.vouched.granted c.paged;
         fits = record { unkept = c.accepted.unkept; granted = c.vouched.granted };
       }
   may-be-next (Decided t c) may =

@@ -6,7 +6,7 @@ use Rattle.spec_history.specs.History.{Base, state}
 use Rattle.session_outbox.specs.declared.message.Message.TheVariants.{Grant, Page}
 use Rattle.law_repo_memory.proofs.Answering.{session-answers}
 use Rattle.law_repo_memory.proofs.Exactness.{buffer-exact, clock-exact, drew-exact, gone-exact, granted-exact, pages-exact, request-exact}
-use Rattle.law_repo_memory.proofs.Marks.{IsPlain, trace-marked}
+use Rattle.law_repo_memory.proofs.Marks.{trace-marked}
 use Rattle.law_repo_memory.proofs.Running.{mark-comes}
 use Rattle.law_repo_memory.specs.Agreeing.{trace_of}
 use Rattle.law_repo_memory.specs.Judging.{SessionsAnswer}
@@ -23,21 +23,11 @@ use Rattle.spec_trace.specs.Exact.{MarkIsExact}
 use Rattle.spec_trace.specs.Trace.{Item, M, entries}
 use Rattle.spec_trace.specs.declared.mark.Mark.TheVariants as the
 use Rattle.spec_trace.specs.declared.mark.Mark.{Mark}
-use Rattle.std.proofs.Common.{List, [], inl, inr, length, refl, subst, sym, ℕ, ◌++◌, ◌<◌, ◌∷◌, ◌≡◌}
+use Rattle.std.proofs.Common.{List, [], inl, inr, length, subst, sym, ℕ, ◌++◌, ◌<◌, ◌∷◌, ◌≡◌}
 use Rattle.std.specs.Prelude.{IsTrue, None, Some, ◌≤◌}
 use Rattle.thor_value.specs.FiniteMap.{has}
 use Rattle.repo_trace.specs.Recorded.{Recorded}
 use Rattle.repo_refusals.specs.declared.refusal.Refusal.{Refusal}
-
-pub plain-of : (H : List Entry) (b : Base) (x : Repository) (m : Mark) (K : Kept) → MayMark b x m K → IsPlain H m
-plain-of H b x (the.Entry place) K may = absurd may
-plain-of H b x (the.Connected s client) K may = record { item = refl; place = refl }
-plain-of H b x (the.Fetched s page upto) K may = record { item = refl; place = refl }
-plain-of H b x (the.Granted s page) K may = record { item = refl; place = refl }
-plain-of H b x (the.Took s place) K may = record { item = refl; place = refl }
-plain-of H b x (the.Drew s t) K may = record { item = refl; place = refl }
-plain-of H b x (the.Forgot t) K may = record { item = refl; place = refl }
-plain-of H b x (the.Refused s q r) K may = record { item = refl; place = refl }
 
 module _ (b : Base) (x : Repository) (k : IsRecorded b x.trace) (a : IsInAgreement b x) (ss : SessionsAgree b (trace_of x.trace) x.memory.sessions) where
   abbrev T : List Item
@@ -62,7 +52,6 @@ module _ (b : Base) (x : Repository) (k : IsRecorded b x.trace) (a : IsInAgreeme
   asked-exact q r (order, inr full) = subst (λ (w : Refusal). MarkIsExact b T (the.Refused q.session (Some q) w)) (sym full.1) (buffer-exact b x.trace x.held x.memory q a answers order full.0 full.2)
 
   mark-exact : (y : Repository) (m : Mark) → MayMark b x m y.memory.sessions → MarkChanges b x m y → MarkIsExact b T m
-  mark-exact y (the.Entry place) may c = absurd may
   mark-exact y (the.Connected s client) may c = connected_exact b T x.memory.sessions client s ss may.0 may.1 begun
   mark-exact y (the.Fetched s page upto) may c = fetched_exact b T x.memory.sessions s page upto ss may.0 (subst (λ (H : List Entry). upto ≤ length H) (sym hist) may.1)
   mark-exact y (the.Granted s page) may c = subst (λ (p : ℕ). MarkIsExact b T (the.Granted s p)) (sym c.0) (granted-exact b x.trace x.held x.memory s a answers may.0 may.1)
@@ -76,7 +65,6 @@ module _ (b : Base) (x : Repository) (k : IsRecorded b x.trace) (a : IsInAgreeme
   same K m e s = subst (SessionsAgree b (T ++ M m ∷ [])) (sym e) s
 
   mark-told : (y : Repository) (m : Mark) → MayMark b x m y.memory.sessions → MarkChanges b x m y → SessionsAgree b (T ++ M m ∷ []) y.memory.sessions
-  mark-told y (the.Entry place) may c = absurd may
   mark-told y (the.Connected s client) may c = subst (SessionsAgree b (T ++ M (the.Connected s client) ∷ [])) (sym may.2) (begun_agrees b T x.memory.sessions client s may.0 ss)
   mark-told y (the.Fetched s page upto) may c =
       subst (SessionsAgree b (T ++ M (the.Fetched s page upto) ∷ [])) (sym may.2.1)
@@ -94,11 +82,10 @@ module _ (b : Base) (x : Repository) (k : IsRecorded b x.trace) (a : IsInAgreeme
 
   pub marked : (m : Mark) (y : Repository) → MarkIsMade b x m y → IsRight b y Up
   marked m y mk =
-      let plain : IsPlain x.trace.history m = plain-of x.trace.history b x m y.memory.sessions mk.may in
       record {
-        recorded = subst (IsRecorded b) (sym mk.comes.trace) (behind-mark b x.trace k m plain (mark-exact y m mk.may mk.comes.changes));
+        recorded = subst (IsRecorded b) (sym mk.comes.trace) (behind-mark b x.trace k m (mark-exact y m mk.may mk.comes.changes));
         stands = (
           mark-comes b x y m a mk.comes,
-          subst (λ (r : Recorded). SessionsAgree b (trace_of r) y.memory.sessions) (sym mk.comes.trace) (subst (λ (U : List Item). SessionsAgree b U y.memory.sessions) (sym (trace-marked b x.trace m plain)) (mark-told y m mk.may mk.comes.changes)),
+          subst (λ (r : Recorded). SessionsAgree b (trace_of r) y.memory.sessions) (sym mk.comes.trace) (subst (λ (U : List Item). SessionsAgree b U y.memory.sessions) (sym (trace-marked b x.trace m)) (mark-told y m mk.may mk.comes.changes)),
         );
       }

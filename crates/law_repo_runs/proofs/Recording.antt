@@ -2,7 +2,7 @@
 use Rattle.log_entries.specs.declared.entry.Entry.{Entry}
 use Rattle.spec_history.specs.History.{Base}
 use Rattle.spec_history.specs.Sound.{owes}
-use Rattle.law_repo_memory.proofs.Marks.{IsPlain, is-trace-marked, trace-marked}
+use Rattle.law_repo_memory.proofs.Marks.{is-trace-marked, trace-marked}
 use Rattle.law_repo_memory.proofs.Owed.{owed-behind, trace-behind}
 use Rattle.law_repo_memory.specs.Agreeing.{IsOwed, state_of, trace_of}
 use Rattle.law_repo_runs.specs.Standing.{IsRecorded}
@@ -27,10 +27,10 @@ behind-entry b r o k e ow ex =
       begun = longer r.history e;
     }
 
-pub behind-mark : (b : Base) (r : Recorded) → IsRecorded b r → (m : Mark) → IsPlain r.history m → MarkIsExact b (trace_of r) m → IsRecorded b (with_mark r m)
-behind-mark b r k m plain ex = record {
-  trace = is-trace-marked b r m plain k.trace;
+pub behind-mark : (b : Base) (r : Recorded) → IsRecorded b r → (m : Mark) → MarkIsExact b (trace_of r) m → IsRecorded b (with_mark r m)
+behind-mark b r k m ex = record {
+  trace = is-trace-marked b r m k.trace;
   sound = k.sound;
-  exact = subst (exact b) (sym (trace-marked b r m plain)) (exact-end b (trace_of r) (M m) k.exact ex);
+  exact = subst (exact b) (sym (trace-marked b r m)) (exact-end b (trace_of r) (M m) k.exact ex);
   begun = k.begun;
 }

@@ -7,7 +7,7 @@ use Rattle.repo_state.specs.declared.held.Held.{Held}
 use Rattle.repo_sessions.specs.Sessions.{Kept, acknowledged, begun, is_live, sent, taken}
 use Rattle.spec_history.specs.History.{Base, epoch_of}
 use Rattle.spec_history.specs.Participants.{IsAlone, IsShared}
-use Rattle.spec_history.specs.Requests.{has_created, has_written, is_upgrade}
+use Rattle.spec_history.specs.Requests.{is_upgrade}
 use Rattle.session_outbox.specs.Messages.{first, place_of}
 use Rattle.session_outbox.specs.Outbox.{waiting}
 use Rattle.session_outbox.specs.declared.message.Message.TheVariants.{Grant, Page}
@@ -16,16 +16,15 @@ use Rattle.law_repo_memory.specs.Agreeing.{state_of, trace_of}
 use Rattle.law_repo_memory.specs.Coming.{Moves}
 use Rattle.law_repo_memory.specs.Judging.{IsAccepted, IsVouched}
 use Rattle.law_repo_memory.specs.Running.{MarkComes, Repository}
-use Rattle.spec_trace.specs.Calls.{drawn_time, was_granted}
-use Rattle.spec_trace.specs.Exact.{most_pages}
+use Rattle.spec_trace.specs.Calls.{drawn_time}
+use Rattle.spec_trace.specs.Exact.{WritesOnPages, most_pages}
 use Rattle.spec_trace.specs.Session.{session}
 use Rattle.spec_trace.specs.declared.mark.Mark.TheVariants as the
 use Rattle.spec_trace.specs.declared.mark.Mark.{Mark}
 use Rattle.std.specs.Map.{keys_of}
 use Rattle.std.specs.Option.{IsSomeAnd}
-use Rattle.std.specs.Prelude.{Bool, IsTrue, List, None, Option, Some, false, length, true, ℕ, ◌+◌, ◌<◌, ◌^◌, ◌≡◌, ◌≢◌, ◌≤◌, ◌⊎◌}
+use Rattle.std.specs.Prelude.{List, None, Option, Some, false, length, true, ℕ, ◌+◌, ◌<◌, ◌^◌, ◌≡◌, ◌≢◌, ◌≤◌, ◌⊎◌}
 use Rattle.thor_value.specs.FiniteMap.{has}
-use Rattle.thor_value.specs.declared.names.Oref.{Oref}
 use Rattle.thor_value.specs.declared.names.Ts.{Ts}
 use Rattle.repo_trace.specs.Recorded.{with_entry}
 use Rattle.two_phase.specs.Contents.{open_at}
@@ -39,14 +38,14 @@ use Rattle.repo_volatile.specs.Volatile.{Outlasts, verdict}
 
 -- ---- entries
 
--- A request comes that is accepted by what is in memory, and its sender vouches for it: it is the session's client, it
--- knows no place that isn't there, and what it created stands on pages that were granted to its session.
+-- A request comes that is accepted by what is in memory, and it owes nothing by itself: its sender is the session's client
+-- and knows no place that isn't there, and what it writes stands on pages that were granted and that its session has.
 pub record RequestIsMade (b : Base) (x : Repository) (q : Request) : Type 0 where
   pub accepted : IsAccepted b x.trace x.held x.memory q.session q
   pub vouched : IsVouched b x.trace x.held q
   pub client : IsSomeAnd (session b (trace_of x.trace) q.session) (λ v. v.client ≡ q.who.client)
   pub upto : q.upto ≤ length x.trace.history
-  pub granted : (n : Oref) → IsTrue (has_created q n) → IsTrue (has_written q n) → IsTrue (was_granted (trace_of x.trace) q.session n.page)
+  pub paged : WritesOnPages b (trace_of x.trace) q.session q
 
 -- a session decides what it has prepared here, and this repository coordinates it
 pub record DecisionIsMade (b : Base) (x : Repository) (t : Ts) : Type 0 where
@@ -115,7 +114,6 @@ WasRefused b x s (Some q) r = (q.session ≡ s) × RequestRefused b x q r
 
 -- what the call of a mark has found, and what becomes of the sessions
 abbrev pub MayMark : Base → Repository → Mark → Kept → Type 0
-MayMark b x (the.Entry place) K = ⊥
 MayMark b x (the.Connected s client) K = (s ≡ x.memory.sessions.last + 1) × (s < 2 ^ 32) × (K ≡ begun x.memory.sessions client s)
 MayMark b x (the.Fetched s page upto) K =
     (is_live x.memory.sessions s ≡ true)

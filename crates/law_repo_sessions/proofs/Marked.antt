@@ -128,7 +128,6 @@ agree_behind b T i K L n a h = record {
 
 -- the mark is of no session's pages and messages
 abbrev pub IsNote : Mark → Type 0
-IsNote (the.Entry k) = ⊥
 IsNote (the.Connected n c) = ⊥
 IsNote (the.Fetched n page upto) = ⊥
 IsNote (the.Granted n page) = ⊥
@@ -138,7 +137,6 @@ IsNote (the.Forgot t) = Unit {0}
 IsNote (the.Refused n q r) = Unit {0}
 
 note_quiet : (s : ℕ) (m : Mark) → IsNote m → IsQuiet s m
-note_quiet s (the.Entry k) h = tt
 note_quiet s (the.Connected n c) h = h
 note_quiet s (the.Fetched n page upto) h = absurd h
 note_quiet s (the.Granted n page) h = absurd h
@@ -148,7 +146,6 @@ note_quiet s (the.Forgot t) h = tt
 note_quiet s (the.Refused n q r) h = tt
 
 note_begins_none : (m : Mark) → IsNote m → IsNoBeginning (M m)
-note_begins_none (the.Entry k) h = tt
 note_begins_none (the.Connected n c) h = h
 note_begins_none (the.Fetched n page upto) h = tt
 note_begins_none (the.Granted n page) h = tt

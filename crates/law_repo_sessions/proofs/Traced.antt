@@ -45,7 +45,6 @@ none_lives b s S i (Some v) h = ap (λ (w : Session). session_lives w) (rests b 
 
 -- the mark is none of the session's, and no client connects at it
 abbrev pub IsQuiet : ℕ → Mark → Type 0
-IsQuiet s (the.Entry k) = Unit {0}
 IsQuiet s (the.Connected n c) = ⊥
 IsQuiet s (the.Fetched n page upto) = nat_eq n s ≡ false
 IsQuiet s (the.Granted n page) = nat_eq n s ≡ false
@@ -58,7 +57,6 @@ pub as_live : (v : Session) → session_lives v ≡ true → record v { stage = 
 as_live v h = ap (λ (t : Stage). record v { stage = t }) (sym (live_stage v.stage h))
 
 quiet_moved : (b : Base) (s : ℕ) (S : State) (v : Session) (m : Mark) → IsQuiet s m → session_lives v ≡ true → moved b s S v (M m) ≡ v
-quiet_moved b s S v (the.Entry k) h l = as_live v l
 quiet_moved b s S v (the.Connected n c) h l = absurd h
 quiet_moved b s S v (the.Fetched n page upto) h l =
     ap (λ (t : Bool). record { client = v.client; stage = Live; began = v.began; pages = cond t (cache v.pages page S.length) v.pages; acked = cond t (max v.acked upto) v.acked; sent = push v.sent (cond t (Some (Page page S.length)) None); taken = v.taken }) h
@@ -74,7 +72,6 @@ quiet_moved b s S v (the.Forgot t) h l = as_live v l
 quiet_moved b s S v (the.Refused n q r) h l = as_live v l
 
 quiet_rested : (s : ℕ) (v : Session) (m : Mark) → IsQuiet s m → rested v (M m) ≡ v
-quiet_rested s v (the.Entry k) h = refl
 quiet_rested s v (the.Connected n c) h = absurd h
 quiet_rested s v (the.Fetched n page upto) h = refl
 quiet_rested s v (the.Granted n page) h = refl
@@ -94,7 +91,6 @@ quiet_met b s S m (Some v) q h = ap (λ (w : Session). Some w) (by (session_live
 -- no client connects at the item
 abbrev pub IsNoBeginning : Item → Type 0
 IsNoBeginning (E e) = Unit {0}
-IsNoBeginning (M (the.Entry k)) = Unit {0}
 IsNoBeginning (M (the.Connected n c)) = ⊥
 IsNoBeginning (M (the.Fetched n page upto)) = Unit {0}
 IsNoBeginning (M (the.Granted n page)) = Unit {0}
@@ -105,7 +101,6 @@ IsNoBeginning (M (the.Refused n q r)) = Unit {0}
 
 pub met : (b : Base) (s : ℕ) (S : State) (o : Option Session) (i : Item) → IsNoBeginning i → meet b s S o i ≡ option_map (move b s S i) o
 met b s S o (E e) h = refl
-met b s S o (M (the.Entry k)) h = refl
 met b s S o (M (the.Connected n c)) h = absurd h
 met b s S o (M (the.Fetched n page upto)) h = refl
 met b s S o (M (the.Granted n page)) h = refl
@@ -116,7 +111,6 @@ met b s S o (M (the.Refused n q r)) h = refl
 
 pub uncounted : (i : Item) → IsNoBeginning i → connected_at i ≡ 0
 uncounted (E e) h = refl
-uncounted (M (the.Entry k)) h = refl
 uncounted (M (the.Connected n c)) h = absurd h
 uncounted (M (the.Fetched n page upto)) h = refl
 uncounted (M (the.Granted n page)) h = refl
@@ -126,7 +120,6 @@ uncounted (M (the.Forgot t)) h = refl
 uncounted (M (the.Refused n q r)) h = refl
 
 quiet_begins_none : (s : ℕ) (m : Mark) → IsQuiet s m → IsNoBeginning (M m)
-quiet_begins_none s (the.Entry k) h = tt
 quiet_begins_none s (the.Connected n c) h = absurd h
 quiet_begins_none s (the.Fetched n page upto) h = tt
 quiet_begins_none s (the.Granted n page) h = tt

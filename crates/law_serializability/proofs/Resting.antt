@@ -119,6 +119,9 @@ module _ (S : Several) (r : ℕ) (e : Entry) (sd : AreSound S) (go : Continues S
     undue = λ n v x o is read there.
         let g = before n v is in
         h.undue n g.0 x o g.1 (ap (λ (q : Request). has_read q x) (sym g.2.request) ∙ read) (sym (same_at n g.0 v x g.1 g.2) ∙ there);
+    unborn = λ n v x is new wrote.
+        let g = before n v is in
+        same_at n g.0 v x g.1 g.2 ∙ h.unborn n g.0 x g.1 new (ap (λ (q : Request). has_written q x) (sym g.2.request) ∙ wrote);
     distinct = h.distinct;
     created = λ x new. ap (λ (q : Request). has_written q x) (whole-stays S r e sd go t w prepared) ∙ h.created x new;
   }

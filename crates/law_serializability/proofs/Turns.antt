@@ -100,7 +100,7 @@ module _ (s : Schemas) (items : Who → What) (roots : List Root) (S : Several) 
         let o : Known = k.0 in
         let here : has_created o.request x ≡ true = ap (λ (ns : List Oref). list_any (same_oref x) ns) (al x.repo t o w k.1 h.there).fresh ∙ new in
         joins-behind S sd at al L opening.objects opening.texts done (commit ∷ rest) c x (in-range S sd x.repo t o k.1)
-        ∙ fresh-at-turn S at sd done rest commit c x.repo o x k.1 here k.2
+        ∙ fresh-at-turn S at sd done rest commit c x.repo o x k.1 here k.2 (rests.unborn x.repo o x k.1 new k.2)
       where
         both : (o : Option Obj) → option_or o None ≡ o
         both None = refl

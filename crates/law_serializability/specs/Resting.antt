@@ -72,6 +72,9 @@ pub record TxRests (s : Schemas) (items : Who → What) (S : Several) (t : Ts) (
   pub runs : (M : Plain) → PlainMet S t q M → IsSomeAnd (run_on s M tx q.fresh) (RanAs S t q)
   pub undue : (r : ℕ) (o : Known) (x : Oref) (v : Obj) → part S r t ≡ Some o → has_read o.request x ≡ true
       → get (objects_at (S.base r) (S.history r) o.place) x ≡ Some v → is_due s q.epoch v ≡ false
+  -- what it created wasn't there
+  pub unborn : (r : ℕ) (o : Known) (x : Oref) → part S r t ≡ Some o → has_created q x ≡ true → has_written o.request x ≡ true
+      → get (objects_at (S.base r) (S.history r) o.place) x ≡ None
   pub distinct : IsDistinct same_oref q.fresh
   pub created : (x : Oref) → has_created q x ≡ true → has_written (whole S t q) x ≡ true
 

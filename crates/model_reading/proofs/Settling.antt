@@ -121,7 +121,6 @@ meet_is o s S (Some v) e = rw (moves o s S v e) refl
 
 notes : (o : Opening) (s : ℕ) (S : State) (v : Option Session) (m : Mark) → option_map (move (base_of o) s S (M m)) v ≡ option_map (noted_with s S.length m) v
 notes o s S None m = refl
-notes o s S (Some v) (the.Entry p) = refl
 notes o s S (Some v) (the.Connected n c) = refl
 notes o s S (Some v) (the.Fetched n page upto) = refl
 notes o s S (Some v) (the.Granted n page) = refl
@@ -131,7 +130,6 @@ notes o s S (Some v) (the.Forgot t) = refl
 notes o s S (Some v) (the.Refused n q r) = refl
 
 meets : (o : Opening) (s : ℕ) (S : State) (v : Option Session) (m : Mark) → meet (base_of o) s S v (M m) ≡ met_mark s S.length v m
-meets o s S v (the.Entry p) = notes o s S v (the.Entry p)
 meets o s S v (the.Connected n c) = ap (λ (w : Option Session). cond (nat_eq n s) (Some (begun c S.length)) w) (notes o s S v (the.Connected n c))
 meets o s S v (the.Fetched n page upto) = notes o s S v (the.Fetched n page upto)
 meets o s S v (the.Granted n page) = notes o s S v (the.Granted n page)

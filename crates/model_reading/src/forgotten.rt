@@ -14,8 +14,7 @@ fn forgets_by(mark: &Mark, tx: Ts) -> bool
 {
     match mark {
         Mark::Forgot { tx: other } => tx.cmp(other).is_eq(),
-        Mark::Entry { .. }
-        | Mark::Connected { .. }
+        Mark::Connected { .. }
         | Mark::Fetched { .. }
         | Mark::Granted { .. }
         | Mark::Took { .. }

@@ -160,11 +160,8 @@ impl Reading {
                 self.next_page = self.next_page.max(u64::from(*page) + 1);
             }
             Mark::Drew { ts, .. } => self.drawn = ts.time,
-            Mark::Entry { .. }
-            | Mark::Fetched { .. }
-            | Mark::Took { .. }
-            | Mark::Forgot { .. }
-            | Mark::Refused { .. } => {}
+            Mark::Fetched { .. } | Mark::Took { .. } | Mark::Forgot { .. } | Mark::Refused { .. } =>
+                {}
         }
     }
 }

@@ -213,8 +213,7 @@ impl Session {
                 }
                 Ok(())
             }
-            Mark::Entry { .. }
-            | Mark::Connected { .. }
+            Mark::Connected { .. }
             | Mark::Drew { .. }
             | Mark::Forgot { .. }
             | Mark::Refused { .. } => Ok(()),
@@ -355,8 +354,7 @@ fn mark_lives_on(client: u8, mark: &Mark) -> bool
 {
     match mark {
         Mark::Connected { client: other, .. } => *other != client,
-        Mark::Entry { .. }
-        | Mark::Fetched { .. }
+        Mark::Fetched { .. }
         | Mark::Granted { .. }
         | Mark::Took { .. }
         | Mark::Drew { .. }

@@ -6,7 +6,7 @@ use Rattle.model_repository.specs.declared.site.Left.TheVariants as left
 use Rattle.model_repository.specs.declared.site.Left.{Left}
 use Rattle.model_repository.specs.declared.site.Site.{Site}
 use Rattle.client_port.specs.Growing.{Called, Grew}
-use Rattle.client_port.specs.Views.{Calm, Came, Halted, MayCome, Opened, Unsettled, View}
+use Rattle.client_port.specs.Views.{Calm, Halted, MayCome, Opened, Unsettled, View}
 use Rattle.client_port.specs.Works.{Answered, Does, IsDown}
 use Rattle.law_client_views.proofs.Grown.{none_grew}
 use Rattle.law_client_views.proofs.Stopping.{does_down}
@@ -43,11 +43,6 @@ not_calm c left.Up d e = cc
 not_calm c (left.Pending n f) d e = by (nat_eq n c) e
   where
     by : (t : Bool) → cond t (MayCome f) Halted ≡ Calm → ⊥
-    by true g = cc
-    by false g = cc
-not_calm c (left.Came n) d e = by (nat_eq n c) e
-  where
-    by : (t : Bool) → cond t Came Halted ≡ Calm → ⊥
     by true g = cc
     by false g = cc
 not_calm c left.Down d e = cc
@@ -105,7 +100,6 @@ module _ (bases : ℕ → Base) (c : ℕ) (sites : List Site) (r : ℕ) (old new
     down_so : (u : Unsettled) (T : List Item) → u ≢ Calm → IsDown r result → T ≡ trace_in old → Answered r result u (trace_in old) T u (work (bases r) (trace_in old) T u)
     down_so Calm T other d e = absurd (other refl)
     down_so (MayCome f) T other d e = (d, e, refl)
-    down_so Came T other d e = (d, e, refl)
     down_so Halted T other d e = (d, e, refl)
 
     -- what is unsettled stays

@@ -20,7 +20,6 @@ use Rattle.repo_refusals.specs.declared.refusal.Refusal.{Refusal}
 pub up_calm : (c : ℕ) (l : Left) → is_down l ≡ false → unsettled_of c l ≡ Calm
 up_calm c left.Up e = refl
 up_calm c (left.Pending n f) e = cc
-up_calm c (left.Came n) e = cc
 up_calm c left.Down e = cc
 
 pub if_down : (t : Bool) (down up : Type 0) → t ≡ true → down → IfDown t down up

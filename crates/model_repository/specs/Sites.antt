@@ -8,7 +8,7 @@ use Rattle.model_reading.specs.declared.item.Item.TheVariants as items
 use Rattle.model_repository.specs.declared.site.Left.TheVariants as left
 use Rattle.model_repository.specs.declared.site.Left.{Left}
 use Rattle.model_repository.specs.declared.site.Site.{Site}
-use Rattle.client_port.specs.Views.{Calm, Came, Halted, MayCome, Unsettled, View}
+use Rattle.client_port.specs.Views.{Calm, Halted, MayCome, Unsettled, View}
 use Rattle.client_port.specs.Works.{IsDown}
 use Rattle.spec_trace.specs.Gaps.{maker}
 use Rattle.spec_trace.specs.Trace.{E, Item}
@@ -22,13 +22,11 @@ use Rattle.repo_refusals.specs.declared.refusal.Refusal.{Refusal}
 abbrev pub unsettled_of : ℕ → Left → Unsettled
 unsettled_of c left.Up = Calm
 unsettled_of c (left.Pending n e) = cond (nat_eq n c) (MayCome e) Halted
-unsettled_of c (left.Came n) = cond (nat_eq n c) Came Halted
 unsettled_of c left.Down = Halted
 
 abbrev pub is_down : Left → Bool
 is_down left.Up = false
 is_down (left.Pending n e) = true
-is_down (left.Came n) = true
 is_down left.Down = true
 
 -- the trace of a repository
@@ -108,5 +106,4 @@ back c (items.Mark m) = left.Down
 abbrev pub MayRecover : Base → ℕ → List Item → Left → Type 0
 MayRecover b c T left.Up = Unit {0}
 MayRecover b c T (left.Pending n e) = (is_life e ≡ false) × (nat_eq n c ≡ false → maker b T (E e) ≢ Some c)
-MayRecover b c T (left.Came n) = Unit {0}
 MayRecover b c T left.Down = Unit {0}

@@ -56,7 +56,7 @@ impl Site {
     {
         match self.items.push(Item::Entry { entry }) {
             Ok(()) => {
-                self.leave(Left::Came { client });
+                self.leave(Left::Down);
                 Ok(())
             }
             Err(full) => {

@@ -24,12 +24,7 @@ pub enum Left {
         /// The entry.
         entry: Entry,
     },
-    /// That entry has come. It is down.
-    Came {
-        /// The client whose call it was.
-        client: u8,
-    },
-    /// It is down.
+    /// It is down, and nothing of a call may still come.
     Down,
 }
 
@@ -50,7 +45,7 @@ impl Site {
     {
         match &self.left {
             Left::Up => false,
-            Left::Pending { .. } | Left::Came { .. } | Left::Down => true,
+            Left::Pending { .. } | Left::Down => true,
         }
     }
 

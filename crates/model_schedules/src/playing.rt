@@ -101,7 +101,7 @@ impl World {
         match self.port.sites.get(usize::from(repo)) {
             Some(site) => match &site.left {
                 Left::Pending { .. } => true,
-                Left::Up | Left::Came { .. } | Left::Down => false,
+                Left::Up | Left::Down => false,
             },
             None => false,
         }

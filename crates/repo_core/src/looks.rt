@@ -16,7 +16,7 @@ use crate::repo::Repo;
 use disk_trait::{Fused, Parts};
 use log_entries::Entry;
 use repo_state::HeldState;
-use spec_trace::Mark;
+use spec_trace::KeptItem;
 use thor_value::{Oref, Ts};
 use two_phase::Table;
 
@@ -52,7 +52,7 @@ impl<P: Parts> Repo<P> {
     }
 
     /// The items of its trace since it was opened, in order.
-    pub fn marks(&self) -> &[Mark]
+    pub fn marks(&self) -> &[KeptItem]
         ensures { result.now ≡ self.now.trace.marks }
     {
         self.trace.marks()

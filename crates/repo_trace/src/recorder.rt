@@ -3,7 +3,7 @@ ghost use Rattle.repo_trace.specs.Recorded.{nothing, with_entry, with_mark};
 
 use crate::trace::{Entries, Marks, Trace};
 use log_entries::Entry;
-use spec_trace::Mark;
+use spec_trace::{KeptItem, Mark};
 use std::alloc::Global;
 use std::marker::Model;
 use thor_value::NoMemory;
@@ -12,7 +12,7 @@ use thor_value::NoMemory;
 #[derive(Drop)]
 pub struct Recorder {
     history: Vec<Entry>,
-    marks: Vec<Mark>,
+    marks: Vec<KeptItem>,
 }
 
 impl Model for Recorder {
@@ -42,7 +42,7 @@ impl Recorder {
     }
 
     /// The items of the trace.
-    pub fn marks(&self) -> &[Mark]
+    pub fn marks(&self) -> &[KeptItem]
         ensures { result.now ≡ self.now.marks }
     {
         self.marks.as_slice()
@@ -60,7 +60,7 @@ impl Recorder {
         ensures ok { OnOk result (self.new ≡ with_mark self.old mark) }
         ensures err { OnErr result (self.new ≡ self.old) }
     {
-        self.marks.push(mark)?;
+        self.marks.push(KeptItem::Mark { mark })?;
         Ok(())
     }
 
@@ -82,7 +82,7 @@ impl Recorder {
         ensures err { OnErr result (self.new ≡ self.old) }
     {
         let place = self.place();
-        if self.marks.push(Mark::Entry { place }).is_err() {
+        if self.marks.push(KeptItem::Entry { place }).is_err() {
             return Err(entry);
         }
         match self.history.push(entry) {

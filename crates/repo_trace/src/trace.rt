@@ -1,12 +1,12 @@
 use log_entries::Entry;
-use spec_trace::Mark;
+use spec_trace::KeptItem;
 use thor_value::Sequence;
 
 /// Entries of a history.
 pub type Entries = Sequence<Entry>;
 
-/// Marks of a trace.
-pub type Marks = Sequence<Mark>;
+/// The items of a trace as they are kept beside its history.
+pub type Marks = Sequence<KeptItem>;
 
 /// What happened at a repository since it was opened: the entries of its history, and the marks, among
 /// which each entry is named by its place.

@@ -135,6 +135,7 @@ first-rests = record {
   item = refl;
   runs = runs;
   undue = λ r v x w is read stands. none-due w;
+  unborn = λ r v x is new wrote. cc;
   distinct = none-twice;
   created = λ x h. cc;
 }
@@ -204,6 +205,7 @@ last-rests = record {
   item = refl;
   runs = runs;
   undue = undue;
+  unborn = λ r v x is new wrote. cc;
   distinct = none-twice;
   created = λ x h. cc;
 }

@@ -4,7 +4,7 @@ use cluster_core::Seat;
 use disk_trait::Parts;
 use repo_core::Repo;
 use schedule::EventKind;
-use simulation_events::{Coverage, Deed, deed_of_mark, event_number};
+use simulation_events::{Coverage, Deed, deed_of_item, event_number};
 use std::alloc::Global;
 use thor_value::NoMemory;
 
@@ -122,8 +122,8 @@ impl Watch {
         };
         let marks = repo.marks();
         let mut last = before;
-        for mark in marks.iter().skip(seen.marks) {
-            last = deed_of_mark(mark, repo.history());
+        for item in marks.iter().skip(seen.marks) {
+            last = deed_of_item(item, repo.history());
             coverage.take_deed(event_number(kind), last);
             coverage.note(self.client, repo.number(), last)?;
         }

@@ -5,7 +5,7 @@ use log_entries::Entry;
 use repo_refusals::Refusal;
 use schedule::EventKind;
 use serial_model::Cause;
-use spec_trace::Mark;
+use spec_trace::{KeptItem, Mark};
 
 /// How many kinds of events there are, turns behind the last event included.
 pub const EVENTS: usize = 8;
@@ -226,13 +226,20 @@ pub(crate) fn deed_of_cause(cause: Cause) -> Deed {
     }
 }
 
-/// What a mark is, by the entries of its history.
-pub fn deed_of_mark(mark: &Mark, history: &[Entry]) -> Deed {
-    match mark {
-        Mark::Entry { place } => match history.get(*place as usize) {
+/// What an item of a trace is, by the entries of its history.
+pub fn deed_of_item(item: &KeptItem, history: &[Entry]) -> Deed {
+    match item {
+        KeptItem::Entry { place } => match history.get(*place as usize) {
             Some(entry) => deed_of_entry(entry),
             None => Deed::Nothing,
         },
+        KeptItem::Mark { mark } => deed_of_mark(mark),
+    }
+}
+
+/// What a mark is.
+fn deed_of_mark(mark: &Mark) -> Deed {
+    match mark {
         Mark::Connected { .. } => Deed::Connected,
         Mark::Fetched { .. } => Deed::Fetched,
         Mark::Granted { .. } => Deed::Granted,

@@ -6,5 +6,5 @@ mod deeds;
 mod reading;
 
 pub use coverage::{Coverage, Totals};
-pub use deeds::{DEEDS, Deed, EVENTS, deed_of_mark, deed_word, event_number, event_word};
+pub use deeds::{DEEDS, Deed, EVENTS, deed_of_item, deed_word, event_number, event_word};
 pub use reading::{events_of, own_script};

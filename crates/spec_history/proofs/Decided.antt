@@ -4,11 +4,11 @@ use Rattle.log_entries.specs.declared.entry.Entry.{Entry}
 use Rattle.log_entries.specs.declared.request.Request.{Request}
 use Rattle.spec_history.proofs.FormDecided.{decides_form}
 use Rattle.spec_history.proofs.Steps.{by_settling}
-use Rattle.spec_history.proofs.Tests.{decides_all, decides_empty, decides_eq, decides_false, decides_if, decides_le, decides_less, decides_lt, decides_none, decides_not, decides_or, decides_some, decides_true, turned, ◌also◌}
-use Rattle.spec_history.specs.Checking.{answers_nothing, each_known, has_participants, is_accepted, is_admitted, is_alone, is_bare_upgrade, is_committed, is_kept_by, is_live, is_new, is_owed, is_sound, is_there, is_vouched, settles_so}
+use Rattle.spec_history.proofs.Tests.{decides_all, decides_empty, decides_eq, decides_false, decides_if, decides_le, decides_less, decides_lt, decides_none, decides_not, decides_or, decides_true, turned, ◌also◌}
+use Rattle.spec_history.specs.Checking.{answers_nothing, each_known, has_participants, is_accepted, is_admitted, is_alone, is_bare_upgrade, is_committed, is_kept_by, is_live, is_owed, is_sound, is_vouched, settles_so}
 use Rattle.spec_history.specs.History.{Aborted, Base, Committed, Fate, IsCommitted, LeftOver, Lives, Open, Known, State, epoch_of, is_undecided, or_lost, put, settle, known_in, start, state, undecided_in}
 use Rattle.spec_history.specs.Participants.{HasParticipants, IsAlone, IsBareUpgrade, takes_part}
-use Rattle.spec_history.specs.Requests.{bars, has_created, has_read, has_written, is_upgrade, overwrites, written}
+use Rattle.spec_history.specs.Requests.{bars, has_read, has_written, is_upgrade, overwrites, written}
 use Rattle.spec_history.specs.Sound.{Accepts, Admits, Vouches, kept_by, owes, sound}
 use Rattle.std.proofs.Common.{List, [], ap, arith, cond, inl, inr, length, refl, subst, suc, sym, ℕ, ◌+◌, ◌<◌, ◌≡◌, ◌∙◌, ◌∷◌}
 use Rattle.std.proofs.lemmas.Cmp.{eq_by_cmp_equiv, tied_itself}
@@ -21,9 +21,9 @@ use Rattle.std.specs.Bool.{Decides}
 use Rattle.std.specs.List.{Contains, fold, list_all, list_any, range_with_len}
 use Rattle.std.specs.List.Sorted.{IsStrictlySortedBy}
 use Rattle.std.specs.Map.{lookup}
-use Rattle.std.specs.Option.{IfSome, IsSome, IsSomeAnd, is_some, option_map}
+use Rattle.std.specs.Option.{IfSome, IsSomeAnd, is_some, option_map}
 use Rattle.std.specs.Ordering.{is_eq}
-use Rattle.std.specs.Prelude.{Bool, IsTrue, None, Option, Some, false, nat_eq, not, true, ◌&&◌, ◌||◌, ◌⊎◌}
+use Rattle.std.specs.Prelude.{Bool, IsTrue, None, Option, Some, false, nat_eq, true}
 use Rattle.thor_value.proofs.FiniteMap.{IsSorted-insert}
 use Rattle.thor_value.proofs.NameOrders.{oref_exact, oref_total, ts_exact, ts_total}
 use Rattle.thor_value.specs.FiniteMap.{IsSorted, get, keys, len}
@@ -113,21 +113,6 @@ module _ (b : Base) where
         (d e.0 (or_lost b S e.0 e.1)).1 p)),
   )
 
-  IsNew : State → Request → Oref → Type 0
-  IsNew S q x = IsTrue (has_created q x) → (get S.objects x ≡ None) × ((t : Ts) → IfSome (known_in b S t) (λ o. has_written o.request x ≡ false))
-
-  decides_new : (S : State) (q : Request) → IsSorted S.known → (x : Oref) → Decides (is_new b S q x) (IsNew S q x)
-  unfolding IsNew
-  decides_new S q sorted x = decides_if _ _ (decides_true (has_created q x))
-      (decides_none (get S.objects x) also decides_known S (λ t o. not (has_written o.request x)) (λ t o. has_written o.request x ≡ false) sorted (λ t o. decides_false (has_written o.request x)))
-
-  decides_there : (S : State) (q : Request) (x : Oref) → Decides (is_there b S q x) (has_created q x ≡ false → IsSome (get S.objects x))
-  decides_there S q x = by (has_created q x)
-    where
-      by : (c : Bool) → Decides (c || is_some (get S.objects x)) (c ≡ false → IsSome (get S.objects x))
-      by true = ((λ e f. cc), (λ h. refl))
-      by false = turned (decides_some (get S.objects x)) (λ h e. h) (λ f. f refl)
-
   decides_participants : (q : Request) → Decides (has_participants b q) (HasParticipants b q)
   decides_participants q = turned
       (decides_all (λ n. decides_lt n b.repos also decides_not _ (decides_eq n b.repo)) q.others
@@ -148,38 +133,32 @@ module _ (b : Base) where
       (λ p. record { reads = p.0.0.0.0; writes = p.0.0.0.1; creates = p.0.0.1; answers = p.0.1; wide = p.1 })
       (λ h. ((((h.reads, h.writes), h.creates), h.answers), h.wide))
 
-  decides_vouched : (S : State) (q : Request) → IsSorted S.known → Decides (is_vouched b S q) (Vouches b S q)
-  unfolding IsNew
-  decides_vouched S q sorted = turned
+  decides_vouched : (S : State) (q : Request) → Decides (is_vouched b S q) (Vouches b S q)
+  decides_vouched S q = turned
       (decides_form q also decides_lt 0 S.length also decides_none (known_in b S q.tx) also decides_none (get b.left q.tx)
       also decides_if _ _ (decides_eq q.tx.repo b.repo) (decides_eq q.tx.life S.life)
       also decides_participants q
       also decides_written (has_read q) (λ x. IsTrue (has_read q x)) q (λ x. decides_true (has_read q x))
       also decides_each (λ x. nat_eq x.repo b.repo) (λ x. x.repo ≡ b.repo) q.ros (λ x. decides_eq x.repo b.repo)
       also decides_all (λ w. decides_eq w.1.ver q.epoch) q.writes
-      also decides_if _ _ (decides_true (is_upgrade q)) (decides_bare q)
-      also decides_if _ _ (decides_true b.tells) (decides_written (is_there b S q) (λ x. has_created q x ≡ false → IsSome (get S.objects x)) q (decides_there S q))
-      also decides_written (is_new b S q) (IsNew S q) q (decides_new S q sorted))
+      also decides_if _ _ (decides_true (is_upgrade q)) (decides_bare q))
       (λ p. record {
-        formed = p.0.0.0.0.0.0.0.0.0.0.0;
-        begun = p.0.0.0.0.0.0.0.0.0.0.1;
-        once = p.0.0.0.0.0.0.0.0.0.1;
-        unleft = p.0.0.0.0.0.0.0.0.1;
-        alive = p.0.0.0.0.0.0.0.1;
-        participants = p.0.0.0.0.0.0.1;
-        within = p.0.0.0.0.0.1;
-        here = p.0.0.0.0.1;
-        versions = p.0.0.0.1;
-        upgrades = p.0.0.1;
-        known = p.0.1;
-        unused = λ x c w. (p.1 x w c).0;
-        unwritten = λ x c w. (p.1 x w c).1;
+        formed = p.0.0.0.0.0.0.0.0.0;
+        begun = p.0.0.0.0.0.0.0.0.1;
+        once = p.0.0.0.0.0.0.0.1;
+        unleft = p.0.0.0.0.0.0.1;
+        alive = p.0.0.0.0.0.1;
+        participants = p.0.0.0.0.1;
+        within = p.0.0.0.1;
+        here = p.0.0.1;
+        versions = p.0.1;
+        upgrades = p.1;
       })
-      (λ v. (((((((((((v.formed, v.begun), v.once), v.unleft), v.alive), v.participants), v.within), v.here), v.versions), v.upgrades), v.known), (λ x w c. (v.unused x c w, v.unwritten x c w))))
+      (λ v. (((((((((v.formed, v.begun), v.once), v.unleft), v.alive), v.participants), v.within), v.here), v.versions), v.upgrades))
 
   decides_admitted : (S : State) (q : Request) → IsSorted S.known → Decides (is_admitted b S q) (Admits b S q)
   decides_admitted S q sorted = turned
-      (decides_vouched S q sorted also decides_eq q.epoch (epoch_of S) also decides_less (ts_cmp b.top q.tx) also decides_known S (is_accepted q) (Accepts q) sorted (λ t o. decides_accepted q t o)
+      (decides_vouched S q also decides_eq q.epoch (epoch_of S) also decides_less (ts_cmp b.top q.tx) also decides_known S (is_accepted q) (Accepts q) sorted (λ t o. decides_accepted q t o)
       also decides_lt (len (undecided_in b S)) room_for)
       (λ p. record { vouched = p.0.0.0.0; current = p.0.0.0.1; above = p.0.0.1; accepted = p.0.1; room = p.1 })
       (λ h. ((((h.vouched, h.current), h.above), h.accepted), h.room))

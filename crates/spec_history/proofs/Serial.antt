@@ -9,7 +9,7 @@ use Rattle.spec_history.specs.History.{Aborted, Base, Committed, CommittedBelow,
 use Rattle.spec_history.specs.Laws.{BothWrote, CreatedOnce, Creates, FateStays, Stays, UpgradesFence, WritersRise}
 use Rattle.spec_history.specs.Order.{HasOrder}
 use Rattle.spec_history.specs.Requests.{bars, has_read, has_written, overwrites}
-use Rattle.spec_history.specs.Sound.{Accepts, sound}
+use Rattle.spec_history.specs.Sound.{Accepts, each_creates_new, sound}
 use Rattle.std.proofs.Common.{◌≡◌, ◌≢◌, ◌≤◌, ◌<◌, ℕ, List, length, take, refl, ap, sym, ◌∙◌, subst, arith, inl, inr, ◌↔◌}
 use Rattle.std.proofs.lemmas.List.{length-take-le}
 use Rattle.std.proofs.lemmas.Option.{MatchOption-at_some, same_Some}
@@ -180,23 +180,24 @@ module _ (b : Base) (H : List Entry) (sd : sound b H) where
     after = λ u t w o r. fence u t w o r.upgrade r.there (λ e. r.other (sym e)) r.upgrade_lives r.other_lives (bars-upgrade w.request o.request r.is) (bars-behind_upgrade o.request w.request r.is);
   }
 
-  first_in_place : (t s : Ts) (o w : Known) (x : Oref) → Creates b H t o x → known_by b H s ≡ Some w → w.place < o.place → has_written w.request x ≡ false
-  first_in_place t s o w x r is l =
-      let p : o.place < length H = (fits b H sd t o r.there).below in
-      let y = stood b H sd o.place (omega arith) s w is l in
-      let st : Stays y.0 w = y.2 in
-      let h : has_written y.0.request x ≡ false = MatchOption-at_some ⊤ (λ v. has_written v.request x ≡ false) y.0 y.1 ((judged b H sd t o r.there).vouched.unwritten x r.fresh r.wrote s) in
-      subst (λ q. has_written q x ≡ false) (sym st.request) h
+  module _ (tells : IsTrue b.tells) (new : each_creates_new b H) where
+    first_in_place : (t s : Ts) (o w : Known) (x : Oref) → Creates b H t o x → known_by b H s ≡ Some w → w.place < o.place → has_written w.request x ≡ false
+    first_in_place t s o w x r is l =
+        let p : o.place < length H = (fits b H sd t o r.there).below in
+        let y = stood b H sd o.place (omega arith) s w is l in
+        let st : Stays y.0 w = y.2 in
+        let h : has_written y.0.request x ≡ false = MatchOption-at_some ⊤ (λ v. has_written v.request x ≡ false) y.0 y.1 ((new t o r.there).unwritten tells x r.fresh r.wrote s) in
+        subst (λ q. has_written q x ≡ false) (sym st.request) h
 
-  pub created_once : CreatedOnce b H
-  created_once = record {
-    unused = λ t o x r. (judged b H sd t o r.there).vouched.unused x r.fresh r.wrote;
-    first_by_place = first_in_place;
-    first_by_time = λ t s o w x r lo is lw e. elim (three_ways w.place o.place) [
-      | inl l ↦ first_in_place t s o w x r is l
-      | inr h ↦ elim h [
-        | inl same ↦ absurd (not_same s t e (one_at_a_place b H sd s t w o is r.there same))
-        | inr l ↦ false_from_ne_true (has_written w.request x) (λ wrote. not_both_ways s t e ((behind s t w o is r.there lo l).0 (bars-reads w.request o.request x (read_too s w x is wrote) r.wrote)).1)
-      ]
-    ];
-  }
+    pub created_once : CreatedOnce b H
+    created_once = record {
+      unused = λ t o x r. (new t o r.there).unused tells x r.fresh r.wrote;
+      first_by_place = first_in_place;
+      first_by_time = λ t s o w x r lo is lw e. elim (three_ways w.place o.place) [
+        | inl l ↦ first_in_place t s o w x r is l
+        | inr h ↦ elim h [
+          | inl same ↦ absurd (not_same s t e (one_at_a_place b H sd s t w o is r.there same))
+          | inr l ↦ false_from_ne_true (has_written w.request x) (λ wrote. not_both_ways s t e ((behind s t w o is r.there lo l).0 (bars-reads w.request o.request x (read_too s w x is wrote) r.wrote)).1)
+        ]
+      ];
+    }

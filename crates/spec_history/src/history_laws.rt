@@ -10,13 +10,13 @@ ghost use Rattle.spec_history.specs.History.{Base, Known, Open, commit_of, commi
 ghost use Rattle.spec_history.specs.Laws.{ComesFrom, CommitsListed, Continues, CreatedOnce, KeepsBase, LivesFollow, MadeByCommits, ReadsLast, Recorded, Stays, UpgradesAreBare, UpgradesFence, WritersRise};
 ghost use Rattle.spec_history.specs.Opening.{IsBase};
 ghost use Rattle.spec_history.specs.Order.{HasOrder};
-ghost use Rattle.spec_history.specs.Sound.{Accepts, Vouches, owes, sound};
+ghost use Rattle.spec_history.specs.Sound.{Accepts, Vouches, each_creates_new, owes, sound};
 ghost use Rattle.spec_history.specs.Participants.{IsAlone, IsShared};
 ghost use Rattle.spec_history.specs.Requests.{is_upgrade};
 ghost use Rattle.std.specs.Bool.{Decides};
 ghost use Rattle.std.specs.List.{filter};
 ghost use Rattle.std.specs.Option.{IfSome, IsSomeAnd, option_or};
-ghost use Rattle.std.specs.Prelude.{List, None, Option, [], ◌∷◌, ◌++◌, ℕ, ◌≡◌, ◌≢◌, ◌<◌, ◌≤◌, false, length, nat_lt, take, true};
+ghost use Rattle.std.specs.Prelude.{IsTrue, List, None, Option, [], ◌∷◌, ◌++◌, ℕ, ◌≡◌, ◌≢◌, ◌<◌, ◌≤◌, false, length, nat_lt, take, true};
 ghost use Rattle.thor_value.specs.FiniteMap.{Map, empty, get, overwrite};
 ghost use Rattle.thor_value.specs.Names.{Before, oref_cmp};
 ghost use Rattle.thor_value.specs.declared.names.Oref.{Oref};
@@ -123,9 +123,9 @@ pub fn bases_are_kept()
     ensures { (b : Base) (H : List Entry) → IsBase b → sound b H → KeepsBase b H }
 {}
 
-/// A created object wasn't there, and nobody before wrote it.
+/// Where each transaction gave new names at its place, a created object wasn't there, and nobody before wrote it.
 pub fn created_objects_are_new()
-    ensures { (b : Base) (H : List Entry) → sound b H → CreatedOnce b H }
+    ensures { (b : Base) (H : List Entry) → sound b H → IsTrue b.tells → each_creates_new b H → CreatedOnce b H }
 {}
 
 /// Sound histories have local order.

@@ -7,8 +7,8 @@ mod history_laws;
 mod outcome_laws;
 
 pub use history_examples::{
-    life_examples, mended_example, opening_examples, sound_examples, standing_examples,
-    unsound_examples, value_examples, vouching_examples,
+    created_name_examples, life_examples, mended_example, opening_examples, sound_examples,
+    standing_examples, unsound_examples, value_examples, vouching_examples,
 };
 pub use history_laws::{
     bases_are_kept, commits_make_the_state, created_objects_are_new, histories_are_checked,

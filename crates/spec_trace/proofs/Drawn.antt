@@ -74,7 +74,6 @@ module _ (b : Base) where
       let up = above drawn.time.0 (last_drawn b T) drawn.time.1 u.time drawn.time.2 in
       let low = p.low in
       record { low = omega arith; time = λ e. let j = p.time (e ∙ l) in omega arith }
-  past-on T (M (the.Entry n)) t ow k p = absurd k
   past-on T (M (the.Connected s c)) t ow k p = same-past T (M (the.Connected s c)) t (life-mark T (the.Connected s c)) (drawn-end T (M (the.Connected s c))) p
   past-on T (M (the.Fetched s page upto)) t ow k p = same-past T (M (the.Fetched s page upto)) t (life-mark T (the.Fetched s page upto)) (drawn-end T (M (the.Fetched s page upto))) p
   past-on T (M (the.Granted s page)) t ow k p = same-past T (M (the.Granted s page)) t (life-mark T (the.Granted s page)) (drawn-end T (M (the.Granted s page))) p

@@ -86,7 +86,6 @@ module _ (b : Base) where
       by : (t : Bool) → Says S.length (epoch_of S) (epoch_of S) (cond t (Some (Grant page S.length)) None)
       by true = (refl, refl)
       by false = refl
-  says s S pages (M (the.Entry k)) = refl
   says s S pages (M (the.Connected n c)) = refl
   says s S pages (M (the.Took n k)) = refl
   says s S pages (M (the.Drew n t)) = refl

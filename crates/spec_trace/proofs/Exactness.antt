@@ -86,7 +86,6 @@ base-page b T = rises granted_at b.next_page T
 grant-at : (s page : ℕ) (i : Item) → grants s page i ≡ true → granted_at i ≡ page + 1
 grant-at s page (M (the.Granted n k)) h = ap (λ m. m + 1) (eqb-true k page ((and_parts (nat_eq n s) (nat_eq k page) h).1))
 grant-at s page (E e) h = cc
-grant-at s page (M (the.Entry k)) h = cc
 grant-at s page (M (the.Connected n c)) h = cc
 grant-at s page (M (the.Fetched n k upto)) h = cc
 grant-at s page (M (the.Took n k)) h = cc
@@ -123,7 +122,6 @@ module _ (b : Base) where
       by true k e = let f : begun c S.length ≡ w = cc in inl (c, ap (λ m. M (the.Connected m c)) (eqb-true n s k), sym f)
       by false k e = moves s S (M (the.Connected n c)) o w e
   session-came s S o (E e) w h = moves s S (E e) o w h
-  session-came s S o (M (the.Entry k)) w h = moves s S (M (the.Entry k)) o w h
   session-came s S o (M (the.Fetched n page upto)) w h = moves s S (M (the.Fetched n page upto)) o w h
   session-came s S o (M (the.Granted n page)) w h = moves s S (M (the.Granted n page)) o w h
   session-came s S o (M (the.Took n k)) w h = moves s S (M (the.Took n k)) o w h

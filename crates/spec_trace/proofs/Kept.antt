@@ -1,11 +1,12 @@
 -- What a client knows and has of its session stays while it takes no message, and so do its copies.
 use Rattle.log_entries.specs.declared.entry.Entry.{Entry}
 use Rattle.log_entries.specs.declared.request.Request.{Request}
-use Rattle.spec_history.proofs.Growth.{objects_at-append}
+use Rattle.spec_history.proofs.Growth.{length-state, objects_at-append}
 use Rattle.spec_history.proofs.Listed.{commits-end}
+use Rattle.spec_trace.proofs.Before.{before-moved, no-taking}
 use Rattle.spec_trace.proofs.Sessions.{session-end}
 use Rattle.spec_trace.proofs.Traces.{entries-append}
-use Rattle.spec_trace.specs.Current.{InStep, OthersSince, OthersWrite, RightAt, commits_in, is_taking}
+use Rattle.spec_trace.specs.Current.{InStep, IsBefore, OthersSince, OthersWrite, RightAt, commits_in, is_taking}
 use Rattle.spec_history.specs.History.{Base, State, commit_of, commits, state, writers}
 use Rattle.spec_history.specs.Requests.{has_written}
 use Rattle.spec_trace.specs.Session.{Notice, Session, acked_after, begun, bound, cache, is_silent, meet, move, moved, notice, or_retired, pages_after, push, rested, retired, session, session_lives, taken_after, upto_of}
@@ -62,7 +63,6 @@ pub pages-extend : (s : ℕ) (S : State) (pages : Map nat_cmp ℕ) (i : Item) �
 pages-extend s S pages (E e) p c is = is
 pages-extend s S pages (M (the.Fetched n page upto)) p c is = cached-extends (nat_eq n s) pages page S.length p c is
 pages-extend s S pages (M (the.Granted n page)) p c is = cached-extends (nat_eq n s) pages page S.length p c is
-pages-extend s S pages (M (the.Entry k)) p c is = is
 pages-extend s S pages (M (the.Connected n d)) p c is = is
 pages-extend s S pages (M (the.Took n k)) p c is = is
 pages-extend s S pages (M (the.Drew n t)) p c is = is
@@ -70,17 +70,6 @@ pages-extend s S pages (M (the.Forgot t)) p c is = is
 pages-extend s S pages (M (the.Refused n q r)) p c is = is
 
 -- ---- what the client knows
-
-no-taking : (s taken : ℕ) (i : Item) → is_taking s i ≡ false → taken_after s taken i ≡ taken
-no-taking s taken (E e) h = refl
-no-taking s taken (M (the.Took n k)) h = ap (λ (t : Bool). cond t (taken + 1) taken) h
-no-taking s taken (M (the.Fetched n page upto)) h = refl
-no-taking s taken (M (the.Granted n page)) h = refl
-no-taking s taken (M (the.Entry k)) h = refl
-no-taking s taken (M (the.Connected n d)) h = refl
-no-taking s taken (M (the.Drew n t)) h = refl
-no-taking s taken (M (the.Forgot t)) h = refl
-no-taking s taken (M (the.Refused n q r)) h = refl
 
 take-push : (n : ℕ) (sent : List Notice) (o : Option Notice) → n ≤ length sent → take n (push sent o) ≡ take n sent
 take-push n sent None h = refl
@@ -131,7 +120,6 @@ meet-moves b s S v (M (the.Connected n c)) h = ap (λ (t : Bool). cond t (Some (
 meet-moves b s S v (M (the.Took n k)) h = refl
 meet-moves b s S v (M (the.Fetched n page upto)) h = refl
 meet-moves b s S v (M (the.Granted n page)) h = refl
-meet-moves b s S v (M (the.Entry k)) h = refl
 meet-moves b s S v (M (the.Drew n t)) h = refl
 meet-moves b s S v (M (the.Forgot t)) h = refl
 meet-moves b s S v (M (the.Refused n q r)) h = refl
@@ -151,13 +139,14 @@ some-and None w m f h = absurd h
 some-and (Some c) w m f h = rw (f c refl) h
 
 module _ (b : Base) where
-  right-same : (H : List Entry) (s : ℕ) (v w : Session) (x : Oref) (o : Obj) (m : ℕ) → Later v w → RightAt b H s v x o m → RightAt b H s w x o m
-  right-same H s v w x o m k h = record {
+  right-same : (H : List Entry) (s : ℕ) (v w : Session) (x : Oref) (o : Obj) (m : ℕ) → Later v w → IsBefore w x m → RightAt b H s v x o m → RightAt b H s w x o m
+  right-same H s v w x o m k before h = record {
     unknown = rw k.upto h.unknown;
     there = h.there;
     cached = some-and (get v.pages x.page) (get w.pages x.page) m (λ c is. k.pages x.page c is) h.cached;
     value = h.value;
     others = h.others;
+    before = before;
   }
 
   pub writers-end : (H : List Entry) (e : Entry) (x : Oref) → writers b (H ++ e ∷ []) x ≡ writers b H x ++ filter (λ c. has_written c.1 x) (commit_of b (state b H) e)
@@ -170,6 +159,7 @@ module _ (b : Base) where
     cached = h.cached;
     value = ap (λ (n : Map oref_cmp Obj). get n x) (objects_at-append b m H (e ∷ []) h.there) ∙ h.value;
     others = subst (OthersSince s m) (sym (writers-end H e x)) (All-append (λ c. m ≤ c.0 → nat_eq c.1.session s ≡ false) (writers b H x) (filter (λ c. has_written c.1 x) (commit_of b (state b H) e)) h.others (all-kept s x m (commit_of b (state b H) e) a));
+    before = h.before;
   }
 
   right-grown : (T : List Item) (i : Item) (s : ℕ) (v : Session) (x : Oref) (o : Obj) (m : ℕ) → OthersWrite s x (commits_in b (entries T) i) → RightAt b (entries T) s v x o m → RightAt b (entries (T ++ i ∷ [])) s v x o m
@@ -187,7 +177,9 @@ module _ (b : Base) where
   right-kept T i s v w x o m is then' step h a r =
       let e : w ≡ move b s (state b (entries T)) i v = next T i s v w is h then' in
       let k : Later v (move b s (state b (entries T)) i v) = move-later b s (state b (entries T)) i v step.taken h in
-      subst (λ (u : Session). RightAt b (entries (T ++ i ∷ [])) s u x o m) (sym e) (right-same (entries (T ++ i ∷ [])) s v (move b s (state b (entries T)) i v) x o m k (right-grown T i s v x o m a r))
+      let there : m ≤ (state b (entries T)).length = subst (λ (z : ℕ). m ≤ z) (sym (length-state b (entries T))) r.there in
+      let before : IsBefore (move b s (state b (entries T)) i v) x m = before-moved b s (state b (entries T)) i v x m h there r.before in
+      subst (λ (u : Session). RightAt b (entries (T ++ i ∷ [])) s u x o m) (sym e) (right-same (entries (T ++ i ∷ [])) s v (move b s (state b (entries T)) i v) x o m k before (right-grown T i s v x o m a r))
 
   move-acks : (s : ℕ) (S : State) (i : Item) (v : Session) → (n : ℕ) → acked_after s v.acked i ≤ n → v.acked ≤ n → (move b s S i v).acked ≤ n
   move-acks s S i v n p q = by (session_lives v)

@@ -3,6 +3,7 @@ pub mod Accepted
 pub mod Accepting
 pub mod Sessions
 pub mod Copies
+pub mod Before
 pub mod Kept
 pub mod Told
 pub mod Taken
@@ -17,5 +18,7 @@ pub mod Fences
 pub mod EpochsTold
 pub mod Thresholds
 pub mod Above
+pub mod WrittenPages
+pub mod ExactTraces
 pub mod OwnExample
 pub mod GapExample

@@ -11,7 +11,7 @@ use Rattle.spec_trace.proofs.Sessions.{session-end}
 use Rattle.spec_trace.proofs.Traces.{entries-append}
 use Rattle.spec_trace.proofs.Undecided.{current-grown, pages-grown}
 use Rattle.spec_trace.specs.Calls.{last_session}
-use Rattle.spec_trace.specs.Current.{InStep, NoneAborted, PassesItem, commits_in, is_taking}
+use Rattle.spec_trace.specs.Current.{InStep, NoPageWaits, NoneAborted, PassesItem, commits_in, is_taking}
 use Rattle.spec_trace.specs.Exact.{ItemIsExact, exact}
 use Rattle.spec_trace.specs.Gaps.{AreCurrent, ByOthers, GrowsByOthers, StaysOrEnds, client_in, commits_behind, maker}
 use Rattle.spec_history.specs.History.{Base, state}
@@ -21,9 +21,10 @@ use Rattle.spec_trace.specs.Session.{Session, acked_after, meet, move, session, 
 use Rattle.spec_history.specs.Sound.{sound}
 use Rattle.spec_trace.specs.Trace.{E, Item, M, entries}
 use Rattle.spec_trace.specs.declared.mark.Mark.TheVariants as the
+use Rattle.spec_trace.proofs.Before.{fetches, none-moved}
 use Rattle.std.proofs.Common.{Bool, List, [], ap, append_assoc, arith, cond, false, inl, inr, max, refl, subst, sym, true, ℕ, ◌++◌, ◌<◌, ◌≡◌, ◌≢◌, ◌≤◌, ◌∙◌, ◌∷◌}
 use Rattle.std.proofs.lemmas.Bool.{eqb-true}
-use Rattle.std.proofs.lemmas.List.Elements.{All-cons, All-head, All-nil, All-tail}
+use Rattle.std.proofs.lemmas.List.Elements.{All-cons, All-head, All-nil, All-tail, All-weaker}
 use Rattle.std.proofs.lemmas.List.{append-nil}
 use Rattle.std.specs.List.{All}
 use Rattle.std.specs.Option.{option_map}
@@ -32,6 +33,7 @@ use Rattle.thor_value.specs.FiniteMap.{Map, get}
 use Rattle.thor_value.specs.Names.{oref_cmp}
 use Rattle.thor_value.specs.declared.names.Ts.{Ts}
 use Rattle.thor_value.specs.declared.values.Obj.{Obj}
+use Rattle.thor_value.specs.declared.names.Oref.{Oref}
 
 module _ (b : Base) where
   -- what others made is no item of the session
@@ -51,7 +53,6 @@ module _ (b : Base) where
         by false e = e
         by true e = let low = known b T s v h in let same = eqb-true n s e in let up : last_session T < n = k.0 in absurd (omega arith)
     quiet (E e) other k = refl
-    quiet (M (the.Entry p)) other k = refl
     quiet (M (the.Fetched n page upto)) other k = refl
     quiet (M (the.Granted n page)) other k = refl
     quiet (M (the.Drew n t)) other k = refl
@@ -70,13 +71,23 @@ module _ (b : Base) where
     unacked (E (Finished t c)) other = refl
     unacked (E (Upgraded q)) other = by-other q.session (max v.acked q.upto) other
     unacked (M (the.Fetched n page upto)) other = by-other n (max v.acked upto) other
-    unacked (M (the.Entry p)) other = refl
     unacked (M (the.Connected n c)) other = refl
     unacked (M (the.Granted n page)) other = refl
     unacked (M (the.Took n place)) other = refl
     unacked (M (the.Drew n t)) other = refl
     unacked (M (the.Forgot t)) other = refl
     unacked (M (the.Refused n q r)) other = refl
+
+    -- it fetches no page for the session
+    unfetched : (i : Item) → maker b T i ≢ Some v.client → fetches s i ≡ false
+    unfetched (E e) other = refl
+    unfetched (M (the.Fetched n page upto)) other = apart T s n v h other
+    unfetched (M (the.Connected n c)) other = refl
+    unfetched (M (the.Granted n page)) other = refl
+    unfetched (M (the.Took n place)) other = refl
+    unfetched (M (the.Drew n t)) other = refl
+    unfetched (M (the.Forgot t)) other = refl
+    unfetched (M (the.Refused n q r)) other = refl
 
     -- behind an item that doesn't begin it anew the session is there
     goes-on : (i : Item) → is_taking s i ≡ false → session b (T ++ i ∷ []) s ≡ Some (move b s (state b (entries T)) i v)
@@ -93,7 +104,6 @@ module _ (b : Base) where
       by true e = let low = known b T s v h in let same = eqb-true n s e in let up : last_session T < n = k.0 in absurd (omega arith)
   unbegun T s v (E e) h k = goes-on T s v h (E e) refl
   unbegun T s v (M (the.Took n place)) h k = session-end b T (M (the.Took n place)) s ∙ ap (λ (u : Option Session). meet b s (state b (entries T)) u (M (the.Took n place))) h
-  unbegun T s v (M (the.Entry p)) h k = goes-on T s v h (M (the.Entry p)) refl
   unbegun T s v (M (the.Fetched n page upto)) h k = goes-on T s v h (M (the.Fetched n page upto)) refl
   unbegun T s v (M (the.Granted n page)) h k = goes-on T s v h (M (the.Granted n page)) refl
   unbegun T s v (M (the.Drew n t)) h k = goes-on T s v h (M (the.Drew n t)) refl
@@ -185,8 +195,12 @@ module _ (b : Base) where
       current : AreCurrent b U s w committed copies
       current x o is =
           let c = g.current x o is in
-          let split = parts (λ c. has_written c.1 x ≡ true → (nat_eq c.1.session s ≡ false) ⊎ (get (written c.1) x ≡ Some o)) (commits_in b (entries T) i) (commits_behind b U more) (g.own x o is) in
+          let split = parts (λ c. has_written c.1 x ≡ true → (nat_eq c.1.session s ≡ false) ⊎ ((get (written c.1) x ≡ Some o) × NoPageWaits v x)) (commits_in b (entries T) i) (commits_behind b U more) (g.own x o is) in
           (current-grown b T i s v w committed x o passes g.step c.1 owed-here none-here split.0 c.0, pages-grown b T i s v w x.page passes c.1)
+
+      still_none : (x : Oref) (o : Obj) (c : ℕ × Request) → (nat_eq c.1.session s ≡ false) ⊎ ((get (written c.1) x ≡ Some o) × NoPageWaits v x) → (nat_eq c.1.session s ≡ false) ⊎ ((get (written c.1) x ≡ Some o) × NoPageWaits w x)
+      still_none x o c (inl other) = inl other
+      still_none x o c (inr same) = inr (same.0, none-moved b s (state b (entries T)) i v x still (unfetched T s v g.before i g.others.0) same.1)
 
       rest : session_lives w ≡ true → GrowsByOthers b U more s w committed copies
       rest live = record {
@@ -197,7 +211,8 @@ module _ (b : Base) where
         step = step;
         others = subst (λ c. ByOthers b c U more) (sym client) g.others.1;
         none_aborted = subst (λ (V : List Item). NoneAborted b (entries V) committed) (sym again) g.none_aborted;
-        own = λ x o is. (parts (λ c. has_written c.1 x ≡ true → (nat_eq c.1.session s ≡ false) ⊎ (get (written c.1) x ≡ Some o)) (commits_in b (entries T) i) (commits_behind b U more) (g.own x o is)).1;
+        own = λ x o is. All-weaker (λ c. has_written c.1 x ≡ true → (nat_eq c.1.session s ≡ false) ⊎ ((get (written c.1) x ≡ Some o) × NoPageWaits v x)) (λ c. has_written c.1 x ≡ true → (nat_eq c.1.session s ≡ false) ⊎ ((get (written c.1) x ≡ Some o) × NoPageWaits w x)) (λ c f wrote. still_none x o c (f wrote)) (commits_behind b U more)
+            (parts (λ c. has_written c.1 x ≡ true → (nat_eq c.1.session s ≡ false) ⊎ ((get (written c.1) x ≡ Some o) × NoPageWaits v x)) (commits_in b (entries T) i) (commits_behind b U more) (g.own x o is)).1;
         current = current;
       }
 

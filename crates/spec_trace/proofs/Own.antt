@@ -7,13 +7,14 @@ use Rattle.spec_trace.proofs.Kept.{Later, move-later, next, some-and}
 use Rattle.spec_trace.proofs.Sessions.{keeps-order, taken-below}
 use Rattle.spec_trace.proofs.Told.{writers-below}
 use Rattle.spec_trace.proofs.Traces.{entries-append}
-use Rattle.spec_trace.specs.Current.{InStep, OthersSince, RightAt}
+use Rattle.spec_trace.specs.Current.{InStep, NoPageWaits, OthersSince, RightAt}
 use Rattle.spec_history.specs.History.{Base, State, commit_of, objects_at, state, writers}
 use Rattle.spec_history.specs.Laws.{with_writes}
 use Rattle.spec_trace.specs.Messages.{KeepsOrder}
 use Rattle.spec_history.specs.Requests.{written}
 use Rattle.spec_trace.specs.Session.{Session, move, session, upto_of}
 use Rattle.spec_trace.specs.Trace.{E, Item, entries}
+use Rattle.spec_trace.proofs.Before.{none-moved}
 use Rattle.std.proofs.Common.{List, [], ap, arith, length, refl, subst, sym, take, ℕ, ◌+◌, ◌++◌, ◌<◌, ◌≡◌, ◌≤◌, ◌∙◌, ◌∷◌}
 use Rattle.std.proofs.lemmas.List.{length-append, take_all}
 use Rattle.std.specs.Option.{IfSome, IsSomeAnd, option_or}
@@ -47,9 +48,9 @@ module _ (b : Base) where
       too-low n m p q = omega arith
 
   own-here : (T : List Item) (e : Entry) (s : ℕ) (v w : Session) (q : Request) (x : Oref) (o : Obj) → session b T s ≡ Some v → session b (T ++ E e ∷ []) s ≡ Some w → InStep v
-      → commit_of b (state b (entries T)) e ≡ (length (entries T), q) ∷ [] → get (written q) x ≡ Some o → IsSomeAnd (get v.pages x.page) (λ c. c ≤ length (entries T))
+      → commit_of b (state b (entries T)) e ≡ (length (entries T), q) ∷ [] → get (written q) x ≡ Some o → IsSomeAnd (get v.pages x.page) (λ c. c ≤ length (entries T)) → NoPageWaits v x
       → RightAt b (entries T ++ e ∷ []) s w x o (length (entries T) + 1)
-  own-here T e s v w q x o is then' step commit wrote page =
+  own-here T e s v w q x o is then' step commit wrote page none =
       let H : List Entry = entries T in
       let n : w ≡ move b s (state b H) (E e) v = next b T (E e) s v w is refl then' in
       let k : Later v (move b s (state b H) (E e) v) = move-later b s (state b H) (E e) v step.taken refl in
@@ -62,6 +63,7 @@ module _ (b : Base) where
         cached = some-and (get v.pages x.page) (get (move b s (state b H) (E e) v).pages x.page) (length H + 1) (λ c is. k.pages x.page c is) (higher-page (get v.pages x.page) (length H) (length H + 1) (omega arith) page);
         value = written-there H e q x o commit wrote;
         others = subst (λ (m : ℕ). OthersSince s m (writers b (H ++ e ∷ []) x)) long (none-since (H ++ e ∷ []) s x);
+        before = λ i j l at. absurd (none-moved b s (state b H) (E e) v x refl refl none i j l at);
       })
     where
       le-trans : (i j k : ℕ) → i ≤ j → j ≤ k → i ≤ k
@@ -71,6 +73,6 @@ module _ (b : Base) where
       itself n = omega arith
 
   pub own-right : (T : List Item) (e : Entry) (s : ℕ) (v w : Session) (q : Request) (x : Oref) (o : Obj) → session b T s ≡ Some v → session b (T ++ E e ∷ []) s ≡ Some w → InStep v
-      → commit_of b (state b (entries T)) e ≡ (length (entries T), q) ∷ [] → get (written q) x ≡ Some o → IsSomeAnd (get v.pages x.page) (λ c. c ≤ length (entries T))
+      → commit_of b (state b (entries T)) e ≡ (length (entries T), q) ∷ [] → get (written q) x ≡ Some o → IsSomeAnd (get v.pages x.page) (λ c. c ≤ length (entries T)) → NoPageWaits v x
       → RightAt b (entries (T ++ E e ∷ [])) s w x o (length (entries T) + 1)
-  own-right T e s v w q x o is then' step commit wrote page = subst (λ (H : List Entry). RightAt b H s w x o (length (entries T) + 1)) (sym (entries-append T (E e ∷ []))) (own-here T e s v w q x o is then' step commit wrote page)
+  own-right T e s v w q x o is then' step commit wrote page none = subst (λ (H : List Entry). RightAt b H s w x o (length (entries T) + 1)) (sym (entries-append T (E e ∷ []))) (own-here T e s v w q x o is then' step commit wrote page none)

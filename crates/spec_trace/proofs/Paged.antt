@@ -4,14 +4,14 @@ use Rattle.log_entries.specs.declared.entry.Entry.{Entry}
 use Rattle.log_entries.specs.declared.request.Request.{Request}
 use Rattle.spec_history.proofs.Growth.{owed-end, sound-beginning, state-end}
 use Rattle.spec_history.proofs.LastWrite.{commit_here}
-use Rattle.spec_history.proofs.Places.{admitted, came_end, placed}
+use Rattle.spec_history.proofs.Places.{came_end, placed}
 use Rattle.spec_history.proofs.Vouched.{object_end, pair_at}
 use Rattle.spec_history.specs.History.{Base, Known, State, known_by, known_in, state}
 use Rattle.spec_history.specs.Laws.{Asks}
 use Rattle.spec_history.specs.Opening.{IsAtBase, IsBase}
-use Rattle.spec_history.specs.Requests.{has_created, has_written}
-use Rattle.spec_history.specs.Sound.{Admits, owes, sound}
-use Rattle.spec_trace.proofs.Exactness.{by_items, granted-page, pages-rise}
+use Rattle.spec_history.specs.Requests.{has_written}
+use Rattle.spec_history.specs.Sound.{owes, sound}
+use Rattle.spec_trace.proofs.Exactness.{by_items, pages-rise}
 use Rattle.spec_trace.proofs.Taken.{after-mark}
 use Rattle.spec_trace.proofs.Traces.{entries-append}
 use Rattle.spec_trace.specs.Calls.{next_page}
@@ -19,19 +19,14 @@ use Rattle.spec_trace.specs.Exact.{ComesFromSession, ItemIsExact, exact}
 use Rattle.spec_trace.specs.Sessions.{PagesAreGranted}
 use Rattle.spec_trace.specs.Trace.{E, Item, M, entries}
 use Rattle.spec_trace.specs.declared.mark.Mark.{Mark}
-use Rattle.std.proofs.Common.{Bool, List, [], ap, arith, false, inl, inr, refl, subst, sym, true, ◌++◌, ◌<◌, ◌≡◌, ◌≤◌, ◌∙◌, ◌∷◌}
-use Rattle.std.specs.Option.{IsSome}
-use Rattle.std.specs.Prelude.{IsTrue, None, Option, Some, is_some}
+use Rattle.std.proofs.Common.{List, [], ap, arith, inl, inr, subst, sym, true, ◌++◌, ◌<◌, ◌≡◌, ◌≤◌, ◌∙◌, ◌∷◌}
+use Rattle.std.specs.Prelude.{Some, is_some}
 use Rattle.thor_value.specs.FiniteMap.{get}
 use Rattle.thor_value.specs.declared.names.Oref.{Oref}
 use Rattle.thor_value.specs.declared.names.Ts.{Ts}
 use Rattle.thor_value.specs.declared.values.Obj.{Obj}
 
-some-there : {X : Type 0} (o : Option X) → IsSome o → (x : X) × (o ≡ Some x)
-some-there None h = let no : false ≡ true = h in cc
-some-there (Some x) h = (x, refl)
-
-module _ (b : Base) (base : IsBase b) (tells : IsTrue b.tells) where
+module _ (b : Base) (base : IsBase b) where
   -- an entry that is a request comes from its session
   from-session : (T : List Item) (e : Entry) (q : Request) → Asks e q → ItemIsExact b T (E e) → ComesFromSession b T q
   from-session T (Life n) q x k = absurd x
@@ -42,15 +37,8 @@ module _ (b : Base) (base : IsBase b) (tells : IsTrue b.tells) where
   from-session T (Upgraded r) q x k = subst (ComesFromSession b T) x k
 
   -- a name that such a request wrote
-  new-name : (T : List Item) (e : Entry) (q : Request) (x : Oref) → Asks e q → owes b (state b (entries T)) e → ItemIsExact b T (E e) → PagesAreGranted b T → has_written q x ≡ true → x.page < next_page b T
-  new-name T e q x asks ow k old w = by (has_created q x) refl
-    where
-      a : Admits b (state b (entries T)) q
-      a = admitted b (state b (entries T)) e q asks ow
-
-      by : (c : Bool) → has_created q x ≡ c → x.page < next_page b T
-      by true f = granted-page b T q.session x.page ((from-session T e q asks k).granted x f w)
-      by false f = let there = some-there (get (state b (entries T)).objects x) (a.vouched.known tells x w f) in old.objects x there.0 there.1
+  new-name : (T : List Item) (e : Entry) (q : Request) (x : Oref) → Asks e q → ItemIsExact b T (E e) → has_written q x ≡ true → x.page < next_page b T
+  new-name T e q x asks k w = (from-session T e q asks k).granted x w
 
   granted-entry : (T : List Item) (e : Entry) → sound b (entries T ++ e ∷ []) → ItemIsExact b T (E e) → PagesAreGranted b T → PagesAreGranted b (T ++ E e ∷ [])
   granted-entry T e sd k old = record { objects = objects; written = written }
@@ -72,7 +60,7 @@ module _ (b : Base) (base : IsBase b) (tells : IsTrue b.tells) where
 
       names : (t : Ts) (o : Known) (x : Oref) → known_by b (entries T ++ e ∷ []) t ≡ Some o → has_written o.request x ≡ true → x.page < next_page b T
       names t o x is w = elim (came_end b (entries T) e sd-before ow t o is) [
-        | inl new ↦ new-name T e o.request x new.1.0 ow k old w
+        | inl new ↦ new-name T e o.request x new.1.0 k w
         | inr was ↦ old.written t was.0 x was.1 (subst (λ (q : Request). has_written q x ≡ true) was.2.1 w)
       ]
 

@@ -124,7 +124,6 @@ notice-is-of : (b : Base) (s : ℕ) (S : State) (pages : Map nat_cmp ℕ) (i : I
 notice-is-of b s S pages (E e) = told-of-is-of s S pages (commit_of b S e)
 notice-is-of b s S pages (M (the.Fetched n page upto)) = answer-is-of (nat_eq n s) S.length (Page page S.length) (refl, omega arith)
 notice-is-of b s S pages (M (the.Granted n page)) = answer-is-of (nat_eq n s) S.length (Grant page S.length) (refl, omega arith)
-notice-is-of b s S pages (M (the.Entry k)) = tt
 notice-is-of b s S pages (M (the.Connected n c)) = tt
 notice-is-of b s S pages (M (the.Took n k)) = tt
 notice-is-of b s S pages (M (the.Drew n t)) = tt
@@ -207,7 +206,6 @@ connect-keeps b s S n c o h = by (nat_eq n s)
 meet-keeps : (b : Base) (s : ℕ) (S : State) (o : Option Session) (i : Item) → IfSome o (λ v. KeepsOrder v S.length) → IfSome (meet b s S o i) (λ v. KeepsOrder v (pass b S i).length)
 meet-keeps b s S o (E e) h = map-keeps b s S (E e) o h
 meet-keeps b s S o (M (the.Connected n c)) h = connect-keeps b s S n c o h
-meet-keeps b s S o (M (the.Entry k)) h = map-keeps b s S (M (the.Entry k)) o h
 meet-keeps b s S o (M (the.Fetched n page upto)) h = map-keeps b s S (M (the.Fetched n page upto)) o h
 meet-keeps b s S o (M (the.Granted n page)) h = map-keeps b s S (M (the.Granted n page)) o h
 meet-keeps b s S o (M (the.Took n k)) h = map-keeps b s S (M (the.Took n k)) o h

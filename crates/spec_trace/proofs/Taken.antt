@@ -2,6 +2,7 @@
 use Rattle.log_entries.specs.declared.entry.Entry.{Entry}
 use Rattle.log_entries.specs.declared.request.Request.{Request}
 use Rattle.spec_history.proofs.Commits.{made_by_commits}
+use Rattle.spec_trace.proofs.Before.{no-page-told, push-get}
 use Rattle.spec_trace.proofs.Copies.{writers-take}
 use Rattle.spec_history.proofs.Growth.{length-state}
 use Rattle.spec_trace.proofs.Kept.{Extends, pages-extend}
@@ -9,12 +10,12 @@ use Rattle.spec_trace.proofs.Sessions.{at-most-last, bound-at, keeps-order, sess
 use Rattle.spec_trace.proofs.Told.{Begins, Went, all-both, all-told, at_end, came, pages-old, went}
 use Rattle.spec_history.proofs.Vouched.{plain}
 use Rattle.spec_trace.proofs.Traces.{entries-append}
-use Rattle.spec_trace.specs.Current.{InStep, IsTold, OthersSince, RightAt, Takes, WasToldOf, names_invalid}
-use Rattle.spec_history.specs.History.{Base, State, commit_of, epoch_of, last_write, objects_at, state, writers}
+use Rattle.spec_trace.specs.Current.{InStep, IsBefore, IsTold, OthersSince, RightAt, Takes, WasToldOf, names_invalid}
+use Rattle.spec_history.specs.History.{Base, State, commit_of, last_write, objects_at, state, writers}
 use Rattle.spec_trace.specs.Messages.{InOrder, KeepsOrder, WaitsByPlace}
 use Rattle.spec_history.specs.Laws.{NoUpgrades}
-use Rattle.spec_history.specs.Requests.{is_upgrade, written}
-use Rattle.spec_trace.specs.Session.{Grant, Invalid, Live, Notice, Page, Retired, Session, Stage, Upgrade, bound, cache, invalid_of, is_silent, meet, move, moved, notice, or_retired, pages_after, place_of, push, rested, retired, session, session_lives, told_of, upto_of}
+use Rattle.spec_history.specs.Requests.{is_upgrade}
+use Rattle.spec_trace.specs.Session.{Grant, Invalid, Live, Notice, Page, Retired, Session, Stage, Upgrade, bound, cache, is_silent, meet, move, moved, notice, or_retired, pages_after, place_of, push, rested, retired, session, session_lives, upto_of}
 use Rattle.spec_history.specs.Sound.{sound}
 use Rattle.spec_trace.specs.Trace.{E, Item, M, entries}
 use Rattle.spec_trace.specs.declared.mark.Mark.TheVariants as the
@@ -33,7 +34,7 @@ use Rattle.std.proofs.lemmas.Cmp.{tied_itself, nat_eq_equiv}
 use Rattle.std.specs.declared.cmp.Ordering.TheVariants.{Equal}
 use Rattle.std.specs.declared.cmp.Ordering.{Ordering}
 use Rattle.thor_value.proofs.FiniteMap.{get-insert}
-use Rattle.thor_value.specs.FiniteMap.{Map, get, has, insert, keys}
+use Rattle.thor_value.specs.FiniteMap.{Map, get, has, insert}
 use Rattle.thor_value.specs.declared.names.Oref.{Oref}
 use Rattle.thor_value.specs.declared.values.Obj.{Obj}
 
@@ -148,6 +149,24 @@ module _ (b : Base) where
 
   -- ---- a copy that the message doesn't name
 
+  both-below : (n m k : ℕ) → n ≤ k → m ≤ k → max n m ≤ k
+  both-below n m k p q = grind arith
+
+  -- what waits behind the message was read at the place that it makes known, or after it
+  waits-behind : (v w : Session) (m : Notice) (page : ℕ) → Took v w m → InOrder v.began v.sent → (i k : ℕ) → w.taken ≤ i → slice_get w.sent i ≡ Some (Page page k) → bound m ≤ k
+  waits-behind v w m page t order i k le at =
+      let rise : InOrder w.began w.sent = subst (InOrder w.began) (sym t.sent) (subst (λ (a : ℕ). InOrder a v.sent) (sym t.began) order) in
+      let new : WaitsByPlace w = waits-by-place w rise in
+      subst (λ (j : ℕ). j ≤ k) t.upto (new.waits i (Page page k) at le)
+
+  before-taken : (v w : Session) (m : Notice) (x : Oref) (n : ℕ) → Took v w m → InOrder v.began v.sent → IsBefore v x n → IsBefore w x (max n (bound m))
+  before-taken v w m x n t order before i k le at =
+      let old : n ≤ k = before i k (earlier v.taken w.taken i t.taken le) (ap (λ (ms : List Notice). slice_get ms i) (sym t.sent) ∙ at) in
+      both-below n (bound m) k old (waits-behind v w m x.page t order i k le at)
+    where
+      earlier : (a b c : ℕ) → b ≡ a + 1 → b ≤ c → a ≤ c
+      earlier a b c e l = omega arith
+
   greater : (n k : ℕ) → ((k ≤ n) × (max n k ≡ n)) ⊎ ((n ≤ k) × (max n k ≡ k))
   greater n k = grind arith
 
@@ -158,6 +177,7 @@ module _ (b : Base) where
       let order : KeepsOrder v (length (entries T)) = if-some (session b T s) (λ v. KeepsOrder v (length (entries T))) v h.before (keeps-order b T s) in
       let there : bound m ≤ length (entries T) = le-trans (bound m) _ (length (entries T)) (at-most-last v.began v.sent v.taken m order.rise h.message) order.below in
       let pages : get w.pages x.page ≡ get v.pages x.page = ap (λ (p : Map nat_cmp ℕ). get p x.page) k.pages in
+      let before : IsBefore w x (max n (bound m)) = before-taken v w m x n k order.rise r.before in
       elim (greater n (bound m)) [
         | inl stays ↦ subst (RightAt b (entries T) s w x o) (sym stays.1) (record {
           unknown = rw k.upto stays.0;
@@ -165,6 +185,7 @@ module _ (b : Base) where
           cached = rw pages r.cached;
           value = r.value;
           others = r.others;
+          before = subst (IsBefore w x) stays.1 before;
         })
         | inr rises ↦
             let between = none-between T s v w m x o n h.before h.live k order.rise h.message unnamed plain r in
@@ -176,6 +197,7 @@ module _ (b : Base) where
               cached = rw pages (higher-page (get v.pages x.page) n (bound m) rises.0 r.cached);
               value = same ∙ r.value;
               others = λ i d l g. r.others i d l (le-trans n (bound m) _ rises.0 g);
+              before = subst (IsBefore w x) rises.1 before;
             })
       ]
     where
@@ -190,30 +212,23 @@ module _ (b : Base) where
       → RightAt b (entries T) s v x o n → RightAt b (entries (T ++ M (the.Took s place) ∷ [])) s w x o (max n (bound m))
   right-taken T s v w place m x o n h unnamed sd r = subst (λ (H : List Entry). RightAt b H s w x o (max n (bound m))) (sym (after-mark T (the.Took s place))) (right-taken-here T s v w place m x o n h unnamed (plain b (entries T) sd x) r)
 
+  later : (n k : ℕ) → n ≤ k → max n k ≡ k
+  later n k l = grind arith
+
+  same-number : (n : ℕ) → n ≤ n
+  same-number n = omega arith
+
+  -- a copy is what a page brings that was read at its place or after it
+  pub brings : (T : List Item) (s : ℕ) (v w : Session) (place page k : ℕ) (x : Oref) (o : Obj) (n : ℕ) → Takes b T s v w place (Page page k) → x.page ≡ page → sound b (entries T) → RightAt b (entries T) s v x o n
+      → get (objects_at b (entries T) k) x ≡ Some o
+  brings T s v w place page k x o n takes on sd r =
+      let low : n ≤ k = r.before v.taken k (same-number v.taken) (takes.message ∙ ap (λ (p : ℕ). Some (Page p k)) (sym on)) in
+      let behind = right-taken T s v w place (Page page k) x o n takes refl sd r in
+      sym (ap (λ (H : List Entry). get (objects_at b H k) x) (after-mark T (the.Took s place)))
+      ∙ sym (ap (λ (j : ℕ). get (objects_at b (entries (T ++ M (the.Took s place) ∷ [])) j) x) (later n k low))
+      ∙ behind.value
+
 -- ---- what a page brings
-
-push-get : (sent : List Notice) (o : Option Notice) (i : ℕ) (m : Notice) → slice_get (push sent o) i ≡ Some m → (slice_get sent i ≡ Some m) ⊎ (o ≡ Some m)
-push-get sent None i m h = inl h
-push-get sent (Some n) i m h = by sent i h
-  where
-    by : (ms : List Notice) (i : ℕ) → slice_get (ms ++ n ∷ []) i ≡ Some m → (slice_get ms i ≡ Some m) ⊎ (Some n ≡ Some m)
-    by [] zero e = inr e
-    by [] (suc i) e = cc
-    by (x ∷ xs) zero e = inl e
-    by (x ∷ xs) (suc i) e = by xs i e
-
-no-page-invalid : (names : List Oref) (k page at : ℕ) → invalid_of names k ≡ Some (Page page at) → ⊥
-no-page-invalid [] k page at h = cc
-no-page-invalid (x ∷ xs) k page at h = cc
-
-no-page-told : (s : ℕ) (S : State) (pages : Map nat_cmp ℕ) (cs : List (ℕ × Request)) (page at : ℕ) → told_of s S pages cs ≡ Some (Page page at) → ⊥
-no-page-told s S pages [] page at h = cc
-no-page-told s S pages (c ∷ cs) page at h = by (is_upgrade c.1) (nat_eq c.1.session s) h
-  where
-    by : (u own : Bool) → cond u (Some (Upgrade (epoch_of S + 1) S.length)) (cond own None (invalid_of (filter (λ x. has pages x.page) (keys (written c.1))) S.length)) ≡ Some (Page page at) → ⊥
-    by true own e = cc
-    by false true e = cc
-    by false false e = no-page-invalid (filter (λ x. has pages x.page) (keys (written c.1))) S.length page at e
 
 -- a page that is there at a number of entries at most n
 abbrev There : Map nat_cmp ℕ → ℕ → ℕ → Type 0
@@ -253,7 +268,6 @@ page-there b s S pages (M (the.Granted n q)) page at h is = absurd (by (nat_eq n
     by true e = cc
     by false e = cc
 page-there b s S pages (M (the.Took n k)) page at h is = cc
-page-there b s S pages (M (the.Entry k)) page at h is = cc
 page-there b s S pages (M (the.Connected n c)) page at h is = cc
 page-there b s S pages (M (the.Drew n t)) page at h is = cc
 page-there b s S pages (M (the.Forgot t)) page at h is = cc
@@ -331,6 +345,7 @@ module _ (b : Base) where
         cached = subst (λ (p : Map nat_cmp ℕ). There p x.page k) (sym t.pages) cached;
         value = value;
         others = others;
+        before = λ i j l at. waits-behind b v w (Page page k) x.page t order.rise i j l at;
       })
     where
       le-trans : (i j k : ℕ) → i ≤ j → j ≤ k → i ≤ k

@@ -103,7 +103,6 @@ pub pages-old : (s : ℕ) (S : State) (pages : Map nat_cmp ℕ) (i : Item) (q p 
 pages-old s S pages (E e) q p h = inl h
 pages-old s S pages (M (the.Fetched n page upto)) q p h = cached-own (nat_eq n s) pages page S.length q p h
 pages-old s S pages (M (the.Granted n page)) q p h = cached-own (nat_eq n s) pages page S.length q p h
-pages-old s S pages (M (the.Entry k)) q p h = inl h
 pages-old s S pages (M (the.Connected n d)) q p h = inl h
 pages-old s S pages (M (the.Took n k)) q p h = inl h
 pages-old s S pages (M (the.Drew n t)) q p h = inl h
@@ -158,7 +157,6 @@ module _ (b : Base) where
   came s S o (M (the.Took n k)) w h = inr (moves s S (M (the.Took n k)) o w h)
   came s S o (M (the.Fetched n page upto)) w h = inr (moves s S (M (the.Fetched n page upto)) o w h)
   came s S o (M (the.Granted n page)) w h = inr (moves s S (M (the.Granted n page)) o w h)
-  came s S o (M (the.Entry k)) w h = inr (moves s S (M (the.Entry k)) o w h)
   came s S o (M (the.Drew n t)) w h = inr (moves s S (M (the.Drew n t)) o w h)
   came s S o (M (the.Forgot t)) w h = inr (moves s S (M (the.Forgot t)) o w h)
   came s S o (M (the.Refused n q r)) w h = inr (moves s S (M (the.Refused n q r)) o w h)

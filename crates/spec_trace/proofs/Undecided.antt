@@ -10,7 +10,7 @@ use Rattle.spec_history.proofs.Settling.{stands-still}
 use Rattle.spec_history.proofs.Steps.{FateMoves, Kept}
 use Rattle.spec_trace.proofs.Taken.{after-mark, keeps-pages, page-taken, right-taken, took}
 use Rattle.spec_trace.proofs.Traces.{entries-append}
-use Rattle.spec_trace.specs.Current.{InStep, IsCurrent, IsOwnWrite, NoneAborted, OthersOrSame, OthersSince, OthersWrite, PassesItem, RightAt, Takes, commits_in, names_invalid}
+use Rattle.spec_trace.specs.Current.{InStep, IsCurrent, IsOwnWrite, NoPageWaits, NoneAborted, OthersOrSame, OthersSince, OthersWrite, PassesItem, RightAt, Takes, commits_in, names_invalid}
 use Rattle.spec_history.specs.History.{Aborted, Base, Committed, Fate, IsCommitted, Lives, Open, Known, State, commit_of, objects_at, put, known_in, known_by, state, writers}
 use Rattle.spec_history.specs.Outcomes.{MaySettle}
 use Rattle.spec_history.specs.Requests.{has_written, written}
@@ -25,6 +25,7 @@ use Rattle.std.specs.List.{All}
 use Rattle.std.specs.Option.{IsSomeAnd, is_some}
 use Rattle.std.specs.Ordering.{nat_cmp}
 use Rattle.std.specs.Prelude.{None, Option, Some, nat_eq, ◌⊎◌}
+use Rattle.std.proofs.lemmas.Cmp.{nat_eq_equiv}
 use Rattle.thor_value.specs.FiniteMap.{Map, get, has}
 use Rattle.thor_value.specs.declared.names.Oref.{Oref}
 use Rattle.thor_value.specs.declared.names.Ts.{Ts}
@@ -75,14 +76,15 @@ module _ (b : Base) where
 
   by-fate : (T : List Item) (e : Entry) (s : ℕ) (v w : Session) (committed : Ts → Bool) (x : Oref) (o : Obj) (t : Ts) (p q : Known) → PassesItem b T (E e) s v w → InStep v → has v.pages x.page ≡ true
       → IsOwnWrite b (entries T) s committed x o t p → known_by b (entries (T ++ E e ∷ [])) t ≡ Some q → Kept (commit_of b (state b (entries T)) e) (length (entries T)) p q → Lives q.fate
+      → (commit_of b (state b (entries T)) e ≡ (length (entries T), p.request) ∷ [] → NoPageWaits v x)
       → ((q.fate ≡ Open) × IsOwnWrite b (entries (T ++ E e ∷ [])) s committed x o t q) ⊎ RightAt b (entries (T ++ E e ∷ [])) s w x o (length (entries T) + 1)
-  by-fate T e s v w committed x o t p q ps step page h is k lives = by p.fate q.fate h.open' refl k.2 lives
+  by-fate T e s v w committed x o t p q ps step page h is k lives none = by p.fate q.fate h.open' refl k.2 lives
     where
       own : q.fate ≡ Open → IsOwnWrite b (entries (T ++ E e ∷ [])) s committed x o t q
       own f = record { there = is; open' = f; own = ap (λ (r : Request). r.session) k.1 ∙ h.own; wrote = ap (λ (r : Request). get (written r) x) k.1 ∙ h.wrote; settled = h.settled }
 
       right : commit_of b (state b (entries T)) e ≡ (length (entries T), p.request) ∷ [] → RightAt b (entries (T ++ E e ∷ [])) s w x o (length (entries T) + 1)
-      right commit = own-right b T e s v w p.request x o ps.before ps.after step commit h.wrote (page-there T s v x ps.before ps.live page)
+      right commit = own-right b T e s v w p.request x o ps.before ps.after step commit h.wrote (page-there T s v x ps.before ps.live page) (none commit)
 
       by : (f g : Fate) → f ≡ Open → q.fate ≡ g → FateMoves (commit_of b (state b (entries T)) e) (length (entries T)) p.request f g → Lives g
           → ((q.fate ≡ Open) × IsOwnWrite b (entries (T ++ E e ∷ [])) s committed x o t q) ⊎ RightAt b (entries (T ++ E e ∷ [])) s w x o (length (entries T) + 1)
@@ -103,14 +105,14 @@ module _ (b : Base) where
   not-open Aborted h e = h
 
   -- behind its commit an own write is right
-  pub own-committed : (T : List Item) (e : Entry) (s : ℕ) (v w : Session) (committed : Ts → Bool) (x : Oref) (o : Obj) (t : Ts) (p q : Known) → PassesItem b T (E e) s v w → InStep v → has v.pages x.page ≡ true → sound b (entries (T ++ E e ∷ []))
+  pub own-committed : (T : List Item) (e : Entry) (s : ℕ) (v w : Session) (committed : Ts → Bool) (x : Oref) (o : Obj) (t : Ts) (p q : Known) → PassesItem b T (E e) s v w → InStep v → has v.pages x.page ≡ true → NoPageWaits v x → sound b (entries (T ++ E e ∷ []))
       → IsOwnWrite b (entries T) s committed x o t p → known_by b (entries (T ++ E e ∷ [])) t ≡ Some q → IsCommitted q.fate → RightAt b (entries (T ++ E e ∷ [])) s w x o (length (entries T) + 1)
-  own-committed T e s v w committed x o t p q ps step page sd h is done =
+  own-committed T e s v w committed x o t p q ps step page none sd h is done =
       let y = goes-end T e t p sd h.there in
       let z : Some y.0 ≡ Some q = sym y.1 ∙ is in
       let same : y.0 ≡ q = cc in
       let k : Kept (commit_of b (state b (entries T)) e) (length (entries T)) p q = subst (λ (r : Known). Kept (commit_of b (state b (entries T)) e) (length (entries T)) p r) same y.2 in
-      elim (by-fate T e s v w committed x o t p q ps step page h is k (committed-lives q.fate done)) [
+      elim (by-fate T e s v w committed x o t p q ps step page h is k (committed-lives q.fate done) (λ commit. none)) [
         | inl still ↦ absurd (not-open q.fate done still.0)
         | inr right ↦ right
       ]
@@ -125,28 +127,28 @@ module _ (b : Base) where
   head-of-all P x xs h = h 0 x (omega arith)
 
   -- one commit: it leaves the copy, or it writes it
-  one-side : (s n : ℕ) (x : Oref) (o : Obj) (q : Request) → OthersOrSame s x o ((n, q) ∷ []) → OthersWrite s x ((n, q) ∷ []) ⊎ (get (written q) x ≡ Some o)
-  one-side s n x o q h = by (has_written q x) refl
+  one-side : (s n : ℕ) (v : Session) (x : Oref) (o : Obj) (q : Request) → OthersOrSame s v x o ((n, q) ∷ []) → OthersWrite s x ((n, q) ∷ []) ⊎ ((get (written q) x ≡ Some o) × NoPageWaits v x)
+  one-side s n v x o q h = by (has_written q x) refl
     where
       alone : (has_written q x ≡ true → nat_eq q.session s ≡ false) → OthersWrite s x ((n, q) ∷ [])
       alone f = All-cons (λ c. has_written c.1 x ≡ true → nat_eq c.1.session s ≡ false) (n, q) [] f (All-nil (λ c. has_written c.1 x ≡ true → nat_eq c.1.session s ≡ false))
 
-      by : (t : Bool) → has_written q x ≡ t → OthersWrite s x ((n, q) ∷ []) ⊎ (get (written q) x ≡ Some o)
-      by true e = elim (head-of-all (λ c. has_written c.1 x ≡ true → (nat_eq c.1.session s ≡ false) ⊎ (get (written c.1) x ≡ Some o)) (n, q) [] h e) [
+      by : (t : Bool) → has_written q x ≡ t → OthersWrite s x ((n, q) ∷ []) ⊎ ((get (written q) x ≡ Some o) × NoPageWaits v x)
+      by true e = elim (head-of-all (λ c. has_written c.1 x ≡ true → (nat_eq c.1.session s ≡ false) ⊎ ((get (written c.1) x ≡ Some o) × NoPageWaits v x)) (n, q) [] h e) [
         | inl other ↦ inl (alone (λ g. other))
         | inr same ↦ inr same
       ]
       by false e = inl (alone (λ g. let f : false ≡ true = sym e ∙ g in cc))
 
   right-entry : (T : List Item) (e : Entry) (s : ℕ) (v w : Session) (committed : Ts → Bool) (x : Oref) (o : Obj) (m : ℕ) → PassesItem b T (E e) s v w → InStep v → has v.pages x.page ≡ true
-      → OthersOrSame s x o (commit_of b (state b (entries T)) e) → RightAt b (entries T) s v x o m → IsCurrent b (entries (T ++ E e ∷ [])) s w committed x o
+      → OthersOrSame s v x o (commit_of b (state b (entries T)) e) → RightAt b (entries T) s v x o m → IsCurrent b (entries (T ++ E e ∷ [])) s w committed x o
   right-entry T e s v w committed x o m ps step page a r = elim (commit_shape b (state b (entries T)) e) [
     | inl none ↦ stays (subst (OthersWrite s x) (sym none) (All-nil (λ c. has_written c.1 x ≡ true → nat_eq c.1.session s ≡ false)))
     | inr one ↦
         let is : commit_of b (state b (entries T)) e ≡ (length (entries T), one.0) ∷ [] = subst (λ (n : ℕ). commit_of b (state b (entries T)) e ≡ (n, one.0) ∷ []) (length-state b (entries T)) one.1 in
-        elim (one-side s (length (entries T)) x o one.0 (subst (OthersOrSame s x o) is a)) [
+        elim (one-side s (length (entries T)) v x o one.0 (subst (OthersOrSame s v x o) is a)) [
           | inl others ↦ stays (subst (OthersWrite s x) (sym is) others)
-          | inr same ↦ inl (length (entries T) + 1, own-right b T e s v w one.0 x o ps.before ps.after step is same (page-there T s v x ps.before ps.live page))
+          | inr same ↦ inl (length (entries T) + 1, own-right b T e s v w one.0 x o ps.before ps.after step is same.0 (page-there T s v x ps.before ps.live page) same.1)
         ]
   ]
     where
@@ -154,20 +156,28 @@ module _ (b : Base) where
       stays others = inl (m, right-kept b T (E e) s v w x o m ps.before ps.after step ps.quiet others r)
 
   own-entry : (T : List Item) (e : Entry) (s : ℕ) (v w : Session) (committed : Ts → Bool) (x : Oref) (o : Obj) (t : Ts) (p : Known) → PassesItem b T (E e) s v w → InStep v → has v.pages x.page ≡ true
-      → sound b (entries (T ++ E e ∷ [])) → NoneAborted b (entries (T ++ E e ∷ [])) committed → IsOwnWrite b (entries T) s committed x o t p → IsCurrent b (entries (T ++ E e ∷ [])) s w committed x o
-  own-entry T e s v w committed x o t p ps step page sd n h =
+      → sound b (entries (T ++ E e ∷ [])) → NoneAborted b (entries (T ++ E e ∷ [])) committed → OthersOrSame s v x o (commit_of b (state b (entries T)) e) → IsOwnWrite b (entries T) s committed x o t p → IsCurrent b (entries (T ++ E e ∷ [])) s w committed x o
+  own-entry T e s v w committed x o t p ps step page sd n a h =
       let y = goes-end T e t p sd h.there in
-      elim (by-fate T e s v w committed x o t p y.0 ps step page h y.1 y.2 (n t y.0 y.1 h.settled)) [
+      elim (by-fate T e s v w committed x o t p y.0 ps step page h y.1 y.2 (n t y.0 y.1 h.settled) none) [
         | inl still ↦ inr (t, y.0, still.1)
         | inr right ↦ inl (length (entries T) + 1, right)
       ]
+    where
+      -- its own commit comes while no page of x waits
+      none : commit_of b (state b (entries T)) e ≡ (length (entries T), p.request) ∷ [] → NoPageWaits v x
+      none commit =
+          elim (head-of-all (λ c. has_written c.1 x ≡ true → (nat_eq c.1.session s ≡ false) ⊎ ((get (written c.1) x ≡ Some o) × NoPageWaits v x)) (length (entries T), p.request) [] (subst (OthersOrSame s v x o) commit a) (ap (λ (g : Option Obj). is_some g) h.wrote)) [
+            | inl other ↦ let e : false ≡ true = sym other ∙ ap (λ (k : ℕ). nat_eq k s) h.own ∙ nat_eq_equiv.refl s in cc
+            | inr both ↦ both.1
+          ]
 
   -- a current copy stays so while its client takes no message
   pub current-grown : (T : List Item) (i : Item) (s : ℕ) (v w : Session) (committed : Ts → Bool) (x : Oref) (o : Obj) → PassesItem b T i s v w → InStep v → has v.pages x.page ≡ true
-      → sound b (entries (T ++ i ∷ [])) → NoneAborted b (entries (T ++ i ∷ [])) committed → OthersOrSame s x o (commits_in b (entries T) i)
+      → sound b (entries (T ++ i ∷ [])) → NoneAborted b (entries (T ++ i ∷ [])) committed → OthersOrSame s v x o (commits_in b (entries T) i)
       → IsCurrent b (entries T) s v committed x o → IsCurrent b (entries (T ++ i ∷ [])) s w committed x o
   current-grown T (E e) s v w committed x o ps step page sd n a (inl r) = right-entry T e s v w committed x o r.0 ps step page a r.1
-  current-grown T (E e) s v w committed x o ps step page sd n a (inr y) = own-entry T e s v w committed x o y.0 y.1 ps step page sd n y.2
+  current-grown T (E e) s v w committed x o ps step page sd n a (inr y) = own-entry T e s v w committed x o y.0 y.1 ps step page sd n a y.2
   current-grown T (M k) s v w committed x o ps step page sd n a (inl r) = inl (r.0, right-kept b T (M k) s v w x o r.0 ps.before ps.after step ps.quiet (All-nil (λ c. has_written c.1 x ≡ true → nat_eq c.1.session s ≡ false)) r.1)
   current-grown T (M k) s v w committed x o ps step page sd n a (inr y) = inr (y.0, y.1, mark-keeps T k s committed x o y.0 y.1 y.2)
 

@@ -32,14 +32,24 @@ OthersSince s m cs = All (λ c. m ≤ c.0 → nat_eq c.1.session s ≡ false) cs
 abbrev pub OthersWrite : ℕ → Oref → List (ℕ × Request) → Type 0
 OthersWrite s x cs = All (λ c. has_written c.1 x ≡ true → nat_eq c.1.session s ≡ false) cs
 
+-- each page of x that waits was read at the place n or after it
+abbrev pub IsBefore : Session → Oref → ℕ → Type 0
+IsBefore v x n = (i k : ℕ) → v.taken ≤ i → slice_get v.sent i ≡ Some (Page x.page k) → n ≤ k
+
+-- no page of x waits
+abbrev pub NoPageWaits : Session → Oref → Type 0
+NoPageWaits v x = (i k : ℕ) → v.taken ≤ i → slice_get v.sent i ≡ Some (Page x.page k) → ⊥
+
 -- The copy o of x was right at the place m, which the client doesn't know to be passed, and from there
--- on other sessions alone wrote x. The page of x is one that the session has.
+-- on other sessions alone wrote x. The page of x is one that the session has, and no page of x that waits is
+-- older than the copy.
 pub record RightAt (b : Base) (H : List Entry) (s : ℕ) (v : Session) (x : Oref) (o : Obj) (m : ℕ) : Type 0 where
   pub unknown : upto_of v ≤ m
   pub there : m ≤ length H
   pub cached : IsSomeAnd (get v.pages x.page) (λ c. c ≤ m)
   pub value : get (objects_at b H m) x ≡ Some o
   pub others : OthersSince s m (writers b H x)
+  pub before : IsBefore v x m
 
 -- The copy o of x is a write of the transaction t of the session s, which is undecided here and has
 -- committed at its coordinator.
@@ -114,6 +124,7 @@ pub record PassesItem (b : Base) (T : List Item) (i : Item) (s : ℕ) (v w : Ses
 abbrev pub NoneAborted : Base → List Entry → (Ts → Bool) → Type 0
 NoneAborted b H committed = (t : Ts) (w : Known) → known_by b H t ≡ Some w → committed t ≡ true → Lives w.fate
 
--- each of these commits that wrote x is another session's than s, or it wrote the copy o there
-abbrev pub OthersOrSame : ℕ → Oref → Obj → List (ℕ × Request) → Type 0
-OthersOrSame s x o cs = All (λ c. has_written c.1 x ≡ true → (nat_eq c.1.session s ≡ false) ⊎ (get (written c.1) x ≡ Some o)) cs
+-- each of these commits that wrote x is another session's than s, or it wrote the copy o there while no page
+-- of x waits for the session, which stands as v
+abbrev pub OthersOrSame : ℕ → Session → Oref → Obj → List (ℕ × Request) → Type 0
+OthersOrSame s v x o cs = All (λ c. has_written c.1 x ≡ true → (nat_eq c.1.session s ≡ false) ⊎ ((get (written c.1) x ≡ Some o) × NoPageWaits v x)) cs

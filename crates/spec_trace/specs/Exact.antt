@@ -4,9 +4,9 @@
 use Rattle.log_entries.specs.declared.entry.Entry.TheVariants.{Decided, Finished, Life, One, Prepared, Upgraded}
 use Rattle.log_entries.specs.declared.entry.Entry.{Entry}
 use Rattle.log_entries.specs.declared.request.Request.{Request}
-use Rattle.spec_trace.specs.Calls.{drawn_time, last_drawn, last_session, next_page, was_granted}
+use Rattle.spec_trace.specs.Calls.{drawn_time, last_drawn, last_session, next_page}
 use Rattle.spec_history.specs.History.{Base, known_by, state}
-use Rattle.spec_history.specs.Requests.{has_created, has_written}
+use Rattle.spec_history.specs.Requests.{has_written}
 use Rattle.spec_trace.specs.Session.{Session, place_of, session, session_ended, session_lives}
 use Rattle.spec_trace.specs.Trace.{E, Item, M, entries}
 use Rattle.spec_trace.specs.Verdict.{verdict}
@@ -46,13 +46,18 @@ pub record IsDrawn (b : Base) (T : List Item) (t : Ts) : Type 0 where
   pub repo : t.repo ≡ b.repo
   pub life : t.life ≡ (state b (entries T)).life
 
+-- what q wrote here stands on pages that the session s has
+abbrev pub WritesOnPages : Base → List Item → ℕ → Request → Type 0
+WritesOnPages b T s q = (x : Oref) → has_written q x ≡ true → IsSomeAnd (session b T s) (λ v. has v.pages x.page ≡ true)
+
 -- Behind the trace T, q comes from its session, which is its client's, and is accepted. Its client knows
--- no place that isn't there. What it created here stands on pages that were granted to its session.
+-- no place that isn't there. What it wrote here stands on pages that were granted, and that its session has.
 pub record ComesFromSession (b : Base) (T : List Item) (q : Request) : Type 0 where
   pub accepted : verdict b T q.session q ≡ None
   pub client : IsSomeAnd (session b T q.session) (λ v. v.client ≡ q.who.client)
   pub upto : q.upto ≤ length (entries T)
-  pub granted : (x : Oref) → IsTrue (has_created q x) → IsTrue (has_written q x) → IsTrue (was_granted T q.session x.page)
+  pub granted : (x : Oref) → IsTrue (has_written q x) → x.page < next_page b T
+  pub paged : WritesOnPages b T q.session q
 
 -- What an entry owes to the trace before it, beside what it owes to the entries. A transaction is decided
 -- by its session, which hasn't ended. A Life and what is learned of a decision are nobody's.
@@ -87,8 +92,6 @@ RefusalIsExact b T s None r = CallIsRefused b T s r
 
 -- What a mark owes to the trace before it.
 abbrev pub MarkIsExact : Base → List Item → Mark → Type 0
--- (an entry is no mark of a trace)
-MarkIsExact b T (the.Entry place) = ⊥
 -- a session has a number above all before, and the repository was opened
 MarkIsExact b T (the.Connected s client) = (last_session T < s) × (s < 2 ^ 32) × (0 < length (entries T))
 MarkIsExact b T (the.Fetched s page upto) = IsLiveAnd b T s (λ v. upto ≤ length (entries T))

@@ -20,10 +20,11 @@ creating =
     E (Life 1) ∷ M (the.Connected 1 1) ∷ M (the.Drew 1 (at 1)) ∷ M (the.Granted 1 1) ∷ M (the.Took 1 1)
     ∷ E (create_z 1) ∷ []
 
--- It prepares a transaction, decides it, and forgets the decision.
+-- It fetches a page, prepares a transaction that writes there, decides it, and forgets the decision.
 abbrev pub deciding : List Item
 deciding =
-    E (Life 1) ∷ M (the.Connected 1 1) ∷ M (the.Drew 1 (at 1)) ∷ E (prepare_x 1 5) ∷ E (Decided (at 1) true) ∷ []
+    E (Life 1) ∷ M (the.Connected 1 1) ∷ M (the.Fetched 1 0 1) ∷ M (the.Took 1 1) ∷ M (the.Drew 1 (at 1))
+    ∷ E (prepare_x 1 5) ∷ E (Decided (at 1) true) ∷ []
 
 abbrev pub forgetting : List Item
 forgetting = deciding ++ M (the.Forgot (at 1)) ∷ []
@@ -37,6 +38,10 @@ refusing = written_since ++ M (the.Refused 2 (Some (second_reads 3 0)) (refused.
 abbrev pub opened : List Item
 opened = E (Life 1) ∷ M (the.Connected 1 1) ∷ []
 
+-- a page is granted to the second client
+abbrev pub granted_to_other : List Item
+granted_to_other = opened ++ M (the.Connected 2 2) ∷ M (the.Granted 2 1) ∷ []
+
 abbrev pub restarted : List Item
 restarted = opened ++ E (set_x 7 5) ∷ E (Life 2) ∷ []
 
@@ -46,7 +51,7 @@ borrowed = record (reading_x 3) { session = 2 }
 
 -- ---- growth by others
 
--- the second client has fetched page 0 and has a copy of x, and then the first one reads x and writes it
+-- the second client has fetched page 0 and has a copy of x, and then the first one fetches it, reads x and writes it
 abbrev pub fetched : List Item
 fetched = take 5 written_since
 

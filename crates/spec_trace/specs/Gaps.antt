@@ -28,7 +28,6 @@ maker b T (E (Prepared q)) = client_in b T q.session
 maker b T (E (Decided t c)) = option_and_then (λ o. client_in b T o.request.session) (known_by b (entries T) t)
 maker b T (E (Finished t c)) = None
 maker b T (E (Upgraded q)) = client_in b T q.session
-maker b T (M (the.Entry place)) = None
 maker b T (M (the.Connected s client)) = Some client
 maker b T (M (the.Fetched s page upto)) = client_in b T s
 maker b T (M (the.Granted s page)) = client_in b T s
@@ -51,9 +50,9 @@ commits_behind b T (i ∷ is) = commits_in b (entries T) i ++ commits_behind b (
 abbrev pub AreCurrent : Base → List Item → ℕ → Session → (Ts → Bool) → Map oref_cmp Obj → Type 0
 AreCurrent b T s v committed copies = (x : Oref) (o : Obj) → get copies x ≡ Some o → IsCurrent b (entries T) s v committed x o × (has v.pages x.page ≡ true)
 
--- What these commits of the session's own wrote of the copies are the copies.
-abbrev pub OwnAreCopies : ℕ → Map oref_cmp Obj → List (ℕ × Request) → Type 0
-OwnAreCopies s copies cs = (x : Oref) (o : Obj) → get copies x ≡ Some o → OthersOrSame s x o cs
+-- What these commits of the session's own wrote of the copies are the copies, and no page of theirs waits.
+abbrev pub OwnAreCopies : ℕ → Session → Map oref_cmp Obj → List (ℕ × Request) → Type 0
+OwnAreCopies s v copies cs = (x : Oref) (o : Obj) → get copies x ≡ Some o → OthersOrSame s v x o cs
 
 -- The trace T grows by these items, which others made. The session s is live before them and its client in
 -- step, the copies are current, nothing that committed at its coordinator is aborted at the end, and
@@ -66,7 +65,7 @@ pub record GrowsByOthers (b : Base) (T more : List Item) (s : ℕ) (v : Session)
   pub step : InStep v
   pub others : ByOthers b v.client T more
   pub none_aborted : NoneAborted b (entries (T ++ more)) committed
-  pub own : OwnAreCopies s copies (commits_behind b T more)
+  pub own : OwnAreCopies s v copies (commits_behind b T more)
   pub current : AreCurrent b T s v committed copies
 
 -- The session w at the end: it isn't live, or its client is in step, knows what it knew, and its copies are

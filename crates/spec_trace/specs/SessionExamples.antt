@@ -6,17 +6,18 @@ use Rattle.spec_history.specs.History.{Base}
 use Rattle.spec_trace.specs.Session.{Notice, Stage, invalid, session, upto_of, waiting}
 use Rattle.spec_trace.specs.Trace.{E, Item, M, entries}
 use Rattle.spec_trace.specs.declared.mark.Mark.TheVariants as the
-use Rattle.spec_trace.specs.declared.mark.Mark.{Mark}
+use Rattle.spec_trace.specs.declared.kept_item.KeptItem.TheVariants as kept
+use Rattle.spec_trace.specs.declared.kept_item.KeptItem.{KeptItem}
 use Rattle.std.specs.Option.{option_and_then, option_map}
 use Rattle.std.specs.Prelude.{Bool, List, Option, Some, [], false, true, ℕ, ◌++◌, ◌∷◌}
 use Rattle.thor_value.specs.Names.{same_ts}
 use Rattle.thor_value.specs.declared.names.Ts.{Ts}
 
--- both clients connect, the second one fetches page 0 and takes it, and the first one writes x
+-- both clients connect, fetch page 0 and take it, the second one first, and the first one writes x
 abbrev pub written_since : List Item
 written_since =
     E (Life 1) ∷ M (the.Connected 1 1) ∷ M (the.Connected 2 2) ∷ M (the.Fetched 2 0 1) ∷ M (the.Took 2 1)
-    ∷ E (read_x 1) ∷ E (set_x 2 7) ∷ []
+    ∷ M (the.Fetched 1 0 1) ∷ M (the.Took 1 1) ∷ E (read_x 1) ∷ E (set_x 2 7) ∷ []
 
 -- the second client takes the invalidation
 abbrev pub invalid_taken : List Item
@@ -70,5 +71,7 @@ own_aborted = own_prepared ++ E (Finished (at 1) false) ∷ []
 
 -- ---- the marks beside a history
 
-abbrev pub kept_marks : List Mark
-kept_marks = the.Entry 0 ∷ the.Connected 1 1 ∷ the.Fetched 1 0 1 ∷ the.Entry 1 ∷ the.Took 1 1 ∷ the.Entry 2 ∷ the.Entry 3 ∷ []
+abbrev pub kept_marks : List KeptItem
+kept_marks =
+    kept.Entry 0 ∷ kept.Mark (the.Connected 1 1) ∷ kept.Mark (the.Fetched 1 0 1) ∷ kept.Entry 1 ∷ kept.Mark (the.Took 1 1)
+    ∷ kept.Entry 2 ∷ kept.Entry 3 ∷ []

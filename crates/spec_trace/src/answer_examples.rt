@@ -18,13 +18,13 @@ ghost use Rattle.std.specs.Prelude.{◌≡◌, [], ◌∷◌, ◌++◌, None, So
 /// A copy that another session has written since is stale until its client has taken the message of
 /// it, or has acknowledged it.
 pub fn stale_examples()
-    ensures nothing_written { answer_in home (take 6 written_since) (second_reads 3 0) ≡ None }
+    ensures nothing_written { answer_in home (take 8 written_since) (second_reads 3 0) ≡ None }
     ensures stale { answer_in home written_since (second_reads 3 0) ≡ Some (refused.Reason (reasons.Stale x 2)) }
     ensures stale_until_known { answer_in home invalid_taken (second_reads 3 2) ≡ Some (refused.Reason (reasons.Stale x 2)) }
     ensures known { answer_in home invalid_taken (second_reads 3 3) ≡ None }
     ensures sound_with_it { is_sound home (entries invalid_taken ++ One (second_reads 3 3) ∷ []) ≡ true }
     ensures acknowledged { answer_in home acknowledged (second_reads 3 0) ≡ None }
-    ensures no_page { verdict home written_since 1 (second_reads 3 0) ≡ None }
+    ensures no_page { verdict home connected_anew 3 (second_reads 3 0) ≡ None }
 {}
 
 /// A session that has ended, or never began, is gone.

@@ -2,7 +2,7 @@
 
 ghost use Rattle.spec_trace.specs.Calls.{Settled, Undecided, asked, drawer, is_kept, last_drawn, next_page, next_session, welcome};
 ghost use Rattle.spec_trace.specs.Exact.{ComesFromSession, ItemIsExact, exact};
-ghost use Rattle.spec_trace.specs.ExactExamples.{borrowed, copy_of_x, creating, deciding, fetched, forgetting, nothing_committed, opened, refusing, restarted, since_fetched};
+ghost use Rattle.spec_trace.specs.ExactExamples.{borrowed, copy_of_x, creating, deciding, fetched, forgetting, granted_to_other, nothing_committed, opened, refusing, restarted, since_fetched};
 ghost use Rattle.spec_history.specs.Examples.{again, at, create_z, home, reading_x, upgraded, x};
 ghost use Rattle.spec_trace.specs.Current.{Takes};
 ghost use Rattle.spec_trace.specs.Epochs.{upgrades_before};
@@ -29,8 +29,8 @@ pub fn exact_examples()
 
 /// Items that no repository adds: a session number twice, a page that isn't the next one, a message that
 /// doesn't wait, a timestamp below the last one or of another life, a refusal that isn't the verdict's, a
-/// call of a session that has ended, a request under another client's session, one on a page that wasn't
-/// granted, and a decision that nobody made.
+/// call of a session that has ended, a request under another client's session, one that writes on a page
+/// that wasn't granted or that was granted to another session, and a decision that nobody made.
 pub fn inexact_examples()
     ensures number { ¬ ItemIsExact home opened (M (the.Connected 1 2)) }
     ensures page { ¬ ItemIsExact home opened (M (the.Granted 1 2)) }
@@ -41,6 +41,7 @@ pub fn inexact_examples()
     ensures ended { ¬ ItemIsExact home connected_anew (M (the.Fetched 2 0 0)) }
     ensures client { ¬ ComesFromSession home invalid_taken borrowed }
     ensures granted { ¬ ItemIsExact home opened (E (create_z 1)) }
+    ensures paged { ¬ ItemIsExact home granted_to_other (E (create_z 1)) }
     ensures forgotten { ¬ ItemIsExact home opened (M (the.Forgot (at 1))) }
 {}
 
@@ -52,7 +53,7 @@ pub fn call_examples()
     ensures restarted { last_drawn home restarted ≡ 7 }
     ensures drawer { drawer creating (at 1) ≡ Some 1 }
     ensures nobody { drawer creating (at 2) ≡ None }
-    ensures undecided { asked home (take 4 deciding) (at 1) ≡ Undecided }
+    ensures undecided { asked home (take 6 deciding) (at 1) ≡ Undecided }
     ensures kept { asked home deciding (at 1) ≡ Settled true }
     ensures forgotten { asked home forgetting (at 1) ≡ Settled false }
     ensures alone { asked home creating (at 1) ≡ Settled true }

@@ -37,11 +37,9 @@ pub fn next_numbers_rise()
     ensures granted { (b : Base) (T : List Item) (s page : ℕ) → IsTrue (was_granted T s page) → page < next_page b T }
 {}
 
-/// Where a page brings what is there, each object that stands or was written is on a page below the next
-/// one.
+/// Each object that stands or was written is on a page below the next one.
 pub fn pages_are_granted()
-    ensures { (b : Base) (T : List Item) → IsBase b → IsTrue b.tells → sound b (entries T) → exact b T →
-        PagesAreGranted b T }
+    ensures { (b : Base) (T : List Item) → IsBase b → sound b (entries T) → exact b T → PagesAreGranted b T }
 {}
 
 /// A timestamp is drawn once.

@@ -9,6 +9,7 @@ mod epoch_laws;
 mod gap_laws;
 mod item_examples;
 mod item_laws;
+mod kept_item;
 mod mark;
 mod session_laws;
 mod told_examples;
@@ -25,10 +26,12 @@ pub use item_laws::{
     accepted_requests_continue, answers_agree, exact_traces_grow, next_numbers_rise,
     pages_are_granted, sessions_are_numbered, stamps_are_drawn_once,
 };
+pub use kept_item::KeptItem;
 pub use mark::Mark;
 pub use session_laws::{
     commits_are_told, copies_are_current, copies_stay_right, current_copies_stay,
-    messages_are_in_order, messages_keep_copies, own_writes_stay, pages_stay, sessions_grow,
+    messages_are_in_order, messages_keep_copies, own_writes_stay, pages_bring_what_was_read,
+    pages_stay, sessions_grow,
 };
 pub use told_examples::{
     own_write_examples, session_examples, session_life_examples, trace_example,

@@ -4,15 +4,9 @@ use log_entries::Request;
 use repo_refusals::Refusal;
 use thor_value::Ts;
 
-/// One item of the trace of a repository: an entry of its history, by its place, or the mark of
-/// something that no log keeps.
+/// The mark of something that happened at a repository and that no log keeps.
 #[derive(Debug, Drop)]
 pub enum Mark {
-    /// The next entry of the history.
-    Entry {
-        /// Its place, from 0.
-        place: u64,
-    },
     /// A client connected.
     Connected {
         /// The session that begins.

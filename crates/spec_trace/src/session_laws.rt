@@ -3,7 +3,7 @@
 ghost use Rattle.log_entries.specs.declared.entry.Entry.{Entry};
 ghost use Rattle.log_entries.specs.declared.request.Request.{Request};
 ghost use Rattle.spec_history.specs.Requests.{written};
-ghost use Rattle.spec_trace.specs.Current.{InStep, IsCurrent, IsOwnWrite, IsRightOrStale, NoneAborted, OthersOrSame, OthersSince, OthersWrite, PassesItem, RightAt, Takes, WasToldOf, commits_in, is_taking, names_invalid};
+ghost use Rattle.spec_trace.specs.Current.{InStep, IsCurrent, IsOwnWrite, IsRightOrStale, NoPageWaits, NoneAborted, OthersOrSame, OthersSince, OthersWrite, PassesItem, RightAt, Takes, WasToldOf, commits_in, is_taking, names_invalid};
 ghost use Rattle.spec_history.specs.History.{Base, IsCommitted, Known, commit_of, objects_at, known_by, state, writers};
 ghost use Rattle.spec_history.specs.Outcomes.{MaySettle};
 ghost use Rattle.spec_trace.specs.Messages.{KeepsOrder, WaitsByPlace};
@@ -44,7 +44,7 @@ pub fn copies_are_current()
 /// A copy that was right at a place stays so while its client takes no message and other sessions
 /// alone write its object, whatever else the trace gains. The client stays in step with its session
 /// where it acknowledges no more than it knows. What a transaction wrote is right behind its commit,
-/// also where it is the session's own.
+/// also where it is the session's own, while no page of the object waits.
 pub fn copies_stay_right()
     ensures right { (b : Base) (T : List Item) (i : Item) (s : ℕ) (v w : Session) (x : Oref) (o : Obj) (m : ℕ) →
         session b T s ≡ Some v → session b (T ++ i ∷ []) s ≡ Some w → InStep v →
@@ -56,7 +56,7 @@ pub fn copies_stay_right()
     ensures committed { (b : Base) (T : List Item) (e : Entry) (s : ℕ) (v w : Session) (q : Request) (x : Oref) (o : Obj) →
         session b T s ≡ Some v → session b (T ++ E e ∷ []) s ≡ Some w → InStep v →
         commit_of b (state b (entries T)) e ≡ (length (entries T), q) ∷ [] → get (written q) x ≡ Some o →
-        IsSomeAnd (get v.pages x.page) (λ c. c ≤ length (entries T)) →
+        IsSomeAnd (get v.pages x.page) (λ c. c ≤ length (entries T)) → NoPageWaits v x →
         RightAt b (entries (T ++ E e ∷ [])) s w x o (length (entries T) + 1) }
 {}
 
@@ -83,9 +83,17 @@ pub fn messages_keep_copies()
         Takes b T s v w place m → InStep v → InStep w }
 {}
 
+/// What a client holds of a page that it takes is what the page brings: no page that waits is older than a copy.
+pub fn pages_bring_what_was_read()
+    ensures { (b : Base) (T : List Item) (s : ℕ) (v w : Session) (place page k : ℕ) (x : Oref) (o : Obj) (n : ℕ) →
+        Takes b T s v w place (Page page k) → x.page ≡ page → sound b (entries T) →
+        RightAt b (entries T) s v x o n → get (objects_at b (entries T) k) x ≡ Some o }
+{}
+
 /// A write of the session's own stays one, with the same standing, behind each mark and each entry
 /// that can't settle its transaction: another's request, a decision about another, a Life of another
-/// coordinator. Where an entry commits the transaction here, the copy is right at the place behind it.
+/// coordinator. Where an entry commits the transaction here, the copy is right at the place behind it, while
+/// no page of the object waits.
 /// Where an entry aborts it, the copy is no own write any more, and nothing is said of it. A
 /// transaction that turns out to be committed at its coordinator makes no copy less current.
 pub fn own_writes_stay()
@@ -95,7 +103,7 @@ pub fn own_writes_stay()
         sound b (entries (T ++ E e ∷ [])) → ¬ MaySettle b t e →
         IsOwnWrite b (entries T) s committed x o t p → IsOwnWrite b (entries (T ++ E e ∷ [])) s committed x o t p }
     ensures committed { (b : Base) (T : List Item) (e : Entry) (s : ℕ) (v w : Session) (committed : Ts → Bool) (x : Oref) (o : Obj) (t : Ts) (p q : Known) →
-        PassesItem b T (E e) s v w → InStep v → has v.pages x.page ≡ true → sound b (entries (T ++ E e ∷ [])) →
+        PassesItem b T (E e) s v w → InStep v → has v.pages x.page ≡ true → NoPageWaits v x → sound b (entries (T ++ E e ∷ [])) →
         IsOwnWrite b (entries T) s committed x o t p → known_by b (entries (T ++ E e ∷ [])) t ≡ Some q → IsCommitted q.fate →
         RightAt b (entries (T ++ E e ∷ [])) s w x o (length (entries T) + 1) }
     ensures more { (b : Base) (H : List Entry) (s : ℕ) (v : Session) (committed more : Ts → Bool) (x : Oref) (o : Obj) →
@@ -105,13 +113,13 @@ pub fn own_writes_stay()
 
 /// A current copy stays current while its client takes no message, whatever the trace gains, where no
 /// transaction that committed at its coordinator is aborted here, and where what the session itself
-/// commits of the object is the copy. It stays so where its client takes a message that doesn't name
+/// commits of the object is the copy and no page of the object waits then. It stays so where its client takes a message that doesn't name
 /// its object. What a page brings is current, where other sessions alone have written it since.
 pub fn current_copies_stay()
     ensures grown { (b : Base) (T : List Item) (i : Item) (s : ℕ) (v w : Session) (committed : Ts → Bool) (x : Oref) (o : Obj) →
         PassesItem b T i s v w → InStep v → has v.pages x.page ≡ true →
         sound b (entries (T ++ i ∷ [])) → NoneAborted b (entries (T ++ i ∷ [])) committed →
-        OthersOrSame s x o (commits_in b (entries T) i) →
+        OthersOrSame s v x o (commits_in b (entries T) i) →
         IsCurrent b (entries T) s v committed x o → IsCurrent b (entries (T ++ i ∷ [])) s w committed x o }
     ensures taken { (b : Base) (T : List Item) (s : ℕ) (v w : Session) (place : ℕ) (m : Notice) (committed : Ts → Bool) (x : Oref) (o : Obj) →
         Takes b T s v w place m → names_invalid x m ≡ false → sound b (entries T) →

@@ -17,7 +17,7 @@ ghost use Rattle.thor_value.specs.FiniteMap.{get};
 /// What a session is told, what waits for it, and what its client knows.
 pub fn session_examples()
     ensures page { waiting_in (take 4 written_since) ≡ Some (Page 0 1 ∷ []) }
-    ensures nothing_written { x_invalid_in (take 6 written_since) ≡ None }
+    ensures nothing_written { x_invalid_in (take 8 written_since) ≡ None }
     ensures told { waiting_in written_since ≡ Some (Invalid (x ∷ []) 2 ∷ []) }
     ensures known { known_in written_since ≡ Some 1 }
     ensures stale { x_invalid_in written_since ≡ Some 2 }
@@ -35,7 +35,7 @@ pub fn session_life_examples()
     ensures live { stage_in home written_since ≡ Some Live }
     ensures anew { stage_in home connected_anew ≡ Some Ended }
     ensures restarted { stage_in home restarted ≡ Some Ended }
-    ensures patient { stage_in hasty (take 6 written_since) ≡ Some Live }
+    ensures patient { stage_in hasty (take 8 written_since) ≡ Some Live }
     ensures silent { stage_in hasty written_since ≡ Some Retired }
     ensures untold { option_map waiting (session hasty (written_since ++ E (set_x 3 8) ∷ []) 2) ≡ Some (Invalid (x ∷ []) 2 ∷ []) }
     ensures silent_anew { stage_in hasty connected_anew ≡ Some Ended }
