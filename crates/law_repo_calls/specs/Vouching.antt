@@ -1,4 +1,5 @@
 -- What no repository tests, and who calls it vouches for.
+use Rattle.cached_sets.specs.Noted.{most_noted}
 use Rattle.class_defs.specs.declared.store.Setup.{Setup}
 use Rattle.log_entries.specs.declared.request.Request.{Request}
 use Rattle.repo_state.specs.declared.held.Held.{Held}
@@ -11,7 +12,7 @@ use Rattle.spec_history.specs.Requests.{has_created, has_written}
 use Rattle.spec_trace.specs.Calls.{was_granted}
 use Rattle.spec_trace.specs.Session.{session}
 use Rattle.std.specs.Option.{IsSomeAnd}
-use Rattle.std.specs.Prelude.{[], IsTrue, None, length, true, ℕ, ◌+◌, ◌<◌, ◌^◌, ◌≡◌, ◌≤◌}
+use Rattle.std.specs.Prelude.{[], IsTrue, Some, length, true, ℕ, ◌+◌, ◌<◌, ◌^◌, ◌≡◌, ◌≤◌}
 use Rattle.repo_format.specs.Fresh.{first_ts, page_count}
 use Rattle.thor_value.specs.FiniteMap.{empty, has}
 use Rattle.thor_value.specs.declared.names.Oref.{Oref}
@@ -37,7 +38,7 @@ WasKept b x t = has (state_of b x.trace).kept t ≡ true
 
 -- what was recovered says what the base says
 pub record IsBase (b : Base) (h : Held) : Type 0 where
-  pub silence : b.silence ≡ None
+  pub silence : b.silence ≡ Some most_noted
   pub begins : CanBegin b h
   pub limit : h.objects.mob.limit ≡ b.limit
 
@@ -52,4 +53,4 @@ pub record IsNewBase (repo : ℕ) (setup : Setup) (mob : ℕ) (b : Base) : Type 
   pub next_page : b.next_page ≡ page_count repo setup.roots
   pub alone : b.alone ≡ empty
   pub left : b.left ≡ empty
-  pub silence : b.silence ≡ None
+  pub silence : b.silence ≡ Some most_noted
