@@ -2,7 +2,8 @@
 use Rattle.cached_sets.specs.Invalid.{Invalid, Invalids, set_of}
 use Rattle.cached_sets.specs.Sets.{Sets}
 use Rattle.link_table.specs.Pairs.{is_linked}
-use Rattle.std.specs.Prelude.{Bool, None, Option, Some, cond, nat_le, ℕ, ◌≡◌}
+use Rattle.std.specs.List.{AllByRecursion}
+use Rattle.std.specs.Prelude.{Bool, List, None, Option, Some, [], cond, nat_le, ℕ, ◌∷◌, ◌≡◌, ◌≤◌}
 use Rattle.thor_value.specs.FiniteMap.{IsSorted, get}
 use Rattle.thor_value.specs.declared.names.Oref.{Oref}
 
@@ -22,3 +23,8 @@ unless_below upto k = cond (nat_le upto k) (Some k) None
 pub record IsOrdered (N : Invalids) : Type 0 where
   pub sessions : IsSorted N
   pub sets : (s : ℕ) (m : Invalid) → get N s ≡ Some m → IsSorted m
+
+-- None of some places is below one before it.
+abbrev pub NeverFall : List ℕ → Type 0
+NeverFall [] = Unit {0}
+NeverFall (k ∷ ks) = AllByRecursion (λ j. k ≤ j) ks × NeverFall ks

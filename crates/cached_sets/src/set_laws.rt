@@ -1,11 +1,13 @@
 //! What the calls do to each session and each object.
 
-ghost use Rattle.cached_sets.specs.Meaning.{IsOrdered, has_page, place_in, unless_below};
-ghost use Rattle.cached_sets.specs.Sets.{Sets, acknowledge, cache, drop_session, no_sets, touch};
+ghost use Rattle.cached_sets.specs.Meaning.{IsOrdered, NeverFall, has_page, place_in, unless_below};
+ghost use Rattle.cached_sets.specs.Sets.{Sets, acknowledge, cache, drop_session, no_sets, note, touch};
+ghost use Rattle.cached_sets.specs.Noted.{places_of};
 ghost use Rattle.link_table.specs.Pairs.{is_pair};
+ghost use Rattle.std.specs.List.{filter};
 ghost use Rattle.std.specs.Option.{option_and_then};
-ghost use Rattle.std.specs.Prelude.{List, None, Some, cond, false, nat_eq, not, true, ℕ, ◌&&◌, ◌||◌, ◌≡◌};
-ghost use Rattle.thor_value.specs.FiniteMap.{has};
+ghost use Rattle.std.specs.Prelude.{List, None, Some, [], cond, false, nat_eq, nat_le, not, true, ℕ, ◌&&◌, ◌++◌, ◌||◌, ◌∷◌, ◌≡◌};
+ghost use Rattle.thor_value.specs.FiniteMap.{IsSorted, has};
 ghost use Rattle.thor_value.specs.declared.names.Oref.{Oref};
 ghost use Rattle.validation_queue.specs.Names.{is_among};
 
@@ -37,4 +39,22 @@ pub fn sets_stay_ordered()
     ensures acknowledged { (S : Sets) (s upto : ℕ) → IsOrdered S.invalid →
         IsOrdered (acknowledge S s upto).invalid }
     ensures dropped { (S : Sets) (s : ℕ) → IsOrdered S.invalid → IsOrdered (drop_session S s).invalid }
+{}
+
+/// A session has the places that were noted of it and that its client hasn't acknowledged, in the order of noting, where
+/// that never falls.
+pub fn places_say_what_was_told()
+    ensures begins { (s : ℕ) → places_of no_sets.noted s ≡ [] }
+    ensures noted { (S : Sets) (n k s : ℕ) →
+        places_of (note S n k).noted s ≡ places_of S.noted s ++ cond (nat_eq n s) (k ∷ []) [] }
+    ensures acknowledged { (S : Sets) (n upto s : ℕ) → NeverFall (places_of S.noted n) →
+        places_of (acknowledge S n upto).noted s
+        ≡ cond (nat_eq n s) (filter (nat_le upto) (places_of S.noted s)) (places_of S.noted s) }
+    ensures dropped { (S : Sets) (n s : ℕ) → IsSorted S.noted →
+        places_of (drop_session S n).noted s ≡ cond (nat_eq n s) [] (places_of S.noted s) }
+    ensures begins_ordered { IsSorted no_sets.noted }
+    ensures noted_ordered { (S : Sets) (n k : ℕ) → IsSorted S.noted → IsSorted (note S n k).noted }
+    ensures acknowledged_ordered { (S : Sets) (n upto : ℕ) → IsSorted S.noted →
+        IsSorted (acknowledge S n upto).noted }
+    ensures dropped_ordered { (S : Sets) (n : ℕ) → IsSorted S.noted → IsSorted (drop_session S n).noted }
 {}

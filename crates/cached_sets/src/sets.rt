@@ -1,17 +1,19 @@
 //! The calls of a repository on the sets of its sessions.
 
 ghost use Rattle.cached_sets.specs.Cost.{stale_steps, touch_steps};
-ghost use Rattle.cached_sets.specs.Sets.{acknowledge, cache, drop_session, invalid_after, marked, no_sets, stale, touch, touches};
+ghost use Rattle.cached_sets.specs.Noted.{is_silent, places_from, places_of};
+ghost use Rattle.cached_sets.specs.Sets.{acknowledge, cache, drop_session, invalid_after, marked, no_sets, note, stale, touch, touches};
 ghost use Rattle.cached_sets.specs.Invalid.{Invalids, set_of};
 ghost use Rattle.cached_sets.specs.Undoing.{undo};
 ghost use Rattle.link_table.specs.Pairs.{first, lefts, next, rights};
 ghost use Rattle.std.specs.List.{IsDistinct, last_or};
 ghost use Rattle.std.specs.Map.{keys_of};
-ghost use Rattle.std.specs.Prelude.{List, None, Ok, OnErr, OnOk, OnSome, [], length, nat_eq, ℕ, ◌*◌, ◌++◌, ◌+◌, ◌<◌, ◌∷◌, ◌≡◌, ◌≤◌};
+ghost use Rattle.std.specs.Prelude.{IfOk, List, None, Ok, OnErr, OnOk, OnSome, [], length, nat_eq, ℕ, ◌*◌, ◌++◌, ◌+◌, ◌<◌, ◌∷◌, ◌≡◌, ◌≤◌};
 ghost use Rattle.validation_queue.specs.Names.{Rises};
 
 use crate::invalid_sets::InvalidSets;
 use crate::marked::Marked;
+use crate::noted_places::NotedPlaces;
 use link_table::Links;
 use std::alloc::Global;
 use std::marker::{Brand, Model};
@@ -24,10 +26,13 @@ use thor_value::{NoMemory, Oref, Orefs, StepCount, Writes};
 ///
 /// An object comes into a set only where the page is cached before the write, so no place is kept with
 /// a page.
+///
+/// Beside these stand the places at which each session was told what its client hasn't acknowledged.
 #[derive(Drop)]
 pub struct Sets {
     pages: Links,
     invalid: InvalidSets,
+    noted: NotedPlaces,
     alloc: Global,
 }
 
@@ -36,7 +41,7 @@ impl Model for Sets {
 
     ghost Value = { Kept };
 
-    ghost view = { λ s. record { cached = s.pages; invalid = s.invalid } };
+    ghost view = { λ s. record { cached = s.pages; invalid = s.invalid; noted = s.noted } };
 }
 
 impl Sets {
@@ -47,6 +52,7 @@ impl Sets {
         Ok(Sets {
             pages: Links::new(alloc)?,
             invalid: InvalidSets::new(alloc),
+            noted: NotedPlaces::new(alloc),
             alloc,
         })
     }
@@ -144,12 +150,50 @@ impl Sets {
         self.pages.next_left(page, after)
     }
 
+    /// A session was told of a commit at a place, which its client hasn't acknowledged. The answer is whether it has
+    /// more than 4,096 such places then. After `NoMemory` the sets are as they were.
+    ///
+    /// It takes time in proportion to the logarithm of how many sessions there are.
+    pub fn note(&mut self, session: u32, place: u64) -> Result<bool, NoMemory>
+        ensures answer { IfOk result (λ silent. silent ≡ is_silent self.new.noted session) }
+        ensures ok { OnOk result (self.new ≡ note self.old session place) }
+        ensures err { OnErr result (self.new ≡ self.old) }
+    {
+        self.noted.note(session, place)
+    }
+
     /// The client of a session knows what was written below a place: those objects leave its invalid
-    /// set. It looks once at each object of that set, and at no other, and takes no memory.
+    /// set. It looks once at each object of that set, and at no other, and takes no memory. The places at which it was
+    /// told of them go, too: `acknowledge_counted` says how many steps.
     pub fn acknowledge(&mut self, session: u32, upto: u64)
         ensures { self.new ≡ acknowledge self.old session upto }
     {
+        self.acknowledge_uncounted::<Brand>(session, upto, Blank::new(1));
+    }
+
+    fn acknowledge_uncounted<L: Ledger>(&mut self, session: u32, upto: u64, ledger: Blank)
+        requires name { ledger.name ≡ L.name }
+        requires parts { ledger.parts ≡ L.parts }
+        requires some { 0 < ledger.parts }
+        ensures { self.new ≡ acknowledge self.old session upto }
+    {
+        let mut steps: StepCount<L> = StepCount::new(ledger);
+        self.acknowledge_counted(session, upto, &mut steps);
+    }
+
+    /// `acknowledge`, counted: one step for each place that goes, so that each place that was noted costs one at most,
+    /// and none for the places that stay or are other sessions'.
+    pub fn acknowledge_counted<L: Ledger>(
+        &mut self,
+        session: u32,
+        upto: u64,
+        steps: &mut StepCount<L>,
+    )
+        ensures rest { self.new ≡ acknowledge self.old session upto }
+        ensures cost { steps.new + length (places_from upto (places_of self.old.noted session)) ≡ steps.old + length (places_of self.old.noted session) }
+    {
         self.invalid.keep_from(session, upto);
+        self.noted.keep_from(session, upto, steps);
     }
 
     /// The least of the names that a request read which its session's invalid set has at a place not
@@ -206,7 +250,7 @@ impl Sets {
         self.invalid.next(session, after)
     }
 
-    /// A session ends: it has no page and no invalid set. It takes no memory: `drop_counted` says how
+    /// A session ends: it has no page, no invalid set and no place. It takes no memory: `drop_counted` says how
     /// many steps.
     pub fn drop_session(&mut self, session: u32)
         ensures { self.new ≡ drop_session self.old session }
@@ -224,7 +268,7 @@ impl Sets {
         self.drop_counted(session, &mut steps);
     }
 
-    /// `drop_session`, counted: one step for each page that the session has. Its invalid set goes as a
+    /// `drop_session`, counted: one step for each page that the session has. Its invalid set and its places go as a
     /// whole.
     pub fn drop_counted<L: Ledger>(&mut self, session: u32, steps: &mut StepCount<L>)
         ensures rest { self.new ≡ drop_session self.old session }
@@ -232,6 +276,7 @@ impl Sets {
     {
         self.pages.unlink_left(session, steps);
         self.invalid.close(session);
+        self.noted.close(session);
     }
 }
 

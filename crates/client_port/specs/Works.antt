@@ -13,9 +13,9 @@ use Rattle.session_outbox.specs.declared.answers.Welcome.{Welcome}
 use Rattle.session_outbox.specs.declared.message.Message.{Message}
 use Rattle.client_port.specs.Growing.{Called}
 use Rattle.client_port.specs.Views.{Calm, Halted, MayCome, Unsettled, View}
-use Rattle.spec_trace.specs.Notices.{lives, notice_of}
+use Rattle.spec_trace.specs.Notices.{is_unended, lives, notice_of}
 use Rattle.spec_trace.specs.Calls.{Asked, Settled, Undecided, Welcomed, asked, is_kept, is_last_alone, next_page, welcome}
-use Rattle.spec_trace.specs.Exact.{IsDrawn, IsGoneIn, RefusalIsExact, most_pages}
+use Rattle.spec_trace.specs.Exact.{IsDrawn, IsEndedIn, IsGoneIn, RefusalIsExact, most_pages}
 use Rattle.spec_trace.specs.Session.{place_of, session, waiting}
 use Rattle.spec_trace.specs.Trace.{E, Item, M, entries}
 use Rattle.spec_trace.specs.Verdict.{verdict}
@@ -173,15 +173,15 @@ is_prepared_by s (Some o) = nat_eq o.request.session s && is_undecided (Some o)
 abbrev pub commits_by : Base → List Item → Ts → Bool
 commits_by b T t = is_kept b T t || is_last_alone b T t
 
--- What a coordinator decides of t, which its session prepared, or how t stands there. Of a transaction of an earlier run it may
--- tell more than the trace does: its table keeps decisions of earlier runs until a checkpoint.
+-- What a coordinator decides of t, which its session prepared, or how t stands there; its session may have been given up. Of a
+-- transaction of an earlier run it may tell more than the trace does: its table keeps decisions of earlier runs until a checkpoint.
 abbrev pub Decides : Bool → Ts → Bool → Verdict → Base → List Item → List Item → Unsettled → Type 0
 Decides true t c v b at after u = (v.commit ≡ c) × IsBehind at (E (Decided t c)) after u
 Decides false t c v b at after u = (b.life < t.life → v.commit ≡ commits_by b at t) × IsAsMet at after u
 
 abbrev pub DecideWork : ℕ → Ts → Bool → Result Verdict Refusal → Base → List Item → List Item → Unsettled → Type 0
-DecideWork s t c (Ok v) b at after u = (lives (session b at s) ≡ true) × (v.tx ≡ t) × Decides (is_prepared_by s (known_by b (entries at) t)) t c v b at after u
-DecideWork s t c (Err (refused.Reason r)) b at after u = RefusedUnmarked b at s (refused.Reason r) after u
+DecideWork s t c (Ok v) b at after u = (is_unended (session b at s) ≡ true) × (v.tx ≡ t) × Decides (is_prepared_by s (known_by b (entries at) t)) t c v b at after u
+DecideWork s t c (Err (refused.Reason r)) b at after u = (r ≡ reasons.Gone s) × IsEndedIn (session b at s) × IsAsMet at after u
 DecideWork s t c (Err r) b at after u = OutageWith (Decided t c) (is_prepared_by s (known_by b (entries at) t) ≡ true) at r after u
 
 abbrev pub FinishWork : Ts → Bool → Result (Option ℕ) Refusal → Base → List Item → List Item → Unsettled → Type 0

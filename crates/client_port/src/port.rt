@@ -54,7 +54,8 @@ pub trait Port {
     fn commit_one(&mut self, at: At, request: Request) -> Result<u64, Refusal>
         ensures call { shows ≡ true → Does (view self.old) (view self.new) at.repo result (CommitWork at.session request result) };
 
-    /// Decides a transaction at its coordinator. Refusal: `Gone`.
+    /// Decides a transaction at its coordinator, also where the session was given up since. Refusal: `Gone`, where it has
+    /// ended.
     fn decide(&mut self, at: At, tx: Ts, commit: bool) -> Result<Verdict, Refusal>
         ensures call { shows ≡ true → Does (view self.old) (view self.new) at.repo result (DecideWork at.session tx commit result) };
 

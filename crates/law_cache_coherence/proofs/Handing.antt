@@ -19,6 +19,7 @@ use Rattle.client_port.specs.Growing.{Called}
 use Rattle.client_port.specs.Views.{Calm, Halted, MayCome, Unsettled, View}
 use Rattle.client_port.specs.Works.{Answered, AskWork, CommitWork, DecideWork, Decides, Does, FinishWork, ForgetWork, OutageWith, PrepareWork, RequestRefused, alone_entry, is_prepared_by}
 use Rattle.spec_trace.specs.Current.{NoneAborted}
+use Rattle.spec_trace.proofs.Sessions.{ended_is_gone}
 use Rattle.spec_trace.specs.Notices.{lives}
 use Rattle.spec_trace.specs.Session.{session}
 use Rattle.spec_trace.specs.Trace.{E, Item, M, entries}
@@ -61,7 +62,7 @@ module _ (b : Base) (at after : List Item) (u : Unsettled) where
 
   decide_front : (s : ℕ) (t : Ts) (k : Bool) (result : Result Verdict Refusal) → DecideWork s t k result b at after u → Front at after
   decide_front s t k (Ok v) w = decides_front t k v (is_prepared_by s (known_by b (entries at) t)) w.2
-  decide_front s t k (Err (refused.Reason z)) w = unmarked_front b at after u s (refused.Reason z) w
+  decide_front s t k (Err (refused.Reason z)) w = unmarked_front b at after u s (refused.Reason z) (w.0, ended_is_gone (session b at s) w.1, w.2)
   decide_front s t k (Err (refused.Down n)) w = none_more at after w.0
   decide_front s t k (Err (refused.Stopped n)) w = none_more at after w.0
   decide_front s t k (Err (refused.Damaged n z)) w = none_more at after w.0

@@ -20,8 +20,9 @@ use Rattle.client_port.specs.Works as works
 use Rattle.client_port.specs.Works.{Answered, AskWork, CommitWork, ConnectWork, DecideWork, Does, DrawWork, FetchWork, FinishWork, ForgetWork, GrantWork, IsAsMet, IsBehind, IsHalted, MayHaveLeft, OutageWith, PrepareWork, ReceiveWork, RefusedMarked, RefusedUnmarked, RequestRefused, alone_entry, is_prepared_by}
 use Rattle.spec_trace.specs.Calls.{next_page}
 use Rattle.spec_trace.specs.Exact.{exact}
+use Rattle.spec_trace.proofs.Sessions.{ended_is_gone}
 use Rattle.spec_trace.specs.Notices.{notice_of}
-use Rattle.spec_trace.specs.Session.{place_of}
+use Rattle.spec_trace.specs.Session.{place_of, session}
 use Rattle.spec_trace.specs.Trace.{E, Item, M, entries}
 use Rattle.spec_trace.specs.declared.mark.Mark.TheVariants as the
 use Rattle.std.proofs.Common.{Bool, List, [], ap, false, inl, inr, refl, subst, sym, true, ◌++◌, ◌∙◌, ◌∷◌, ◌≡◌, ◌≢◌, ℕ}
@@ -127,7 +128,7 @@ module _ (such : Entry → Bool) (b : Base) (at after : List Item) (u : Unsettle
 
   decides_so : (s : ℕ) (d : Ts) (k : Bool) (result : Result Verdict Refusal) → such (the_entry.Decided d k) ≡ false → DecideWork s d k result b at after u → Adds such at after u
   decides_so s d k (Ok v) other h = decision (is_prepared_by s (known_by b (entries at) d)) d k v other h.2
-  decides_so s d k (Err (refused.Reason r)) other h = unmarked s (refused.Reason r) h
+  decides_so s d k (Err (refused.Reason r)) other h = unmarked s (refused.Reason r) (h.0, ended_is_gone (session b at s) h.1, h.2)
   decides_so s d k (Err (refused.Down r)) other h = halted h
   decides_so s d k (Err (refused.Stopped r)) other h = stopped (the_entry.Decided d k) _ other h
   decides_so s d k (Err (refused.Damaged r n)) other h = halted h

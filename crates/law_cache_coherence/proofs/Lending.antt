@@ -5,7 +5,7 @@ use Rattle.law_cache_coherence.proofs.Growing.{agrees_before, grown}
 use Rattle.law_cache_coherence.proofs.Linked.{become, outlives_while, tells_took}
 use Rattle.law_cache_coherence.proofs.Staying.{clients_stay, is_own, lives_stands, when_live}
 use Rattle.law_cache_coherence.proofs.Working as works
-use Rattle.law_cache_coherence.specs.Fitting.{Agrees, Copies, FitsAt, HoldsNone, Kept, NoneToFinish, SameCopies, awaits_behind, is_unended}
+use Rattle.law_cache_coherence.specs.Fitting.{Agrees, Copies, FitsAt, HoldsNone, Kept, NoneToFinish, SameCopies, awaits_behind}
 use Rattle.law_cache_coherence.specs.Links.{Becomes, BringsContent, FitsOrNone}
 use Rattle.law_cache_coherence.specs.Seen.{IsSeenRight, LinkAt, LinkIn}
 use Rattle.client_state.specs.Calling.{Connects, CopiesBehind, CopiesLost, CopiesRefused, CopiesStay, Draws, Fetches, Grants, is_session_of, links_asked, links_drawn, links_joined, links_refused}
@@ -36,7 +36,7 @@ use Rattle.spec_trace.specs.Calls.{next_page}
 use Rattle.spec_trace.specs.Current.{NoneAborted}
 use Rattle.spec_trace.specs.Exact.{exact}
 use Rattle.spec_trace.specs.Gaps.{client_in}
-use Rattle.spec_trace.specs.Notices.{lives, notice_of}
+use Rattle.spec_trace.specs.Notices.{lives, notice_of, is_unended}
 use Rattle.spec_trace.specs.Session.{bound, is_news, place_of, session}
 use Rattle.spec_trace.specs.Trace.{Item, M, entries}
 use Rattle.spec_trace.specs.declared.mark.Mark.TheVariants as the

@@ -1,13 +1,13 @@
 -- A client's session is there behind more items, and what is kept there fits where it does while the session is live and nothing is
 -- unsettled.
 use Rattle.law_cache_coherence.proofs.Telling.{client_stays, of_client}
-use Rattle.law_cache_coherence.specs.Fitting.{FitsAt, KeepsUp, Kept, is_unended}
+use Rattle.law_cache_coherence.specs.Fitting.{FitsAt, KeepsUp, Kept}
 use Rattle.spec_history.specs.History.{Base, State}
 use Rattle.client_port.specs.Views.{Calm, Unsettled}
 use Rattle.spec_trace.proofs.Exactness.{exact-beginning, exact-owed}
 use Rattle.spec_trace.specs.Exact.{exact}
 use Rattle.spec_trace.specs.Gaps.{client_in}
-use Rattle.spec_trace.specs.Notices.{lives}
+use Rattle.spec_trace.specs.Notices.{is_unended, lives}
 use Rattle.spec_trace.specs.Session.{Ended, Live, Retired, Session, Stage, is_ended, is_live, is_silent, lives_on, move, moved, or_retired, rested, retired, session, session_ended, session_lives}
 use Rattle.spec_trace.specs.Trace.{Item}
 use Rattle.std.proofs.Common.{Bool, List, [], ap, append_assoc, cond, false, refl, subst, sym, true, ◌++◌, ◌∙◌, ◌∷◌, ◌≡◌, ℕ}

@@ -17,6 +17,7 @@ use Rattle.session_outbox.specs.declared.answers.Welcome.{Welcome}
 use Rattle.session_outbox.specs.declared.message.Message.{Message}
 use Rattle.client_port.specs.Views.{Calm, Halted, MayCome, Unsettled}
 use Rattle.client_port.specs.Works.{AskWork, CommitWork, ConnectWork, DecideWork, Decides, DrawWork, FetchWork, FinishWork, ForgetWork, GrantWork, IsAsMet, IsBehind, IsHalted, MayHaveLeft, OutageWith, PrepareWork, ReceiveWork, RefusedMarked, RefusedUnmarked, RequestRefused, is_prepared_by}
+use Rattle.spec_trace.proofs.Sessions.{ended_is_gone}
 use Rattle.spec_trace.specs.Notices.{lives, notice_of}
 use Rattle.spec_trace.proofs.Taken.{after-mark}
 use Rattle.spec_trace.specs.Calls.{next_page}
@@ -208,7 +209,7 @@ module _ (c : ℕ) (b : Base) (committed : Ts → Bool) where
     given_up t v w = given_up_any kept.session t v w
 
     pub undecided_any : (s : ℕ) (t : Ts) (k : Bool) (r : Refusal) → DecideWork s t k (Err r) b at after u → FitsAt c b u after committed kept
-    undecided_any s t k (refused.Reason r) w = unmarked_any s (refused.Reason r) w
+    undecided_any s t k (refused.Reason r) w = unmarked_any s (refused.Reason r) (w.0, ended_is_gone (session b at s) w.1, w.2)
     undecided_any s t k (refused.Down n) w = outage_fits (Decided t k) (is_prepared_by s (known_by b (entries at) t) ≡ true) (refused.Down n) w
     undecided_any s t k (refused.Stopped n) w = outage_fits (Decided t k) (is_prepared_by s (known_by b (entries at) t) ≡ true) (refused.Stopped n) w
     undecided_any s t k (refused.Damaged n p) w = outage_fits (Decided t k) (is_prepared_by s (known_by b (entries at) t) ≡ true) (refused.Damaged n p) w

@@ -6,7 +6,8 @@ use Rattle.spec_history.specs.History.{Base, IsCommitted, Known, Open, known_by,
 use Rattle.spec_history.specs.Requests.{has_written, written}
 use Rattle.client_port.specs.Views.{Calm, Unsettled}
 use Rattle.spec_trace.specs.Current.{InStep, IsCurrent, IsOwnWrite, NoneAborted, OthersSince}
-use Rattle.spec_trace.specs.Session.{Grant, Invalid, Notice, Page, Session, Upgrade, is_news, session, session_ended, session_lives, upto_of, waiting}
+use Rattle.spec_trace.specs.Notices.{is_unended}
+use Rattle.spec_trace.specs.Session.{Grant, Invalid, Notice, Page, Session, Upgrade, is_news, session, session_lives, upto_of, waiting}
 use Rattle.spec_trace.specs.Trace.{Item, entries}
 use Rattle.std.specs.List.{All, filter, list_any}
 use Rattle.std.specs.Option.{IsSomeAnd, option_or}
@@ -40,11 +41,6 @@ pub record Agrees (b : Base) (H : List Entry) (s : ℕ) (committed : Ts → Bool
   pub kept : NoneAborted b H committed
   -- the session's own commit here only where they have committed there
   pub led : (t : Ts) (o : Known) → known_by b H t ≡ Some o → o.request.session ≡ s → IsCommitted o.fate → committed t ≡ true
-
--- whether there is a session that hasn't ended
-abbrev pub is_unended : Option Session → Bool
-is_unended None = false
-is_unended (Some v) = not (session_ended v)
 
 -- It agrees so with the trace T, where the second is asked only of a session that hasn't ended, while nothing is unsettled: a
 -- decision that came while its call stopped isn't counted before the client is told.

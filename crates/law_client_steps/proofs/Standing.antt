@@ -3,7 +3,7 @@ use Rattle.client_cache.specs.Copies.{kept}
 use Rattle.law_cache_coherence.proofs.Lending.{Front, answered_front, met_standing, one_more, sound_now}
 use Rattle.law_cache_coherence.proofs.Resting.{rests}
 use Rattle.law_cache_coherence.proofs.Staying.{moved_stands}
-use Rattle.law_cache_coherence.specs.Fitting.{FitsAt, Kept, is_unended}
+use Rattle.law_cache_coherence.specs.Fitting.{FitsAt, Kept}
 use Rattle.law_cache_coherence.specs.Seen.{IsSeenRight, LinkAt, LinkIn}
 use Rattle.client_state.specs.Calling.{upto_in}
 use Rattle.client_state.specs.Links.{is_reply}
@@ -27,6 +27,7 @@ use Rattle.client_port.specs.Views.{Calm, Halted, MayCome, Opened, Unsettled, Vi
 use Rattle.client_port.specs.Works.{Answered, CommitWork, Does, PrepareWork, alone_entry}
 use Rattle.spec_trace.proofs.Sessions.{session-end}
 use Rattle.spec_trace.proofs.Traces.{entries-append}
+use Rattle.spec_trace.specs.Notices.{is_unended}
 use Rattle.spec_trace.specs.Session.{Session, lives_on, meet, session}
 use Rattle.spec_trace.specs.Trace.{E, Item, entries}
 use Rattle.spec_trace.specs.Verdict.{verdict, verdict_by}

@@ -11,10 +11,10 @@ use Rattle.law_client_views.specs.Plain as plain
 use Rattle.law_client_views.specs.Plain.{Stepped, left_by, message_of, next_stamp, received, received_by, refuse, requested, answer_of_asked}
 use Rattle.client_port.specs.Views.{Calm}
 use Rattle.client_port.specs.Works.{Answers, AskWork, CommitWork, ConnectWork, DecideWork, Decides, DrawWork, FetchWork, FinishWork, ForgetWork, GrantWork, IsAbout, IsMarked, PrepareWork, ReceiveWork, RequestRefused, alone_entry, commits_by, is_prepared_by}
-use Rattle.spec_trace.specs.Notices.{lives, notice_of}
+use Rattle.spec_trace.specs.Notices.{is_unended, lives, notice_of}
 use Rattle.spec_trace.specs.Calls.{Asked, Settled, Undecided, asked, drawn_time, last_drawn, next_page, next_session, welcome}
-use Rattle.spec_trace.specs.Exact.{IsDrawn, IsGoneIn, most_pages}
-use Rattle.spec_trace.specs.Session.{Grant, Invalid, Notice, Page, Session, Upgrade, place_of, session, session_lives, waiting}
+use Rattle.spec_trace.specs.Exact.{IsDrawn, IsEndedIn, IsGoneIn, most_pages}
+use Rattle.spec_trace.specs.Session.{Grant, Invalid, Notice, Page, Session, Upgrade, place_of, session, session_ended, session_lives, waiting}
 use Rattle.spec_trace.specs.Trace.{E, Item, M, entries}
 use Rattle.spec_trace.specs.Verdict.{verdict}
 use Rattle.spec_trace.specs.declared.mark.Mark.TheVariants as the
@@ -22,7 +22,7 @@ use Rattle.std.proofs.Common.{Bool, List, [], ap, arith, cond, drop, false, leng
 use Rattle.std.proofs.lemmas.Bool.Decides.{nat_tests}
 use Rattle.std.specs.List.{slice_get}
 use Rattle.std.specs.Option.{IfSome, IsSomeAnd}
-use Rattle.std.specs.Prelude.{Err, None, Ok, Option, Some, max, nat_lt, suc, zero}
+use Rattle.std.specs.Prelude.{Err, None, Ok, Option, Some, max, nat_lt, not, suc, zero}
 use Rattle.thor_value.specs.declared.names.Ts.{Ts}
 use Rattle.base_reasons.specs.declared.reason.Reason.TheVariants as reasons
 use Rattle.repo_refusals.specs.declared.refusal.Refusal.TheVariants as refused
@@ -37,6 +37,14 @@ not_below n m h = grind (arith, nat_tests)
 gone : (o : Option Session) → lives o ≡ false → IsGoneIn o
 gone None h = tt
 gone (Some v) h = h
+
+ended : (o : Option Session) → is_unended o ≡ false → IsEndedIn o
+ended None h = tt
+ended (Some v) h = by (session_ended v) h
+  where
+    by : (t : Bool) → not t ≡ false → t ≡ true
+    by true e = refl
+    by false e = cc
 
 live_and : (o : Option Session) (P : Session → Type 0) → lives o ≡ true → ((v : Session) → P v) → IsSomeAnd o (λ v. (session_lives v ≡ true) × P v)
 live_and None P h p = cc
@@ -174,19 +182,19 @@ abbrev MeetsDecide : Base → List Item → ℕ → Ts → Bool → Stepped Verd
 MeetsDecide b T s t c p = DecideWork s t c p.0 b T p.1 Calm
 
 pub decides : (b : Base) (T : List Item) (s : ℕ) (t : Ts) (c : Bool) → DecideWork s t c (plain.decide b T s t c).0 b T (plain.decide b T s t c).1 Calm
-decides b T s t c = by (lives (session b T s)) refl (is_prepared_by s (known_by b (entries T) t)) refl
+decides b T s t c = by (is_unended (session b T s)) refl (is_prepared_by s (known_by b (entries T) t)) refl
   where
     decided : Decides true t c (record { tx = t; commit = c }) b T (T ++ E (Decided t c) ∷ []) Calm
     decided = (refl, (refl, refl))
 
-    stands : Decides false t c (record { tx = t; commit = commits_by b T t }) b T T Calm
-    stands = (λ later. refl, (refl, refl))
+    as_is : Decides false t c (record { tx = t; commit = commits_by b T t }) b T T Calm
+    as_is = (λ later. refl, (refl, refl))
 
-    by : (l : Bool) → lives (session b T s) ≡ l → (u : Bool) → is_prepared_by s (known_by b (entries T) t) ≡ u
+    by : (l : Bool) → is_unended (session b T s) ≡ l → (u : Bool) → is_prepared_by s (known_by b (entries T) t) ≡ u
         → MeetsDecide b T s t c (cond l (cond u (Ok (record { tx = t; commit = c }), T ++ E (Decided t c) ∷ []) (Ok (record { tx = t; commit = commits_by b T t }), T)) (Err (refused.Reason (reasons.Gone s)), T))
     by true e true f = (e, refl, subst (λ (u : Bool). Decides u t c (record { tx = t; commit = c }) b T (T ++ E (Decided t c) ∷ []) Calm) (sym f) decided)
-    by true e false f = (e, refl, subst (λ (u : Bool). Decides u t c (record { tx = t; commit = commits_by b T t }) b T T Calm) (sym f) stands)
-    by false e u f = (refl, gone (session b T s) e, (refl, refl))
+    by true e false f = (e, refl, subst (λ (u : Bool). Decides u t c (record { tx = t; commit = commits_by b T t }) b T T Calm) (sym f) as_is)
+    by false e u f = (refl, ended (session b T s) e, (refl, refl))
 
 -- what the call promises of an answer and a trace
 abbrev MeetsFinish : Base → List Item → Ts → Bool → Stepped (Option ℕ) → Type 0

@@ -12,7 +12,7 @@ use Rattle.session_outbox.specs.declared.message.Message.TheVariants as messages
 use Rattle.session_outbox.specs.declared.message.Message.{Message}
 use Rattle.client_port.specs.Views.{Calm, Halted, Unsettled}
 use Rattle.client_port.specs.Works.{alone_entry, commits_by, is_prepared_by}
-use Rattle.spec_trace.specs.Notices.{lives}
+use Rattle.spec_trace.specs.Notices.{lives, is_unended}
 use Rattle.spec_trace.specs.Calls.{Asked, Settled, Undecided, asked, drawn_time, last_drawn, next_page, next_session, welcome}
 use Rattle.spec_trace.specs.Exact.{most_pages}
 use Rattle.spec_trace.specs.Session.{Grant, Invalid, Notice, Page, Session, Upgrade, place_of, session}
@@ -95,7 +95,7 @@ commit_one b T s q = requested T s q (alone_entry q) (verdict b T s q)
 
 abbrev pub decide : Base → List Item → ℕ → Ts → Bool → Stepped Verdict
 decide b T s t c =
-    cond (lives (session b T s))
+    cond (is_unended (session b T s))
     (cond (is_prepared_by s (known_by b (entries T) t)) (Ok (record { tx = t; commit = c }), T ++ E (Decided t c) ∷ []) (Ok (record { tx = t; commit = commits_by b T t }), T))
     (Err (refused.Reason (reasons.Gone s)), T)
 

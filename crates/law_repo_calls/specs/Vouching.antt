@@ -1,4 +1,5 @@
 -- What no repository tests, and who calls it vouches for.
+use Rattle.cached_sets.specs.Noted.{most_noted}
 use Rattle.class_defs.specs.declared.store.Setup.{Setup}
 use Rattle.log_entries.specs.declared.request.Request.{Request}
 use Rattle.repo_state.specs.declared.held.Held.{Held}
@@ -10,7 +11,7 @@ use Rattle.law_repo_memory.specs.Running.{CanBegin}
 use Rattle.spec_trace.specs.Session.{session}
 use Rattle.spec_trace.specs.Exact.{WritesOnPages}
 use Rattle.std.specs.Option.{IsSomeAnd}
-use Rattle.std.specs.Prelude.{[], None, length, true, ℕ, ◌+◌, ◌<◌, ◌^◌, ◌≡◌, ◌≤◌}
+use Rattle.std.specs.Prelude.{Some, [], length, true, ℕ, ◌+◌, ◌<◌, ◌^◌, ◌≡◌, ◌≤◌}
 use Rattle.repo_format.specs.Fresh.{first_ts, page_count}
 use Rattle.thor_value.specs.FiniteMap.{empty, has}
 use Rattle.thor_value.specs.declared.names.Ts.{Ts}
@@ -35,7 +36,7 @@ WasKept b x t = has (state_of b x.trace).kept t ≡ true
 
 -- what was recovered says what the base says
 pub record IsBase (b : Base) (h : Held) : Type 0 where
-  pub silence : b.silence ≡ None
+  pub silence : b.silence ≡ Some most_noted
   pub begins : CanBegin b h
   pub limit : h.objects.mob.limit ≡ b.limit
 
@@ -50,4 +51,4 @@ pub record IsNewBase (repo : ℕ) (setup : Setup) (mob : ℕ) (b : Base) : Type 
   pub next_page : b.next_page ≡ page_count repo setup.roots
   pub alone : b.alone ≡ empty
   pub left : b.left ≡ empty
-  pub silence : b.silence ≡ None
+  pub silence : b.silence ≡ Some most_noted

@@ -2,6 +2,7 @@
 use Rattle.repo_sessions.specs.Sessions.{Kept}
 use Rattle.spec_history.specs.History.{Base}
 use Rattle.law_repo_memory.specs.Judging.{SessionsAnswer}
+use Rattle.law_repo_sessions.proofs.Answering.{unended_answer}
 use Rattle.law_repo_sessions.specs.Agreeing.{SessionsAgree, client_of, invalid_place}
 use Rattle.spec_trace.specs.Notices.{lives}
 use Rattle.spec_trace.specs.Session.{Session, session, session_lives}
@@ -20,5 +21,6 @@ has_client (Some v) = by (session_lives v)
 pub session-answers : (b : Base) (T : List Item) (K : Kept) → SessionsAgree b T K → SessionsAnswer b T K
 session-answers b T K a = record {
   live = λ s. ap is_some (a.each s).client ∙ has_client (session b T s);
+  unended = λ s. unended_answer b T K s a;
   invalid = λ s v x is live. (a.each s).invalid x ∙ ap (λ o. invalid_place b (entries T) s o x) is;
 }

@@ -1,14 +1,14 @@
 -- Marks are exact where memory and history agree.
 use Rattle.log_entries.specs.declared.request.Request.{Request}
 use Rattle.repo_state.specs.declared.held.Held.{Held}
-use Rattle.repo_sessions.specs.Sessions.{is_live}
+use Rattle.repo_sessions.specs.Sessions.{is_live, has_session}
 use Rattle.spec_history.proofs.Listed.{is_some_and}
 use Rattle.spec_history.specs.History.{Base, epoch_of, known_by, known_in, state}
 use Rattle.law_repo_memory.proofs.Judging.{accepted-by-trace, verdict-exact}
 use Rattle.law_repo_memory.proofs.Opens.{undecided-some}
 use Rattle.law_repo_memory.specs.Agreeing.{Agrees, state_of, trace_of}
 use Rattle.law_repo_memory.specs.Judging.{IsAccepted, SessionsAnswer}
-use Rattle.spec_trace.specs.Notices.{lives}
+use Rattle.spec_trace.specs.Notices.{lives, is_unended}
 use Rattle.log_entries.specs.declared.entry.Entry.TheVariants.{Decided}
 use Rattle.log_entries.specs.declared.entry.Entry.{Entry}
 use Rattle.spec_trace.proofs.Traces.{entries-items}
@@ -25,7 +25,7 @@ use Rattle.std.specs.List.{AllByRecursion}
 use Rattle.std.specs.Map.{keys_of}
 use Rattle.std.specs.Option.{IsSomeAnd, is_some, option_or}
 use Rattle.std.specs.Ordering.{eq_by_cmp}
-use Rattle.std.specs.Prelude.{None, Option, Some, false, length, true, ◌^◌}
+use Rattle.std.specs.Prelude.{None, Option, Some, false, length, not, true, ◌^◌}
 use Rattle.thor_value.proofs.FiniteMap.{get-insert}
 use Rattle.thor_value.proofs.NameOrders.{oref_exact, oref_total}
 use Rattle.thor_value.specs.FiniteMap.{Map, empty, get, has, insert, overwrite}
@@ -94,13 +94,13 @@ clock-exact b r h M s now floor a sessions live over =
 
 -- ---- entries
 
-live_not_ended : (o : Option Session) → lives o ≡ true → IsSomeAnd o (λ v. session_ended v ≡ false)
-live_not_ended None e = cc
-live_not_ended (Some v) e = by v.stage refl e
+not_ended : (o : Option Session) → is_unended o ≡ true → IsSomeAnd o (λ v. session_ended v ≡ false)
+not_ended None e = cc
+not_ended (Some v) e = by v.stage refl e
   where
-    by : (x : Stage) → v.stage ≡ x → stages.is_live x ≡ true → is_ended v.stage ≡ false
+    by : (x : Stage) → v.stage ≡ x → not (is_ended x) ≡ true → is_ended v.stage ≡ false
     by Live k h = ap is_ended k
-    by Retired k h = cc
+    by Retired k h = ap is_ended k
     by Ended k h = cc
 
 -- ---- pages below a number
@@ -131,10 +131,10 @@ comes-exact b r h M q a sessions accepted client upto granted paged = record {
   paged = paged;
 }
 
--- the decision on what a live session has prepared
-pub decided-exact : (b : Base) (r : Recorded) (h : Held) (M : Memory) (t : Ts) (q : Request) (c : Bool) → Agrees b r h M → SessionsAnswer b (trace_of r) M.sessions → open_at h.table t ≡ Some q → is_live M.sessions q.session ≡ true → EntryIsExact b (trace_of r) (Decided t c)
-decided-exact b r h M t q c a sessions there live =
+-- the decision on what a session has prepared that hasn't ended
+pub decided-exact : (b : Base) (r : Recorded) (h : Held) (M : Memory) (t : Ts) (q : Request) (c : Bool) → Agrees b r h M → SessionsAnswer b (trace_of r) M.sessions → open_at h.table t ≡ Some q → has_session M.sessions q.session ≡ true → EntryIsExact b (trace_of r) (Decided t c)
+decided-exact b r h M t q c a sessions there up =
     let p = undecided-some b (state_of b r) (known_in b (state_of b r) t) q (sym (a.held.table.undecided t) ∙ there) in
     let known : known_by b (entries (trace_of r)) t ≡ Some p.0 = ap (λ (H : List Entry). known_by b H t) (entries-items r.history r.marks a.held.owed.trace) ∙ p.1 in
     is_some_and (known_by b (entries (trace_of r)) t) (λ o. IsSomeAnd (session b (trace_of r) o.request.session) (λ v. session_ended v ≡ false)) p.0 known
-    (live_not_ended (session b (trace_of r) p.0.request.session) (subst (λ (x : Request). lives (session b (trace_of r) x.session) ≡ true) (sym p.3) (sym (sessions.live q.session) ∙ live)))
+    (not_ended (session b (trace_of r) p.0.request.session) (subst (λ (x : Request). is_unended (session b (trace_of r) x.session) ≡ true) (sym p.3) (sym (sessions.unended q.session) ∙ up)))

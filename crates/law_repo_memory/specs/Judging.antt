@@ -1,12 +1,12 @@
 -- What a repository answers by its memory, and by its history.
 use Rattle.cached_sets.specs.Invalid.{set_of}
 use Rattle.log_entries.specs.declared.request.Request.{Request}
-use Rattle.repo_sessions.specs.Sessions.{Kept, is_live}
+use Rattle.repo_sessions.specs.Sessions.{Kept, is_live, has_session}
 use Rattle.spec_history.specs.History.{Base, epoch_of}
 use Rattle.spec_history.specs.Sound.{Vouches}
 use Rattle.law_repo_memory.specs.Agreeing.{state_of}
 use Rattle.repo_state.specs.declared.held.Held.{Held}
-use Rattle.spec_trace.specs.Notices.{lives}
+use Rattle.spec_trace.specs.Notices.{lives, is_unended}
 use Rattle.spec_trace.specs.Session.{Session, invalid, session, session_lives}
 use Rattle.spec_trace.specs.Trace.{Item, entries}
 use Rattle.std.specs.List.{AllByRecursion}
@@ -19,9 +19,11 @@ use Rattle.validation_queue.specs.Names.{IsInOrder}
 use Rattle.repo_refusals.specs.Refusals.{bytes_of}
 use Rattle.repo_volatile.specs.Volatile.{Memory, knows, verdict}
 
--- What verdicts look at of the sessions that are kept: which are live, and the invalid sets of these.
+-- What verdicts and decisions look at of the sessions that are kept: which are live, which haven't ended, and the invalid
+-- sets of the live ones.
 pub record SessionsAnswer (b : Base) (T : List Item) (K : Kept) : Type 0 where
   pub live : (s : ℕ) → is_live K s ≡ lives (session b T s)
+  pub unended : (s : ℕ) → has_session K s ≡ is_unended (session b T s)
   pub invalid : (s : ℕ) (v : Session) (x : Oref) → session b T s ≡ Some v → session_lives v ≡ true → get (set_of K.sets.invalid s) x ≡ invalid b (entries T) s v x
 
 -- The request q of the session s is accepted, by what is in memory: no refusal stands against it, its transaction isn't

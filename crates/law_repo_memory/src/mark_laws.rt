@@ -3,7 +3,7 @@
 ghost use Rattle.log_entries.specs.declared.entry.Entry.TheVariants.{Decided};
 ghost use Rattle.log_entries.specs.declared.request.Request.{Request};
 ghost use Rattle.repo_state.specs.declared.held.Held.{Held};
-ghost use Rattle.repo_sessions.specs.Sessions.{is_live};
+ghost use Rattle.repo_sessions.specs.Sessions.{is_live, has_session};
 ghost use Rattle.spec_history.specs.History.{Base, epoch_of};
 ghost use Rattle.law_repo_memory.specs.Agreeing.{Agrees, state_of, trace_of};
 ghost use Rattle.law_repo_memory.specs.Judging.{IsAccepted, SessionsAnswer};
@@ -67,7 +67,7 @@ pub fn refusals_are_exact()
 {}
 
 /// A request that is accepted by what is in memory comes from its session, where its sender is the session's client and
-/// writes on pages that were granted and that the session has; and a transaction that a live session has prepared is decided by
+/// writes on pages that were granted and that the session has; and a transaction of a session that hasn't ended is decided by
 /// its session.
 pub fn entries_are_exact()
     ensures request { (b : Base) (r : Recorded) (h : Held) (M : Memory) (q : Request) → Agrees b r h M →
@@ -77,5 +77,5 @@ pub fn entries_are_exact()
         ComesFromSession b (trace_of r) q }
     ensures decided { (b : Base) (r : Recorded) (h : Held) (M : Memory) (t : Ts) (q : Request) (c : Bool) →
         Agrees b r h M → SessionsAnswer b (trace_of r) M.sessions → open_at h.table t ≡ Some q →
-        is_live M.sessions q.session ≡ true → EntryIsExact b (trace_of r) (Decided t c) }
+        has_session M.sessions q.session ≡ true → EntryIsExact b (trace_of r) (Decided t c) }
 {}

@@ -20,7 +20,7 @@ use Rattle.law_repo_runs.specs.Happening.{GoesDown, WasMaking}
 use Rattle.law_repo_runs.specs.Restarting.{LifeBegins, life_behind}
 use Rattle.law_repo_runs.specs.Standing.{Down, IsRecorded, IsRight, MayBeNext, NumbersAgree, Phase, Up}
 use Rattle.law_repo_sessions.proofs.Marked.{IsAway, away_agrees}
-use Rattle.law_repo_sessions.proofs.Traced.{ended_by_life, last_behind}
+use Rattle.law_repo_sessions.proofs.Traced.{ended_by_life, last_behind, retired_by_life}
 use Rattle.law_repo_sessions.specs.Agreeing.{AreInOrder, SessionAgrees, SessionsAgree}
 use Rattle.spec_trace.proofs.Sessions.{session-end}
 use Rattle.spec_trace.specs.Calls.{last_session}
@@ -54,16 +54,19 @@ unfolding IsStrictlySortedBy
 no_key = tt
 
 none_kept : (K : Kept) (s : ℕ) → IsAway (ended K) s
-none_kept K s = record { client = refl; pages = λ p. refl; invalid = λ x. refl; waits = refl }
+none_kept K s = record { client = refl; notes = refl; pages = λ p. refl; invalid = λ x. refl; waits = refl }
 
-none_live : (K : Kept) (c s : ℕ) → (get (ended K).live c ≡ Some s) ↔ (get (ended K).clients s ≡ Some c)
-none_live K c s = (λ e. cc, λ e. cc)
+none_live : (K : Kept) (c s : ℕ) → (get (ended K).live c ≡ Some s) ↔ ((get (ended K).clients s ≡ Some c) ⊎ (get (ended K).retired s ≡ Some c))
+none_live K c s = (λ e. cc, λ h. elim h [
+  | inl e ↦ cc
+  | inr e ↦ cc
+])
 
 none_opened : (K : Kept) (s page : ℕ) → has_page (ended K).sets s page ≡ true → has (ended K).sets.invalid s ≡ true
 none_opened K s page h = cc
 
 none_in_order : (K : Kept) → AreInOrder (ended K)
-none_in_order K = record { clients = no_key; waiting = no_key; sets = none_ordered }
+none_in_order K = record { clients = no_key; retired = no_key; waiting = no_key; sets = none_ordered; noted = no_key }
 
 -- a Life ends all sessions
 pub all-ended : (b : Base) (T : List Item) (n : ℕ) (K : Kept) → NumbersAgree b T K.last → SessionsAgree b (T ++ E (Life n) ∷ []) (ended K)
@@ -74,8 +77,9 @@ all-ended b T n K a =
       last = k.last;
       unused = k.unused;
       each = λ s. subst (SessionAgrees b (entries (T ++ E (Life n) ∷ [])) (ended K) s) (sym (session-end b T (E (Life n)) s))
-          (away_agrees b (entries (T ++ E (Life n) ∷ [])) (ended K) s (meet b s (state b (entries T)) (session b T s) (E (Life n))) (ended_by_life b s (state b (entries T)) (Life n) (session b T s) a.silence refl) (none_kept K s));
+          (away_agrees b (entries (T ++ E (Life n) ∷ [])) (ended K) s (meet b s (state b (entries T)) (session b T s) (E (Life n))) (ended_by_life b s (state b (entries T)) (Life n) (session b T s) refl) (retired_by_life b s (state b (entries T)) (Life n) (session b T s) refl) (none_kept K s));
       live = none_live K;
+      heard = λ s. refl;
       opened = none_opened K;
       order = none_in_order K;
     }

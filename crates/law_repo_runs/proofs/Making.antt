@@ -60,7 +60,7 @@ module _ (b : Base) (x : Repository) (a : IsInAgreement b x) (ss : SessionsAgree
       let d : DecisionIsMade b x t = may in
       record {
         owes = owes-decided b x.trace x.held x.memory.requested t d.request a.held d.prepared c d.here;
-        exact = decided-exact b x.trace x.held x.memory t d.request c a answers d.prepared d.live;
+        exact = decided-exact b x.trace x.held x.memory t d.request c a answers d.prepared d.unended;
         fits = some-there (open_at x.held.table t) d.request d.prepared;
       }
   may-be-next (Finished t c) may =

@@ -1,4 +1,5 @@
 -- Each event, and so each run of events, leaves a repository as its trace says.
+use Rattle.cached_sets.specs.Noted.{most_noted}
 use Rattle.log_entries.specs.declared.entry.Entry.TheVariants.{Life}
 use Rattle.repo_sessions.specs.Sessions.{Kept, ended}
 use Rattle.spec_history.specs.History.{Base}
@@ -18,7 +19,7 @@ use Rattle.law_repo_sessions.specs.Agreeing.{SessionsAgree}
 use Rattle.spec_trace.specs.Exact.{exact}
 use Rattle.spec_trace.specs.Trace.{E}
 use Rattle.std.proofs.Common.{List, [], ap, arith, inl, inr, length, refl, subst, sym, ℕ, ◌+◌, ◌<◌, ◌∷◌, ◌∙◌, ◌≡◌}
-use Rattle.std.specs.Prelude.{None}
+use Rattle.std.specs.Prelude.{Some}
 use Rattle.repo_state.specs.declared.held.Held.{Held}
 use Rattle.repo_trace.specs.Recorded.{Recorded, nothing, with_entry}
 use Rattle.repo_volatile.specs.Volatile.{Memory}
@@ -85,7 +86,7 @@ runs b x y p q (e ∷ es) k r = runs b r.0 y r.1 q es (does b x r.0 p r.1 k e r.
 
 -- ---- the opening
 
-no-numbers : (b : Base) (K : Kept) → b.silence ≡ None → K.last ≡ 0 → NumbersAgree b [] K.last
+no-numbers : (b : Base) (K : Kept) → b.silence ≡ Some most_noted → K.last ≡ 0 → NumbersAgree b [] K.last
 no-numbers b K silence none = record { silence = silence; last = none; unused = λ s l. refl }
 
 pub opens : (b : Base) (x y : Repository) → Opens b x y → IsRight b y Up

@@ -4,7 +4,7 @@ use Rattle.log_entries.specs.declared.entry.Entry.{Entry}
 use Rattle.log_entries.specs.declared.request.Request.{Request}
 use Rattle.repo_state.specs.Entering.{entered}
 use Rattle.repo_state.specs.declared.held.Held.{Held}
-use Rattle.repo_sessions.specs.Sessions.{Kept, acknowledged, begun, is_live, sent, taken}
+use Rattle.repo_sessions.specs.Sessions.{Kept, acknowledged, begun, is_live, sent, has_session, taken}
 use Rattle.spec_history.specs.History.{Base, epoch_of}
 use Rattle.spec_history.specs.Participants.{IsAlone, IsShared}
 use Rattle.spec_history.specs.Requests.{is_upgrade}
@@ -47,11 +47,11 @@ pub record RequestIsMade (b : Base) (x : Repository) (q : Request) : Type 0 wher
   pub upto : q.upto ≤ length x.trace.history
   pub paged : WritesOnPages b (trace_of x.trace) q.session q
 
--- a session decides what it has prepared here, and this repository coordinates it
+-- a session that hasn't ended decides what it has prepared here, and this repository coordinates it
 pub record DecisionIsMade (b : Base) (x : Repository) (t : Ts) : Type 0 where
   pub request : Request
   pub prepared : open_at x.held.table t ≡ Some request
-  pub live : is_live x.memory.sessions request.session ≡ true
+  pub unended : has_session x.memory.sessions request.session ≡ true
   pub here : t.repo ≡ b.repo
 
 -- the decision on what is prepared here is learnt from another repository

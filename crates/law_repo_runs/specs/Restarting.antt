@@ -1,4 +1,5 @@
 -- What a restart does to a repository, and the events of a repository.
+use Rattle.cached_sets.specs.Noted.{most_noted}
 use Rattle.log_entries.specs.declared.entry.Entry.TheVariants.{Life}
 use Rattle.log_entries.specs.declared.entry.Entry.{Entry}
 use Rattle.repo_state.specs.Entering.{entered}
@@ -122,7 +123,7 @@ Runs b x p (e ∷ es) y q = (z : Repository) × (s : Phase) × Does b x p e z s 
 -- A repository is opened where h was recovered: the Life of the opening is written, where no transaction has come and no
 -- session has begun.
 pub record Opens (b : Base) (x y : Repository) : Type 0 where
-  pub silence : b.silence ≡ None
+  pub silence : b.silence ≡ Some most_noted
   pub can : CanBegin b x.held
   pub trace : x.trace ≡ nothing
   pub sessions : x.memory.sessions ≡ no_sessions

@@ -1,4 +1,5 @@
 -- How a repository stands: up, down until a restart, or down for good; and when that is as its trace says.
+use Rattle.cached_sets.specs.Noted.{most_noted}
 use Rattle.log_entries.specs.declared.entry.Entry.TheVariants.{Decided, Finished, Life, One, Prepared, Upgraded}
 use Rattle.log_entries.specs.declared.entry.Entry.{Entry}
 use Rattle.log_entries.specs.declared.request.Request.{Request}
@@ -14,7 +15,7 @@ use Rattle.spec_trace.specs.Session.{session}
 use Rattle.spec_trace.specs.Trace.{IsTrace, Item}
 use Rattle.std.specs.List.{AllByRecursion}
 use Rattle.std.specs.Option.{IfSome, IsSome}
-use Rattle.std.specs.Prelude.{List, None, Option, false, length, ℕ, ◌<◌, ◌≡◌}
+use Rattle.std.specs.Prelude.{List, None, Option, Some, false, length, ℕ, ◌<◌, ◌≡◌}
 use Rattle.thor_value.specs.FiniteMap.{has}
 use Rattle.repo_trace.specs.Recorded.{Recorded}
 use Rattle.two_phase.specs.Contents.{Contents, open_at}
@@ -29,7 +30,7 @@ pub data Phase : Type 0 where
 
 -- What of the sessions outlives a restart: no session has a greater number than the last one.
 pub record NumbersAgree (b : Base) (T : List Item) (n : ℕ) : Type 0 where
-  pub silence : b.silence ≡ None
+  pub silence : b.silence ≡ Some most_noted
   pub last : n ≡ last_session T
   pub unused : (s : ℕ) → n < s → session b T s ≡ None
 

@@ -2,7 +2,7 @@
 use Rattle.cached_sets.specs.Invalid.{if_behind, set_of}
 use Rattle.cached_sets.specs.Sets as sets
 use Rattle.log_entries.specs.declared.request.Request.{Request}
-use Rattle.repo_sessions.specs.Sessions.{Kept, is_live}
+use Rattle.repo_sessions.specs.Sessions.{Kept, is_live, has_session}
 use Rattle.spec_history.specs.History.{Base}
 use Rattle.session_outbox.specs.Messages as messages
 use Rattle.session_outbox.specs.Messages.{first}
@@ -11,19 +11,19 @@ use Rattle.session_outbox.specs.declared.message.Message.TheVariants as their
 use Rattle.session_outbox.specs.declared.message.Message.{Message}
 use Rattle.law_repo_sessions.proofs.Marked.{live_session}
 use Rattle.law_repo_sessions.proofs.Written.{names_are}
-use Rattle.law_repo_sessions.specs.Agreeing.{SessionAgrees, SessionsAgree}
-use Rattle.spec_trace.specs.Notices.{lives, notice_of}
+use Rattle.law_repo_sessions.specs.Agreeing.{SessionAgrees, SessionsAgree, retired_at}
+use Rattle.spec_trace.specs.Notices.{lives, notice_of, is_unended}
 use Rattle.spec_trace.specs.Exact.{IsLiveAnd, MarkIsExact, WaitsAt}
 use Rattle.spec_trace.specs.Calls.{last_session}
-use Rattle.spec_trace.specs.Session.{Notice, Session, invalid, place_of, session, session_lives}
+use Rattle.spec_trace.specs.Session.{Ended, Live, Notice, Retired, Session, Stage, invalid, is_ended, is_live as is_live_stage, place_of, session, session_lives}
 use Rattle.spec_trace.specs.Trace.{Item, entries}
 use Rattle.spec_trace.specs.Verdict.{stale, stale_from}
 use Rattle.spec_trace.specs.declared.mark.Mark.TheVariants as the
 use Rattle.std.proofs.Common.{Bool, List, [], ap, arith, cond, drop, false, length, map, nat_le, refl, subst, sym, true, ◌+◌, ◌<◌, ◌^◌, ◌∙◌, ◌∷◌, ◌≡◌, ◌≤◌, ℕ}
 use Rattle.std.specs.List.{slice_get}
 use Rattle.std.specs.Option.{IsSomeAnd, is_some, option_and_then, option_map, option_or}
-use Rattle.std.specs.Prelude.{None, Option, Some, suc, zero}
-use Rattle.thor_value.specs.FiniteMap.{get}
+use Rattle.std.specs.Prelude.{None, Option, Some, not, suc, zero, ◌||◌}
+use Rattle.thor_value.specs.FiniteMap.{get, has}
 use Rattle.thor_value.specs.declared.names.Oref.{Oref}
 use Rattle.validation_queue.specs.Clashes.{first_some}
 use Rattle.validation_queue.specs.Names.{Rises}
@@ -43,6 +43,23 @@ live_answer b T K s a = by (session b T s) (a.each s)
         at : (t : Bool) → is_some (cond t (Some v.client) None) ≡ t
         at true = refl
         at false = refl
+
+-- ---- who has ended
+
+pub unended_answer : (b : Base) (T : List Item) (K : Kept) (s : ℕ) → SessionsAgree b T K → has_session K s ≡ is_unended (session b T s)
+unended_answer b T K s a = by (session b T s) (a.each s)
+  where
+    by : (o : Option Session) → SessionAgrees b (entries T) K s o → has_session K s ≡ is_unended o
+    by None g = ap (λ (p : Option ℕ). is_some p || has K.retired s) g.client ∙ ap (λ (p : Option ℕ). is_some p) g.retired
+    by (Some v) g =
+        ap (λ (p : Option ℕ). is_some p || has K.retired s) g.client
+        ∙ ap (λ (p : Option ℕ). is_some (cond (session_lives v) (Some v.client) None) || is_some p) g.retired
+        ∙ at v.stage
+      where
+        at : (t : Stage) → (is_some (cond (is_live_stage t) (Some v.client) None) || is_some (retired_at t v.client)) ≡ not (is_ended t)
+        at Live = refl
+        at Retired = refl
+        at Ended = refl
 
 is_some_and : (o : Option Session) (P : Session → Type 0) (v : Session) → o ≡ Some v → P v → IsSomeAnd o P
 is_some_and o P v e p = subst (λ (q : Option Session). IsSomeAnd q P) (sym e) p

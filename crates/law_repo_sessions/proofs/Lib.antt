@@ -1,8 +1,10 @@
 pub mod Answering
 pub mod Begun
 pub mod Came
+pub mod GivenUp
 pub mod Invalidated
 pub mod Marked
+pub mod News
 pub mod Seen
 pub mod Traced
 pub mod Written

@@ -2,7 +2,9 @@
 use Rattle.cached_sets.proofs.Meaning as meaning
 use Rattle.cached_sets.proofs.Ordering as ordering
 use Rattle.cached_sets.proofs.Ordering.{ordered_from, ordered_opened}
-use Rattle.cached_sets.specs.Meaning.{has_page, place_in, unless_below}
+use Rattle.cached_sets.proofs.Places as places
+use Rattle.cached_sets.specs.Meaning.{NeverFall, has_page, place_in, unless_below}
+use Rattle.cached_sets.specs.Noted.{is_silent, places_of}
 use Rattle.cached_sets.specs.Sets as sets
 use Rattle.log_entries.specs.declared.entry.Entry.{Entry}
 use Rattle.repo_sessions.specs.Sessions.{Kept, acknowledged, is_live, sent, taken}
@@ -16,22 +18,25 @@ use Rattle.session_outbox.specs.Outbox.{Waiting}
 use Rattle.session_outbox.specs.declared.message.Message.TheVariants as their
 use Rattle.session_outbox.specs.declared.message.Message.{Message}
 use Rattle.law_repo_sessions.proofs.Invalidated.{acknowledged_place, cached_place, dead_place, has_cache, last_is_below, live_place, place_where}
+use Rattle.law_repo_sessions.proofs.News.{acked_where, heard_at, heard_there, news_acknowledged, news_rise, quiet_push}
 use Rattle.law_repo_sessions.proofs.Seen.{kept_acknowledged, place_cached, pushed_order, set_cached, taken_order}
 use Rattle.law_repo_sessions.proofs.Traced.{IsNoBeginning, IsQuiet, behind_mark, fetched, granted, last_behind, met, moves, quiet, took, uncounted}
-use Rattle.law_repo_sessions.specs.Agreeing.{AreInOrder, SessionAgrees, SessionsAgree}
+use Rattle.law_repo_sessions.specs.Agreeing.{AreInOrder, SessionAgrees, SessionsAgree, news_places, retired_client_of}
 use Rattle.spec_trace.specs.Notices.{lives, notice_of}
 use Rattle.spec_trace.proofs.Sessions.{session-end}
 use Rattle.spec_trace.specs.Calls.{last_session}
-use Rattle.spec_trace.specs.Session.{Grant, Notice, Page, Session, cache, last_other, meet, move, session, session_lives}
+use Rattle.spec_trace.specs.Session as stages
+use Rattle.spec_trace.specs.Session.{Grant, Notice, Page, Session, cache, is_news, last_other, meet, move, moved, session, session_lives}
 use Rattle.spec_trace.specs.Trace.{Item, M, entries}
 use Rattle.spec_trace.specs.declared.mark.Mark.TheVariants as the
 use Rattle.spec_trace.specs.declared.mark.Mark.{Mark}
-use Rattle.std.proofs.Common.{add-one, Bool, List, [], ap, arith, cond, drop, false, length, map, nat_eq, refl, subst, sym, true, ◌+◌, ◌++◌, ◌<◌, ◌∙◌, ◌∷◌, ◌≡◌, ◌≤◌, ℕ}
+use Rattle.std.proofs.Common.{add-one, Bool, List, [], ap, arith, cond, drop, false, length, map, nat_eq, nat_le, refl, subst, sym, true, ◌+◌, ◌++◌, ◌<◌, ◌∙◌, ◌∷◌, ◌≡◌, ◌≤◌, ℕ}
 use Rattle.std.proofs.lemmas.Bool.{eqb-true}
 use Rattle.std.proofs.lemmas.List.{append-nil, length-append, map-append}
+use Rattle.std.specs.List.{filter}
 use Rattle.std.specs.Option.{IfSome, is_some, option_and_then, option_map, option_to_list}
 use Rattle.std.specs.Ordering.{nat_cmp}
-use Rattle.std.specs.Prelude.{None, Option, Some, max, suc, zero, ◌&&◌, ◌||◌, ◌↔◌}
+use Rattle.std.specs.Prelude.{None, Option, Some, max, suc, zero, ◌&&◌, ◌||◌, ◌↔◌, ◌⊎◌}
 use Rattle.thor_value.specs.FiniteMap.{Map, get, has}
 use Rattle.thor_value.specs.declared.names.Oref.{Oref}
 
@@ -55,23 +60,27 @@ drop_next n xs = rw add-one (drop_one n xs)
 -- one that isn't live: nothing is kept of it
 pub record IsAway (K : Kept) (s : ℕ) : Type 0 where
   pub client : get K.clients s ≡ None
+  pub notes : places_of K.sets.noted s ≡ []
   pub pages : (page : ℕ) → has_page K.sets s page ≡ false
   pub invalid : (x : Oref) → place_in K.sets s x ≡ None
   pub waits : map notice_of (outbox.waiting K.waiting s) ≡ []
 
 pub is_away : (b : Base) (H : List Entry) (K : Kept) (s : ℕ) (o : Option Session) → lives o ≡ false → SessionAgrees b H K s o → IsAway K s
-is_away b H K s None h a = record { client = a.client; pages = a.pages; invalid = a.invalid; waits = a.waits }
+is_away b H K s None h a = record { client = a.client; notes = a.notes; pages = a.pages; invalid = a.invalid; waits = a.waits }
 is_away b H K s (Some v) h a = record {
   client = a.client ∙ ap (λ (t : Bool). cond t (Some v.client) None) h;
+  notes = a.notes ∙ ap (λ (t : Bool). cond t (news_places v) []) h;
   pages = λ p. a.pages p ∙ ap (λ (t : Bool). t && has v.pages p) h;
   invalid = λ x. a.invalid x ∙ dead_place v (get v.pages x.page) (last_other s (writers b H x)) h;
   waits = a.waits ∙ ap (λ (t : Bool). cond t (drop v.taken v.sent) []) h;
 }
 
-pub away_agrees : (b : Base) (H : List Entry) (K : Kept) (s : ℕ) (o : Option Session) → lives o ≡ false → IsAway K s → SessionAgrees b H K s o
-away_agrees b H K s None h a = record { client = a.client; pages = a.pages; invalid = a.invalid; waits = a.waits; within = tt }
-away_agrees b H K s (Some v) h a = record {
+pub away_agrees : (b : Base) (H : List Entry) (K : Kept) (s : ℕ) (o : Option Session) → lives o ≡ false → get K.retired s ≡ retired_client_of o → IsAway K s → SessionAgrees b H K s o
+away_agrees b H K s None h r a = record { client = a.client; retired = r; notes = a.notes; pages = a.pages; invalid = a.invalid; waits = a.waits; within = tt }
+away_agrees b H K s (Some v) h r a = record {
   client = a.client ∙ sym (ap (λ (t : Bool). cond t (Some v.client) None) h);
+  retired = r;
+  notes = a.notes ∙ sym (ap (λ (t : Bool). cond t (news_places v) []) h);
   pages = λ p. a.pages p ∙ sym (ap (λ (t : Bool). t && has v.pages p) h);
   invalid = λ x. a.invalid x ∙ sym (dead_place v (get v.pages x.page) (last_other s (writers b H x)) h);
   waits = a.waits ∙ sym (ap (λ (t : Bool). cond t (drop v.taken v.sent) []) h);
@@ -84,6 +93,8 @@ away_agrees b H K s (Some v) h a = record {
 -- the same is kept of the session
 pub record IsSame (K L : Kept) (s : ℕ) : Type 0 where
   pub client : get L.clients s ≡ get K.clients s
+  pub retired : get L.retired s ≡ get K.retired s
+  pub notes : places_of L.sets.noted s ≡ places_of K.sets.noted s
   pub pages : (page : ℕ) → has_page L.sets s page ≡ has_page K.sets s page
   pub invalid : (x : Oref) → place_in L.sets s x ≡ place_in K.sets s x
   pub waits : outbox.waiting L.waiting s ≡ outbox.waiting K.waiting s
@@ -91,6 +102,8 @@ pub record IsSame (K L : Kept) (s : ℕ) : Type 0 where
 pub same_agrees : (b : Base) (H : List Entry) (K L : Kept) (s : ℕ) (o : Option Session) → IsSame K L s → SessionAgrees b H K s o → SessionAgrees b H L s o
 same_agrees b H K L s o e a = record {
   client = e.client ∙ a.client;
+  retired = e.retired ∙ a.retired;
+  notes = e.notes ∙ a.notes;
   pages = λ p. e.pages p ∙ a.pages p;
   invalid = λ x. e.invalid x ∙ a.invalid x;
   waits = ap (map notice_of) e.waits ∙ a.waits;
@@ -101,8 +114,8 @@ same_agrees b H K L s o e a = record {
 
 pub record IsBehind (b : Base) (T : List Item) (i : Item) (K L : Kept) : Type 0 where
   pub last : L.last ≡ K.last
-  pub clients : L.clients ≡ K.clients
-  pub live : L.live ≡ K.live
+  pub live : (c s : ℕ) → (get L.live c ≡ Some s) ↔ ((get L.clients s ≡ Some c) ⊎ (get L.retired s ≡ Some c))
+  pub heard : (s : ℕ) → is_silent L.sets.noted s ≡ false
   pub each : (s : ℕ) → SessionAgrees b (entries (T ++ i ∷ [])) L s (meet b s (state b (entries T)) (session b T s) i)
   pub opened : (s page : ℕ) → has_page L.sets s page ≡ true → has L.sets.invalid s ≡ true
   pub order : AreInOrder L
@@ -113,7 +126,8 @@ agree_behind b T i K L n a h = record {
   last = h.last ∙ a.last ∙ zeros (last_session T) ∙ sym (last_behind T i ∙ ap (λ (k : ℕ). max (last_session T) k) (uncounted i n));
   unused = λ s l. session-end b T i s ∙ met b s S (session b T s) i n ∙ ap (λ (o : Option Session). option_map (move b s S i) o) (a.unused s (subst (λ (k : ℕ). k < s) h.last l));
   each = λ s. subst (SessionAgrees b (entries (T ++ i ∷ [])) L s) (sym (session-end b T i s)) (h.each s);
-  live = λ c s. subst (λ (m : Map nat_cmp ℕ). (get L.live c ≡ Some s) ↔ (get m s ≡ Some c)) (sym h.clients) (subst (λ (m : Map nat_cmp ℕ). (get m c ≡ Some s) ↔ (get K.clients s ≡ Some c)) (sym h.live) (a.live c s));
+  live = h.live;
+  heard = h.heard;
   opened = h.opened;
   order = h.order;
 }
@@ -158,14 +172,14 @@ note_begins_none (the.Refused n q r) h = tt
 aside : (b : Base) (T : List Item) (m : Mark) (K L : Kept) (s : ℕ) → SessionsAgree b T K → IsQuiet s m → IsSame K L s → SessionAgrees b (entries (T ++ M m ∷ [])) L s (meet b s (state b (entries T)) (session b T s) (M m))
 aside b T m K L s a q e =
     subst (λ (H : List Entry). SessionAgrees b H L s (meet b s (state b (entries T)) (session b T s) (M m))) (sym (behind_mark T m))
-    (subst (SessionAgrees b (entries T) L s) (sym (quiet b s (state b (entries T)) m (session b T s) a.silence q)) (same_agrees b (entries T) K L s (session b T s) e (a.each s)))
+    (subst (SessionAgrees b (entries T) L s) (sym (quiet b s (state b (entries T)) m (session b T s) (heard_there b T K s a) q)) (same_agrees b (entries T) K L s (session b T s) e (a.each s)))
 
 pub noted : (b : Base) (T : List Item) (K : Kept) (m : Mark) → IsNote m → SessionsAgree b T K → SessionsAgree b (T ++ M m ∷ []) K
 noted b T K m n a = agree_behind b T (M m) K K (note_begins_none m n) a (record {
   last = refl;
-  clients = refl;
-  live = refl;
-  each = λ s. aside b T m K K s a (note_quiet s m n) (record { client = refl; pages = λ p. refl; invalid = λ x. refl; waits = refl });
+  live = a.live;
+  heard = a.heard;
+  each = λ s. aside b T m K K s a (note_quiet s m n) (record { client = refl; retired = refl; notes = refl; pages = λ p. refl; invalid = λ x. refl; waits = refl });
   opened = a.opened;
   order = a.order;
 })
@@ -173,12 +187,14 @@ noted b T K m n a = agree_behind b T (M m) K K (note_begins_none m n) a (record 
 -- ---- a page is sent
 
 -- of the session that it is sent to
-sent_agrees : (b : Base) (H : List Entry) (K : Kept) (n s page k : ℕ) (m : Message) (v : Session) → nat_eq n s ≡ true → session_lives v ≡ true → k ≡ length H → SessionAgrees b H K s (Some v)
+sent_agrees : (b : Base) (H : List Entry) (K : Kept) (n s page k : ℕ) (m : Message) (v : Session) → is_news (notice_of m) ≡ false → nat_eq n s ≡ true → session_lives v ≡ true → k ≡ length H → SessionAgrees b H K s (Some v)
     → SessionAgrees b H (sent K n page m) s (Some (record v { pages = cache v.pages page k; sent = v.sent ++ notice_of m ∷ [] }))
-sent_agrees b H K n s page k m v e l len a =
+sent_agrees b H K n s page k m v reply e l len a =
     let w : Session = record v { pages = cache v.pages page k; sent = v.sent ++ notice_of m ∷ [] } in
     record {
       client = a.client;
+      retired = a.retired;
+      notes = a.notes ∙ ap (λ (ks : List ℕ). cond (session_lives v) ks []) (sym (quiet_push v (notice_of m) reply));
       pages = λ p.
           meaning.cached K.sets n page s p
           ∙ ap (λ (t : Bool). t || (nat_eq n s && nat_eq page p)) (a.pages p)
@@ -205,6 +221,8 @@ sent_agrees b H K n s page k m v e l len a =
 sent_aside : (K : Kept) (n s page : ℕ) (m : Message) → nat_eq n s ≡ false → IsSame K (sent K n page m) s
 sent_aside K n s page m e = record {
   client = refl;
+  retired = refl;
+  notes = refl;
   pages = λ p. meaning.cached K.sets n page s p ∙ ap (λ (t : Bool). has_page K.sets s p || (t && nat_eq page p)) e ∙ or_false (has_page K.sets s p);
   invalid = λ x. place_cached K.sets n page s x;
   waits = behind_push K.waiting n s m ∙ ap (λ (t : Bool). outbox.waiting K.waiting s ++ cond t (m ∷ []) []) e ∙ append-nil (outbox.waiting K.waiting s);
@@ -227,13 +245,15 @@ sent_opened K n page m h s p g = by (nat_eq n s) refl
 
 -- ---- places are acknowledged
 
--- where the session is the one that acknowledges
-abbrev pub acked_where : Bool → ℕ → Session → Session
-acked_where t upto v = record v { acked = cond t (max v.acked upto) v.acked }
-
-pub acknowledged_agrees : (b : Base) (H : List Entry) (K : Kept) (n s upto : ℕ) (v : Session) → upto ≤ length H → AreInOrder K → session_lives v ≡ true → SessionAgrees b H K s (Some v) → SessionAgrees b H (acknowledged K n upto) s (Some (acked_where (nat_eq n s) upto v))
-acknowledged_agrees b H K n s upto v u o l a = record {
+pub acknowledged_agrees : (b : Base) (H : List Entry) (K : Kept) (n s upto : ℕ) (v : Session) → NeverFall (places_of K.sets.noted n) → upto ≤ length H → AreInOrder K → session_lives v ≡ true → SessionAgrees b H K s (Some v) → SessionAgrees b H (acknowledged K n upto) s (Some (acked_where (nat_eq n s) upto v))
+acknowledged_agrees b H K n s upto v rise u o l a = record {
   client = a.client;
+  retired = a.retired;
+  notes =
+      places.acknowledged K.sets.noted n upto s rise
+      ∙ ap (λ (ks : List ℕ). cond (nat_eq n s) (filter (nat_le upto) ks) ks) (a.notes ∙ ap (λ (t : Bool). cond t (news_places v) []) l)
+      ∙ news_acknowledged (nat_eq n s) upto v
+      ∙ sym (ap (λ (t : Bool). cond t (news_places (acked_where (nat_eq n s) upto v)) []) l);
   pages = a.pages;
   invalid = λ x.
       ordering.acknowledged K.sets n upto s x o.sets
@@ -255,6 +275,7 @@ acknowledged_agrees b H K n s upto v u o l a = record {
 pub acknowledged_away : (K : Kept) (n s upto : ℕ) → AreInOrder K → IsAway K s → IsAway (acknowledged K n upto) s
 acknowledged_away K n s upto o a = record {
   client = a.client;
+  notes = places.none_acknowledged K.sets.noted n upto s a.notes;
   pages = a.pages;
   invalid = λ x. ordering.acknowledged K.sets n upto s x o.sets ∙ ap (λ (p : Option ℕ). cond (nat_eq n s) (option_and_then (unless_below upto) p) p) (a.invalid x) ∙ by (nat_eq n s);
   waits = a.waits;
@@ -267,6 +288,8 @@ acknowledged_away K n s upto o a = record {
 pub acknowledged_aside : (K : Kept) (n s upto : ℕ) → AreInOrder K → nat_eq n s ≡ false → IsSame K (acknowledged K n upto) s
 acknowledged_aside K n s upto o e = record {
   client = refl;
+  retired = refl;
+  notes = places.others_acknowledged K.sets.noted n upto s e;
   pages = λ p. refl;
   invalid = λ x. ordering.acknowledged K.sets n upto s x o.sets ∙ ap (λ (t : Bool). cond t (option_and_then (unless_below upto) (place_in K.sets s x)) (place_in K.sets s x)) e;
   waits = refl;
@@ -284,17 +307,17 @@ live_session b H K s (Some v) a h = (v, refl, by (session_lives v) refl)
     by false e = let f : is_live K s ≡ false = ap (λ (p : Option ℕ). is_some p) a.client ∙ ap (λ (t : Bool). is_some (cond t (Some v.client) None)) e in cc
 
 sent_order : (K : Kept) (n page : ℕ) (m : Message) → AreInOrder K → AreInOrder (sent K n page m)
-sent_order K n page m o = record { clients = o.clients; waiting = pushed_order K.waiting n m o.waiting; sets = ordered_opened K.sets.invalid n o.sets }
+sent_order K n page m o = record { clients = o.clients; retired = o.retired; waiting = pushed_order K.waiting n m o.waiting; sets = ordered_opened K.sets.invalid n o.sets; noted = o.noted }
 
 pub fetched_agrees : (b : Base) (T : List Item) (K : Kept) (n page upto : ℕ) (bytes : List ℕ) → SessionsAgree b T K → is_live K n ≡ true → upto ≤ length (entries T)
     → SessionsAgree b (T ++ M (the.Fetched n page upto) ∷ []) (acknowledged (sent K n page (their.Page page bytes (length (entries T)))) n upto)
 fetched_agrees b T K n page upto bytes a live u = agree_behind b T i K (acknowledged L n upto) tt a (record {
   last = refl;
-  clients = refl;
-  live = refl;
+  live = a.live;
+  heard = λ s. places.still_heard K.sets.noted n upto s (a.heard s);
   each = λ s. by s (nat_eq n s) refl;
   opened = λ s p g. kept_acknowledged L.sets n upto s (sent_opened K n page m a.opened s p g);
-  order = record { clients = order.clients; waiting = order.waiting; sets = ordered_from L.sets.invalid n upto order.sets };
+  order = record { clients = order.clients; retired = order.retired; waiting = order.waiting; sets = ordered_from L.sets.invalid n upto order.sets; noted = places.kept_order L.sets.noted n upto order.noted };
 })
   where
     i : Item
@@ -319,17 +342,22 @@ fetched_agrees b T K n page upto bytes a live u = agree_behind b T i K (acknowle
     then' s e =
         let p : IsSame K L s = sent_aside K n s page m e in
         let q : IsSame L (acknowledged L n upto) s = acknowledged_aside L n s upto order e in
-        record { client = refl; pages = λ k. q.pages k ∙ p.pages k; invalid = λ x. q.invalid x ∙ p.invalid x; waits = q.waits ∙ p.waits }
+        record { client = refl; retired = refl; notes = q.notes ∙ p.notes; pages = λ k. q.pages k ∙ p.pages k; invalid = λ x. q.invalid x ∙ p.invalid x; waits = q.waits ∙ p.waits }
 
     own : (s : ℕ) → nat_eq n s ≡ true → (v : Session) → session b T s ≡ Some v → session_lives v ≡ true → SessionAgrees b (entries (T ++ i ∷ [])) (acknowledged L n upto) s (meet b s S (session b T s) i)
     own s e v is l =
         let v1 : Session = record v { pages = cache v.pages page (length H); sent = v.sent ++ Page page (length H) ∷ [] } in
-        let one : SessionAgrees b H L s (Some v1) = sent_agrees b H K n s page (length H) m v e l refl (subst (SessionAgrees b H K s) is (a.each s)) in
-        let two : SessionAgrees b H (acknowledged L n upto) s (Some (acked_where (nat_eq n s) upto v1)) = acknowledged_agrees b H L n s upto v1 u order l one in
+        let one : SessionAgrees b H L s (Some v1) = sent_agrees b H K n s page (length H) m v refl e l refl (subst (SessionAgrees b H K s) is (a.each s)) in
+        let two : SessionAgrees b H (acknowledged L n upto) s (Some (acked_where (nat_eq n s) upto v1)) = acknowledged_agrees b H L n s upto v1 (news_rise b T K n a) u order l one in
+        let w : ℕ → Session = λ k. record v { pages = cache v.pages page k; acked = max v.acked upto; sent = v.sent ++ Page page k ∷ [] } in
+        let own' : SessionAgrees b H (acknowledged L n upto) s (Some (w (length H))) = subst (λ (t : Bool). SessionAgrees b H (acknowledged L n upto) s (Some (acked_where t upto v1))) e two in
+        let quiet' : stages.is_silent b.silence (moved b s S v i) ≡ false =
+        ap (λ (u : Session). stages.is_silent b.silence u) (fetched b s S v n page upto e l ∙ ap w (length-state b H))
+        ∙ heard_at b H (acknowledged L n upto) s (w (length H)) false a.silence own' l (places.still_heard K.sets.noted n upto s (a.heard s)) in
         let path : Some (acked_where (nat_eq n s) upto v1) ≡ meet b s S (session b T s) i =
         ap (λ (t : Bool). Some (acked_where t upto v1)) e
         ∙ ap (λ (k : ℕ). Some (record v { pages = cache v.pages page k; acked = max v.acked upto; sent = v.sent ++ Page page k ∷ [] })) (sym (length-state b H))
-        ∙ ap (λ (w : Session). Some w) (sym (moves b s S i v a.silence l ∙ fetched b s S v n page upto e l))
+        ∙ ap (λ (w : Session). Some w) (sym (moves b s S i v quiet' l ∙ fetched b s S v n page upto e l))
         ∙ ap (λ (o : Option Session). meet b s S o i) (sym is) in
         subst (λ (G : List Entry). SessionAgrees b G (acknowledged L n upto) s (meet b s S (session b T s) i)) (sym (behind_mark T (the.Fetched n page upto))) (subst (SessionAgrees b H (acknowledged L n upto) s) path two)
 
@@ -343,8 +371,8 @@ pub granted_agrees : (b : Base) (T : List Item) (K : Kept) (n page : ℕ) → Se
     → SessionsAgree b (T ++ M (the.Granted n page) ∷ []) (sent K n page (their.Grant page (length (entries T))))
 granted_agrees b T K n page a live = agree_behind b T i K L tt a (record {
   last = refl;
-  clients = refl;
-  live = refl;
+  live = a.live;
+  heard = a.heard;
   each = λ s. by s (nat_eq n s) refl;
   opened = λ s p g. sent_opened K n page m a.opened s p g;
   order = sent_order K n page m a.order;
@@ -368,10 +396,14 @@ granted_agrees b T K n page a live = agree_behind b T i K L tt a (record {
     own : (s : ℕ) → nat_eq n s ≡ true → (v : Session) → session b T s ≡ Some v → session_lives v ≡ true → SessionAgrees b (entries (T ++ i ∷ [])) L s (meet b s S (session b T s) i)
     own s e v is l =
         let v1 : Session = record v { pages = cache v.pages page (length H); sent = v.sent ++ Grant page (length H) ∷ [] } in
-        let one : SessionAgrees b H L s (Some v1) = sent_agrees b H K n s page (length H) m v e l refl (subst (SessionAgrees b H K s) is (a.each s)) in
+        let one : SessionAgrees b H L s (Some v1) = sent_agrees b H K n s page (length H) m v refl e l refl (subst (SessionAgrees b H K s) is (a.each s)) in
+        let w : ℕ → Session = λ k. record v { pages = cache v.pages page k; sent = v.sent ++ Grant page k ∷ [] } in
+        let quiet' : stages.is_silent b.silence (moved b s S v i) ≡ false =
+        ap (λ (u : Session). stages.is_silent b.silence u) (granted b s S v n page e l ∙ ap w (length-state b H))
+        ∙ heard_at b H L s v1 false a.silence one l (a.heard s) in
         let path : Some v1 ≡ meet b s S (session b T s) i =
         ap (λ (k : ℕ). Some (record v { pages = cache v.pages page k; sent = v.sent ++ Grant page k ∷ [] })) (sym (length-state b H))
-        ∙ ap (λ (w : Session). Some w) (sym (moves b s S i v a.silence l ∙ granted b s S v n page e l))
+        ∙ ap (λ (w : Session). Some w) (sym (moves b s S i v quiet' l ∙ granted b s S v n page e l))
         ∙ ap (λ (o : Option Session). meet b s S o i) (sym is) in
         subst (λ (G : List Entry). SessionAgrees b G L s (meet b s S (session b T s) i)) (sym (behind_mark T (the.Granted n page))) (subst (SessionAgrees b H L s) path one)
 
@@ -392,6 +424,8 @@ one_left (suc n) (x ∷ xs) y ys h = let e : n + 1 ≤ length xs = one_left n xs
 taken_aside : (K : Kept) (n s : ℕ) → nat_eq n s ≡ false → IsSame K (taken K n) s
 taken_aside K n s e = record {
   client = refl;
+  retired = refl;
+  notes = refl;
   pages = λ p. refl;
   invalid = λ x. refl;
   waits = ap (λ (t : Bool). cond t (option_to_list (first (outbox.waiting K.waiting n))) [] ++ outbox.waiting (outbox.take K.waiting n) s) (sym e) ∙ behind_take K.waiting n s;
@@ -408,6 +442,8 @@ taken_own b H K n s m v e l f a =
     let left : drop v.taken v.sent ≡ notice_of m ∷ map notice_of rest = sym (ap (map notice_of) was ∙ a.waits ∙ ap (λ (t : Bool). cond t (drop v.taken v.sent) []) l) in
     record {
       client = a.client;
+      retired = a.retired;
+      notes = a.notes;
       pages = a.pages;
       invalid = a.invalid;
       waits =
@@ -420,11 +456,11 @@ pub taken_agrees : (b : Base) (T : List Item) (K : Kept) (n : ℕ) (m : Message)
     → SessionsAgree b (T ++ M (the.Took n (messages.place_of m)) ∷ []) (taken K n)
 taken_agrees b T K n m a live f = agree_behind b T i K (taken K n) tt a (record {
   last = refl;
-  clients = refl;
-  live = refl;
+  live = a.live;
+  heard = a.heard;
   each = λ s. by s (nat_eq n s) refl;
   opened = a.opened;
-  order = record { clients = a.order.clients; waiting = taken_order K.waiting n a.order.waiting; sets = a.order.sets };
+  order = record { clients = a.order.clients; retired = a.order.retired; waiting = taken_order K.waiting n a.order.waiting; sets = a.order.sets; noted = a.order.noted };
 })
   where
     k : ℕ
@@ -442,8 +478,11 @@ taken_agrees b T K n m a live f = agree_behind b T i K (taken K n) tt a (record 
     own : (s : ℕ) → nat_eq n s ≡ true → (v : Session) → session b T s ≡ Some v → session_lives v ≡ true → SessionAgrees b (entries (T ++ i ∷ [])) (taken K n) s (meet b s S (session b T s) i)
     own s e v is l =
         let one : SessionAgrees b H (taken K n) s (Some (record v { taken = v.taken + 1 })) = taken_own b H K n s m v e l f (subst (SessionAgrees b H K s) is (a.each s)) in
+        let quiet' : stages.is_silent b.silence (moved b s S v i) ≡ false =
+        ap (λ (u : Session). stages.is_silent b.silence u) (took b s S v n k e l)
+        ∙ heard_at b H (taken K n) s (record v { taken = v.taken + 1 }) false a.silence one l (a.heard s) in
         let path : Some (record v { taken = v.taken + 1 }) ≡ meet b s S (session b T s) i =
-        ap (λ (w : Session). Some w) (sym (moves b s S i v a.silence l ∙ took b s S v n k e l))
+        ap (λ (w : Session). Some w) (sym (moves b s S i v quiet' l ∙ took b s S v n k e l))
         ∙ ap (λ (o : Option Session). meet b s S o i) (sym is) in
         subst (λ (G : List Entry). SessionAgrees b G (taken K n) s (meet b s S (session b T s) i)) (sym (behind_mark T (the.Took n k))) (subst (SessionAgrees b H (taken K n) s) path one)
 
@@ -461,8 +500,9 @@ none_taken b T K n a f = record {
   unused = a.unused;
   each = λ s. same_agrees b (entries T) K (taken K n) s (session b T s) (same s) (a.each s);
   live = a.live;
+  heard = a.heard;
   opened = a.opened;
-  order = record { clients = a.order.clients; waiting = taken_order K.waiting n a.order.waiting; sets = a.order.sets };
+  order = record { clients = a.order.clients; retired = a.order.retired; waiting = taken_order K.waiting n a.order.waiting; sets = a.order.sets; noted = a.order.noted };
 }
   where
     nothing : (t : Bool) (ms : List Message) → cond t [] [] ++ ms ≡ ms
@@ -472,6 +512,8 @@ none_taken b T K n a f = record {
     same : (s : ℕ) → IsSame K (taken K n) s
     same s = record {
       client = refl;
+      retired = refl;
+      notes = refl;
       pages = λ p. refl;
       invalid = λ x. refl;
       waits =

@@ -2,6 +2,7 @@
 use Rattle.log_entries.specs.declared.entry.Entry.{Entry}
 use Rattle.log_entries.specs.declared.request.Request.{Request}
 use Rattle.spec_history.specs.History.{Base, State, commit_of, is_life}
+use Rattle.law_repo_sessions.specs.Agreeing.{retired_at, retired_client_of}
 use Rattle.spec_trace.specs.Notices.{lives}
 use Rattle.spec_trace.proofs.Traces.{entries-append}
 use Rattle.spec_trace.specs.Calls.{connected_at, last_session}
@@ -12,7 +13,7 @@ use Rattle.spec_trace.specs.declared.mark.Mark.{Mark}
 use Rattle.std.proofs.Common.{Bool, List, [], ap, cond, false, nat_eq, refl, sym, true, ◌+◌, ◌++◌, ◌∙◌, ◌∷◌, ◌≡◌, ℕ}
 use Rattle.std.proofs.lemmas.List.Sums.{fold-append}
 use Rattle.std.proofs.lemmas.List.{append-nil}
-use Rattle.std.specs.Option.{option_map}
+use Rattle.std.specs.Option.{IfSome, option_map}
 use Rattle.std.specs.Prelude.{None, Option, Some, max}
 
 live_stage : (t : Stage) → is_live t ≡ true → t ≡ Live
@@ -20,11 +21,19 @@ live_stage Live h = refl
 live_stage Retired h = cc
 live_stage Ended h = cc
 
--- a live session behind an item, where none is given up
-pub moves : (b : Base) (s : ℕ) (S : State) (i : Item) (v : Session) → b.silence ≡ None → session_lives v ≡ true → move b s S i v ≡ moved b s S v i
-moves b s S i v q h =
-    ap (λ (t : Bool). cond t (or_retired b (moved b s S v i)) (rested v i)) h
-    ∙ ap (λ (o : Option ℕ). cond (is_silent o (moved b s S v i)) (record (moved b s S v i) { stage = retired (moved b s S v i).stage }) (moved b s S v i)) q
+-- a live session behind an item
+pub lives_to : (b : Base) (s : ℕ) (S : State) (i : Item) (v : Session) (t : Bool) → session_lives v ≡ true → is_silent b.silence (moved b s S v i) ≡ t → move b s S i v ≡ cond t (record (moved b s S v i) { stage = retired (moved b s S v i).stage }) (moved b s S v i)
+lives_to b s S i v t h e =
+    ap (λ (l : Bool). cond l (or_retired b (moved b s S v i)) (rested v i)) h
+    ∙ ap (λ (u : Bool). cond u (record (moved b s S v i) { stage = retired (moved b s S v i).stage }) (moved b s S v i)) e
+
+-- one that isn't silent by the item
+pub moves : (b : Base) (s : ℕ) (S : State) (i : Item) (v : Session) → is_silent b.silence (moved b s S v i) ≡ false → session_lives v ≡ true → move b s S i v ≡ moved b s S v i
+moves b s S i v q h = lives_to b s S i v false h q
+
+-- one that is
+pub retires : (b : Base) (s : ℕ) (S : State) (i : Item) (v : Session) → is_silent b.silence (moved b s S v i) ≡ true → session_lives v ≡ true → move b s S i v ≡ record (moved b s S v i) { stage = retired (moved b s S v i).stage }
+retires b s S i v q h = lives_to b s S i v true h q
 
 pub rests : (b : Base) (s : ℕ) (S : State) (i : Item) (v : Session) → session_lives v ≡ false → move b s S i v ≡ rested v i
 rests b s S i v h = ap (λ (t : Bool). cond t (or_retired b (moved b s S v i)) (rested v i)) h
@@ -80,12 +89,18 @@ quiet_rested s v (the.Drew n t) h = refl
 quiet_rested s v (the.Forgot t) h = refl
 quiet_rested s v (the.Refused n q r) h = refl
 
-quiet_met : (b : Base) (s : ℕ) (S : State) (m : Mark) (o : Option Session) → b.silence ≡ None → IsQuiet s m → option_map (move b s S (M m)) o ≡ o
+-- a session that is live isn't silent
+abbrev pub IsHeard : Base → Option Session → Type 0
+IsHeard b o = IfSome o (λ v. session_lives v ≡ true → is_silent b.silence v ≡ false)
+
+quiet_met : (b : Base) (s : ℕ) (S : State) (m : Mark) (o : Option Session) → IsHeard b o → IsQuiet s m → option_map (move b s S (M m)) o ≡ o
 quiet_met b s S m None q h = refl
 quiet_met b s S m (Some v) q h = ap (λ (w : Session). Some w) (by (session_lives v) refl)
   where
     by : (t : Bool) → session_lives v ≡ t → move b s S (M m) v ≡ v
-    by true l = moves b s S (M m) v q l ∙ quiet_moved b s S v m h l
+    by true l =
+        let same : moved b s S v (M m) ≡ v = quiet_moved b s S v m h l in
+        moves b s S (M m) v (ap (λ (w : Session). is_silent b.silence w) same ∙ q l) l ∙ same
     by false l = rests b s S (M m) v l ∙ quiet_rested s v m h
 
 -- no client connects at the item
@@ -129,7 +144,7 @@ quiet_begins_none s (the.Forgot t) h = tt
 quiet_begins_none s (the.Refused n q r) h = tt
 
 -- a mark that is none of the session's leaves it as it was
-pub quiet : (b : Base) (s : ℕ) (S : State) (m : Mark) (o : Option Session) → b.silence ≡ None → IsQuiet s m → meet b s S o (M m) ≡ o
+pub quiet : (b : Base) (s : ℕ) (S : State) (m : Mark) (o : Option Session) → IsHeard b o → IsQuiet s m → meet b s S o (M m) ≡ o
 quiet b s S m o q h = met b s S o (M m) (quiet_begins_none s m h) ∙ quiet_met b s S m o q h
 
 -- ---- the trace behind an item
@@ -171,11 +186,38 @@ came b s S v e cs h l c =
     ∙ ap (λ (ds : List (ℕ × Request)). record { client = v.client; stage = Live; began = v.began; pages = v.pages; acked = acked_by s v.acked (request_in e); sent = push v.sent (told_of s S v.pages ds); taken = v.taken }) c
     ∙ ap (λ (t : Stage). record { client = v.client; stage = t; began = v.began; pages = v.pages; acked = acked_by s v.acked (request_in e); sent = push v.sent (told_of s S v.pages cs); taken = v.taken }) (sym (live_stage v.stage l))
 
--- a Life ends each session
-pub ended_by_life : (b : Base) (s : ℕ) (S : State) (e : Entry) (o : Option Session) → b.silence ≡ None → is_life e ≡ true → lives (meet b s S o (E e)) ≡ false
-ended_by_life b s S e None q h = refl
-ended_by_life b s S e (Some v) q h = by (session_lives v) refl
+-- a Life ends each session, also one that is silent by then
+pub ended_by_life : (b : Base) (s : ℕ) (S : State) (e : Entry) (o : Option Session) → is_life e ≡ true → lives (meet b s S o (E e)) ≡ false
+ended_by_life b s S e None h = refl
+ended_by_life b s S e (Some v) h = by (session_lives v) refl
   where
+    ends : is_live (moved b s S v (E e)).stage ≡ false
+    ends = ap (λ (t : Bool). is_live (cond (cond t false true) Live Ended)) h
+
+    retired_ends : is_live (retired (moved b s S v (E e)).stage) ≡ false
+    retired_ends = ap (λ (t : Bool). is_live (retired (cond (cond t false true) Live Ended))) h
+
+    either : (u : Bool) → session_lives (cond u (record (moved b s S v (E e)) { stage = retired (moved b s S v (E e)).stage }) (moved b s S v (E e))) ≡ false
+    either true = retired_ends
+    either false = ends
+
     by : (t : Bool) → session_lives v ≡ t → session_lives (move b s S (E e) v) ≡ false
-    by true l = ap (λ (w : Session). session_lives w) (moves b s S (E e) v q l) ∙ ap (λ (t : Bool). is_live (cond (cond t false true) Live Ended)) h
+    by true l =
+        let u : Bool = is_silent b.silence (moved b s S v (E e)) in
+        ap (λ (w : Session). session_lives w) (lives_to b s S (E e) v u l refl) ∙ either u
     by false l = ap (λ (w : Session). session_lives w) (rests b s S (E e) v l) ∙ stays_dead v (E e) l
+
+-- and none is retired then
+pub retired_by_life : (b : Base) (s : ℕ) (S : State) (e : Entry) (o : Option Session) → is_life e ≡ true → retired_client_of (meet b s S o (E e)) ≡ None
+retired_by_life b s S e None h = refl
+retired_by_life b s S e (Some v) h = by (session_lives v) refl
+  where
+    either : (u : Bool) → retired_client_of (Some (cond u (record (moved b s S v (E e)) { stage = retired (moved b s S v (E e)).stage }) (moved b s S v (E e)))) ≡ None
+    either true = ap (λ (t : Bool). retired_at (retired (cond (cond t false true) Live Ended)) v.client) h
+    either false = ap (λ (t : Bool). retired_at (cond (cond t false true) Live Ended) v.client) h
+
+    by : (t : Bool) → session_lives v ≡ t → retired_client_of (Some (move b s S (E e) v)) ≡ None
+    by true l =
+        let u : Bool = is_silent b.silence (moved b s S v (E e)) in
+        ap (λ (w : Session). retired_client_of (Some w)) (lives_to b s S (E e) v u l refl) ∙ either u
+    by false l = ap (λ (w : Session). retired_client_of (Some w)) (rests b s S (E e) v l) ∙ ap (λ (t : Bool). retired_at (cond (cond t false true) v.stage Ended) v.client) h

@@ -1,17 +1,18 @@
 //! What is kept of the sessions of a repository says what its trace says of them, behind each event.
 
+ghost use Rattle.cached_sets.specs.Noted.{most_noted};
 ghost use Rattle.cached_sets.specs.Sets as sets;
 ghost use Rattle.log_entries.specs.declared.entry.Entry.TheVariants.{Life};
 ghost use Rattle.log_entries.specs.declared.entry.Entry.{Entry};
 ghost use Rattle.log_entries.specs.declared.request.Request.{Request};
-ghost use Rattle.repo_sessions.specs.Sessions.{Kept, acknowledged, begun, ended, is_live, no_sessions, sent, taken};
+ghost use Rattle.repo_sessions.specs.Sessions.{Kept, acknowledged, begun, ended, is_live, no_sessions, sent, has_session, taken};
 ghost use Rattle.spec_history.specs.History.{Base, is_life};
 ghost use Rattle.session_outbox.specs.Messages.{first, place_of};
 ghost use Rattle.session_outbox.specs.Outbox.{waiting};
 ghost use Rattle.session_outbox.specs.declared.message.Message.TheVariants.{Grant, Page};
 ghost use Rattle.session_outbox.specs.declared.message.Message.{Message};
 ghost use Rattle.law_repo_sessions.specs.Agreeing.{SessionsAgree};
-ghost use Rattle.spec_trace.specs.Notices.{lives, notice_of};
+ghost use Rattle.spec_trace.specs.Notices.{lives, notice_of, is_unended};
 ghost use Rattle.law_repo_sessions.specs.Coming.{HasCome};
 ghost use Rattle.spec_trace.specs.Exact.{MarkIsExact};
 ghost use Rattle.spec_trace.specs.Session.{Session, invalid, session, session_lives};
@@ -32,7 +33,7 @@ ghost use Rattle.repo_refusals.specs.declared.refusal.Refusal.{Refusal};
 /// No session is kept at the beginning, a Life ends all of them, and a client that connects gets a new one and
 /// loses its older one.
 pub fn beginnings_keep_agreement()
-    ensures beginning { (b : Base) → b.silence ≡ None → SessionsAgree b [] no_sessions }
+    ensures beginning { (b : Base) → b.silence ≡ Some most_noted → SessionsAgree b [] no_sessions }
     ensures life { (b : Base) (T : List Item) (K : Kept) (n : ℕ) → SessionsAgree b T K →
         SessionsAgree b (T ++ E (Life n) ∷ []) (ended K) }
     ensures connected { (b : Base) (T : List Item) (K : Kept) (client s : ℕ) → s ≡ K.last + 1 → SessionsAgree b T K →
@@ -61,18 +62,21 @@ pub fn marks_keep_agreement()
         SessionsAgree b T K → SessionsAgree b (T ++ M (the.Refused s q r) ∷ []) K }
 {}
 
-/// An entry that is no Life acknowledges what its request does, and is told where it commits.
+/// An entry that is no Life acknowledges what its request does, and is told where it commits; then the sessions are given up
+/// whose clients leave more unacknowledged than they may.
 pub fn entries_keep_agreement()
     ensures { (b : Base) (T : List Item) (e : Entry) (K L : Kept) → is_life e ≡ false → SessionsAgree b T K →
         HasCome b T e K L → SessionsAgree b (T ++ E e ∷ []) L }
 {}
 
-/// A session is live by what is kept exactly where it is so by the trace. Of some names the least stale one is
+/// A session is live by what is kept exactly where it is so by the trace, and so it has ended. Of some names the least stale one is
 /// that of the trace's invalid set; so a request whose names rise is refused as stale exactly as the definition
 /// says. The message that is taken next is the first that was sent and not taken.
 pub fn agreement_answers()
     ensures live { (b : Base) (T : List Item) (K : Kept) (s : ℕ) → SessionsAgree b T K →
         is_live K s ≡ lives (session b T s) }
+    ensures unended { (b : Base) (T : List Item) (K : Kept) (s : ℕ) → SessionsAgree b T K →
+        has_session K s ≡ is_unended (session b T s) }
     ensures there { (b : Base) (T : List Item) (K : Kept) (s : ℕ) → SessionsAgree b T K → is_live K s ≡ true →
         IsSomeAnd (session b T s) (λ v. session_lives v ≡ true) }
     ensures stale { (b : Base) (T : List Item) (K : Kept) (s : ℕ) (v : Session) (q : Request) → SessionsAgree b T K →

@@ -1,7 +1,7 @@
 //! What calls ask of what was read.
 
 ghost use Rattle.spec_history.specs.History.{is_undecided, known_in};
-ghost use Rattle.spec_trace.specs.Notices.{lives};
+ghost use Rattle.spec_trace.specs.Notices.{lives, is_unended};
 ghost use Rattle.std.specs.List.{list_any, slice_get};
 ghost use Rattle.std.specs.Option.{option_and_then, option_copied, option_map};
 ghost use Rattle.std.specs.Prelude.{IfOk, length, ◌+◌, ◌≡◌};
@@ -94,6 +94,16 @@ impl Reading {
     {
         match &self.session {
             Some(session) => session.is_live(),
+            None => false,
+        }
+    }
+
+    /// Whether the session that was looked for is there and hasn't ended. None is given up here, so it is live then.
+    pub fn is_unended(&self) -> bool
+        ensures { result ≡ is_unended self.now.session }
+    {
+        match &self.session {
+            Some(session) => session.is_unended(),
             None => false,
         }
     }

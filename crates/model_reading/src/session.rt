@@ -3,12 +3,12 @@
 ghost use Rattle.spec_history.specs.History.{is_life};
 ghost use Rattle.spec_history.specs.Requests.{written};
 ghost use Rattle.spec_trace.specs.Session as session;
-ghost use Rattle.spec_trace.specs.Session.{acked_by, begun, cache, invalid_of, lives_on, push, request_in, rested, session_lives, told};
+ghost use Rattle.spec_trace.specs.Session.{acked_by, begun, cache, invalid_of, lives_on, push, request_in, rested, session_ended, session_lives, told};
 ghost use Rattle.spec_trace.specs.Trace.{E, M};
 ghost use Rattle.std.specs.List.{filter};
 ghost use Rattle.std.specs.Map.{keys_of};
 ghost use Rattle.std.specs.Option.{option_copied};
-ghost use Rattle.std.specs.Prelude.{IfOk, OnOk, [], cond, max, slice_get, ◌+◌, ◌++◌, ◌∷◌, ◌≡◌};
+ghost use Rattle.std.specs.Prelude.{IfOk, OnOk, [], cond, max, not, slice_get, ◌+◌, ◌++◌, ◌∷◌, ◌≡◌};
 ghost use Rattle.thor_value.specs.FiniteMap.{get, has, keys};
 ghost use Rattle.model_reading.specs.Notices.{notice_of, stage_of};
 ghost use Rattle.model_reading.specs.Settling.{committed_by, marked, noted_with, passed, request_of, told_with};
@@ -74,6 +74,16 @@ impl Session {
     /// Whether its repository has it.
     pub(crate) fn is_live(&self) -> bool
         ensures { result ≡ session_lives self.now }
+    {
+        match self.stage {
+            Stage::Live => true,
+            Stage::Ended => false,
+        }
+    }
+
+    /// Whether it hasn't ended.
+    pub(crate) fn is_unended(&self) -> bool
+        ensures { result ≡ not (session_ended self.now) }
     {
         match self.stage {
             Stage::Live => true,

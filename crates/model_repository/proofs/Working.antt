@@ -18,7 +18,7 @@ use Rattle.law_client_views.proofs.Meeting as meets
 use Rattle.law_client_views.proofs.Stopping as stopping
 use Rattle.law_client_views.specs.Plain as plain
 use Rattle.law_client_views.specs.Plain.{left_by, message_of, refuse, requested}
-use Rattle.spec_trace.specs.Notices.{lives}
+use Rattle.spec_trace.specs.Notices.{is_unended}
 use Rattle.spec_trace.specs.Session.{session}
 use Rattle.spec_trace.specs.Trace.{E, Item, M, entries}
 use Rattle.spec_trace.specs.Verdict.{verdict}
@@ -125,7 +125,7 @@ module _ (b : Base) (c r : ℕ) (old new : Site) where
       → DecideWork s t k result b T (trace_in new) U
   decides plan s t k result p h =
       taken_works (λ x S u. DecideWork s t k x b T S u) plan c r old new result (plain.decide b T s t k) h p (λ _ _. meets.decides b T s t k) (refl, tt)
-      (λ e come. let z = decided_so s t k e (lives (session b T s)) (is_prepared_by s (known_by b (entries T) t)) come in (refl, may_come e (Decided t k) (is_prepared_by s (known_by b (entries T) t) ≡ true) z.0 z.1))
+      (λ e come. let z = decided_so s t k e (is_unended (session b T s)) (is_prepared_by s (known_by b (entries T) t)) come in (refl, may_come e (Decided t k) (is_prepared_by s (known_by b (entries T) t) ≡ true) z.0 z.1))
 
   finished_so : (t : Ts) (k : Bool) (e : Entry) (u : Bool) → T ++ E e ∷ [] ≡ (cond {A = plain.Stepped (Option ℕ)} u (Ok (Some (length (entries T))), T ++ E (Finished t k) ∷ []) (Ok None, T)).1 → (e ≡ Finished t k) × (u ≡ true)
   finished_so t k e true h = (same_entry T e (Finished t k) h, refl)

@@ -13,7 +13,7 @@ use Rattle.law_client_views.specs.Plain.{Stepped, received, refuse, answer_of_as
 use Rattle.base_reasons.specs.declared.reason.Reason.TheVariants as reasons
 use Rattle.spec_trace.specs.Calls.{Settled, Undecided, drawn_time, is_forgotten}
 use Rattle.spec_trace.specs.Exact.{most_pages}
-use Rattle.spec_trace.specs.Notices.{lives}
+use Rattle.spec_trace.specs.Notices.{lives, is_unended}
 use Rattle.spec_trace.specs.Session.{Notice}
 use Rattle.spec_trace.specs.Trace.{E, Item, M}
 use Rattle.spec_trace.specs.declared.mark.Mark.TheVariants as the
@@ -84,7 +84,7 @@ abbrev pub decide_live : Reading → List Item → Ts → Bool → Bool → Step
 decide_live R T t c own = cond own (Ok (record { tx = t; commit = c }), T ++ E (Decided t c) ∷ []) (Ok (record { tx = t; commit = commits_by_reading R T t }), T)
 
 abbrev pub decide_by : Base → Reading → List Item → ℕ → Ts → Bool → Stepped Verdict
-decide_by b R T s t c = cond (lives R.session) (decide_live R T t c (is_prepared_by s (known_in b R.state t))) (Err (gone s), T)
+decide_by b R T s t c = cond (is_unended R.session) (decide_live R T t c (is_prepared_by s (known_in b R.state t))) (Err (gone s), T)
 
 abbrev pub finish_by : Base → Reading → List Item → Ts → Bool → Stepped (Option ℕ)
 finish_by b R T t c = cond (is_undecided (known_in b R.state t)) (Ok (Some R.state.length), T ++ E (Finished t c) ∷ []) (Ok None, T)

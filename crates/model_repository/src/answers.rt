@@ -467,7 +467,7 @@ fn decide_by(
 ) -> Result<Step<Verdict>, NoMemory>
     ensures { IfOk result (λ step. IsStep items.now step (decide_by (base_of opening.now) reading.now (trace_of items.now) session tx commit)) }
 {
-    if reading.is_live() {
+    if reading.is_unended() {
         let own = is_prepared_by(reading, opening, session, tx)?;
         return Ok(decide_live(reading, items, tx, commit, own));
     }

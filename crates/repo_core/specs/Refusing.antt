@@ -1,6 +1,6 @@
 -- Why a call is refused, and what stands behind a refusal.
 use Rattle.log_entries.specs.declared.entry.Entry.{Entry}
-use Rattle.repo_sessions.specs.Sessions.{is_live}
+use Rattle.repo_sessions.specs.Sessions.{is_live, has_session}
 use Rattle.page_format.specs.Pages.{Contents}
 use Rattle.page_format.specs.Sides.{side_in_use}
 use Rattle.page_store.specs.Objects.{Spells}
@@ -38,6 +38,10 @@ HasNoReason r = ⊥
 -- a call of a session is refused since it isn't live
 abbrev pub IsGone : Memory → ℕ → Refusal → Type 0
 IsGone M s r = (r ≡ refused.Reason (Gone s)) × (is_live M.sessions s ≡ false)
+
+-- a decision of a session is refused since it has ended
+abbrev pub IsEnded : Memory → ℕ → Refusal → Type 0
+IsEnded M s r = (r ≡ refused.Reason (Gone s)) × (has_session M.sessions s ≡ false)
 
 -- objects moved, and the buffer's limit stays
 pub record Moved (old new : Shown) : Type 0 where

@@ -5,7 +5,7 @@ ghost use Rattle.repo_core.specs.Behind.{is_marked};
 ghost use Rattle.repo_durable.specs.Kept.{is_fault};
 ghost use Rattle.repo_core.specs.Refusing.{GoesDown, Leaves, StaysAsWas};
 ghost use Rattle.std.specs.Prelude.{◌≡◌, IfErr, Ok, OnErr, OnOk, Option, false, true};
-ghost use Rattle.repo_sessions.specs.Sessions.{is_live};
+ghost use Rattle.repo_sessions.specs.Sessions.{is_live, has_session};
 ghost use Rattle.repo_trace.specs.Recorded.{with_mark};
 ghost use Rattle.base_reasons.specs.declared.reason.Reason.TheVariants.{Gone as IsGone};
 ghost use Rattle.repo_refusals.specs.declared.refusal.Refusal.TheVariants.{Down as IsDown, NoMemory as IsNoMemory, Reason as IsReason};
@@ -45,6 +45,21 @@ impl<P: Parts> Repo<P> {
         ensures left { IfErr result (λ r. (e : Option AnEntry) → Leaves self.now self.now e r) }
     {
         if self.memory.sessions().is_live(session) {
+            Ok(())
+        } else {
+            Err(Refusal::Reason(Reason::Gone { session }))
+        }
+    }
+
+    /// Refuses a call of a session that has ended.
+    #[tactic(auto, using(crate::proofs::Refused::leaves_same))]
+    pub(crate) fn check_unended(&self, session: u32) -> Result<(), Refusal>
+        ensures unended { OnOk result (has_session self.now.memory.sessions session ≡ true) }
+        ensures refusal { IfErr result (λ r. r ≡ IsReason (IsGone session)) }
+        ensures gone { OnErr result (has_session self.now.memory.sessions session ≡ false) }
+        ensures left { IfErr result (λ r. (e : Option AnEntry) → Leaves self.now self.now e r) }
+    {
+        if self.memory.sessions().has_session(session) {
             Ok(())
         } else {
             Err(Refusal::Reason(Reason::Gone { session }))

@@ -1,2 +1,4 @@
 mod Gathering
+mod Noted
 mod Sending
+mod Told

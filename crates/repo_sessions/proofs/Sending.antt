@@ -1,16 +1,11 @@
 -- What waits for each session behind what is told.
 use Rattle.cached_sets.proofs.Meaning.{same_test}
-use Rattle.cached_sets.specs.Sets as sets
-use Rattle.cached_sets.specs.Sets.{Sets}
-use Rattle.repo_sessions.specs.Noting.{IsGathered, if_any, named, names_of, names_sent, upgrade_sent}
-use Rattle.repo_sessions.specs.Sessions.{IsTold, Kept}
-use Rattle.repo_sessions.specs.Telling.{UpgradeTold, WritesTold, message_of, names_for}
+use Rattle.repo_sessions.specs.Noting.{names_sent, upgrade_sent}
 use Rattle.session_outbox.proofs.Ordered.{behind_push}
 use Rattle.session_outbox.specs.Outbox.{Waiting, push, pushed_to, waiting}
 use Rattle.session_outbox.specs.declared.message.Message.TheVariants.{Invalid, Upgrade}
 use Rattle.session_outbox.specs.declared.message.Message.{Message}
 use Rattle.std.proofs.Common.{Bool, List, [], ap, append_assoc, arith, cond, false, nat_eq, refl, subst, sym, true, ◌++◌, ◌∙◌, ◌∷◌, ◌≡◌, ℕ}
-use Rattle.std.proofs.lemmas.Bool.Decides.{nat_tests}
 use Rattle.std.proofs.lemmas.Bool.{eqb-true}
 use Rattle.std.proofs.lemmas.List.{append-nil}
 use Rattle.std.proofs.lemmas.Map.{keys-set_value}
@@ -20,7 +15,6 @@ use Rattle.std.specs.Cmp.{nat_cmp_total}
 use Rattle.std.specs.List.Sorted.{IsStrictlySortedBy}
 use Rattle.std.specs.List.{AllByRecursion}
 use Rattle.std.specs.Map.{keys_of, lookup}
-use Rattle.std.specs.Option.{is_some}
 use Rattle.std.specs.Ordering.{is_eq, nat_cmp}
 use Rattle.std.specs.Prelude.{None, Option, Some}
 use Rattle.std.specs.declared.cmp.Ordering.TheVariants.{Less}
@@ -38,23 +32,23 @@ pushed_order W n m h = by (get W n)
     by None = IsSorted-insert nat_cmp_total W n (m ∷ []) h
     by (Some ms) = subst (IsStrictlySortedBy nat_cmp) (sym (keys-set_value (is_at (nat_cmp n)) W.pairs (ms ++ m ∷ []))) h
 
-names_order : (W : Waiting) (es : List (ℕ × List Oref)) (k : ℕ) → IsSorted W → IsSorted (names_sent W es k)
+pub names_order : (W : Waiting) (es : List (ℕ × List Oref)) (k : ℕ) → IsSorted W → IsSorted (names_sent W es k)
 names_order W [] k h = h
 names_order W (e ∷ es) k h = names_order (push W e.0 (Invalid e.1 k)) es k (pushed_order W e.0 (Invalid e.1 k) h)
 
-upgrade_order : (W : Waiting) (es : List (ℕ × ℕ)) (number : ℕ) (text : List ℕ) (k : ℕ) → IsSorted W → IsSorted (upgrade_sent W es number text k)
+pub upgrade_order : (W : Waiting) (es : List (ℕ × ℕ)) (number : ℕ) (text : List ℕ) (k : ℕ) → IsSorted W → IsSorted (upgrade_sent W es number text k)
 upgrade_order W [] number text k h = h
 upgrade_order W (e ∷ es) number text k h = upgrade_order (push W e.0 (Upgrade number text k)) es number text k (pushed_order W e.0 (Upgrade number text k) h)
 
 -- ---- one message for each of some sessions
 
 -- a key that is below all isn't there
-none_at : {X : Type 0} (s : ℕ) (es : List (ℕ × X)) → AllByRecursion (λ y. nat_cmp s y ≡ Less) (keys_of es) → lookup (is_at (nat_cmp s)) es ≡ None
+pub none_at : {X : Type 0} (s : ℕ) (es : List (ℕ × X)) → AllByRecursion (λ y. nat_cmp s y ≡ Less) (keys_of es) → lookup (is_at (nat_cmp s)) es ≡ None
 none_at s [] h = refl
 none_at s (e ∷ es) h = ap (λ (r : Ordering). cond (is_eq r) (Some e.1) (lookup (is_at (nat_cmp s)) es)) h.0 ∙ none_at s es h.1
 
 -- the message of a session for which something is there
-abbrev message_for : {X : Type 0} → (X → Message) → Option X → List Message
+abbrev pub message_for : {X : Type 0} → (X → Message) → Option X → List Message
 message_for f None = []
 message_for f (Some v) = f v ∷ []
 
@@ -70,7 +64,7 @@ step_for f s e es h = by (nat_eq e.0 s) refl ∙ ap (λ (t : Bool). message_for 
         ap (λ o. f e.1 ∷ message_for f o) n ∙ sym (ap (λ (t : Bool). message_for f (cond t (Some e.1) (lookup (is_at (nat_cmp s)) es))) g)
     by false g = sym (ap (λ (t : Bool). message_for f (cond t (Some e.1) (lookup (is_at (nat_cmp s)) es))) g)
 
-names_wait : (W : Waiting) (es : List (ℕ × List Oref)) (k s : ℕ) → IsStrictlySortedBy nat_cmp (keys_of es) → waiting (names_sent W es k) s ≡ waiting W s ++ message_for (λ ns. Invalid ns k) (lookup (is_at (nat_cmp s)) es)
+pub names_wait : (W : Waiting) (es : List (ℕ × List Oref)) (k s : ℕ) → IsStrictlySortedBy nat_cmp (keys_of es) → waiting (names_sent W es k) s ≡ waiting W s ++ message_for (λ ns. Invalid ns k) (lookup (is_at (nat_cmp s)) es)
 unfolding IsStrictlySortedBy
 names_wait W [] k s h = sym (append-nil (waiting W s))
 names_wait W (e ∷ es) k s h =
@@ -79,7 +73,7 @@ names_wait W (e ∷ es) k s h =
     ∙ append_assoc (waiting W s) (cond (nat_eq e.0 s) (Invalid e.1 k ∷ []) []) (message_for (λ ns. Invalid ns k) (lookup (is_at (nat_cmp s)) es))
     ∙ ap (λ (ms : List Message). waiting W s ++ ms) (step_for (λ ns. Invalid ns k) s e es h.0)
 
-upgrade_waits : (W : Waiting) (es : List (ℕ × ℕ)) (number : ℕ) (text : List ℕ) (k s : ℕ) → IsStrictlySortedBy nat_cmp (keys_of es) → waiting (upgrade_sent W es number text k) s ≡ waiting W s ++ message_for (λ c. Upgrade number text k) (lookup (is_at (nat_cmp s)) es)
+pub upgrade_waits : (W : Waiting) (es : List (ℕ × ℕ)) (number : ℕ) (text : List ℕ) (k s : ℕ) → IsStrictlySortedBy nat_cmp (keys_of es) → waiting (upgrade_sent W es number text k) s ≡ waiting W s ++ message_for (λ c. Upgrade number text k) (lookup (is_at (nat_cmp s)) es)
 unfolding IsStrictlySortedBy
 upgrade_waits W [] number text k s h = sym (append-nil (waiting W s))
 upgrade_waits W (e ∷ es) number text k s h =
@@ -87,41 +81,3 @@ upgrade_waits W (e ∷ es) number text k s h =
     ∙ ap (λ (ms : List Message). ms ++ message_for (λ c. Upgrade number text k) (lookup (is_at (nat_cmp s)) es)) (behind_push W e.0 s (Upgrade number text k))
     ∙ append_assoc (waiting W s) (cond (nat_eq e.0 s) (Upgrade number text k ∷ []) []) (message_for (λ c. Upgrade number text k) (lookup (is_at (nat_cmp s)) es))
     ∙ ap (λ (ms : List Message). waiting W s ++ ms) (step_for (λ c. Upgrade number text k) s e es h.0)
-
--- ---- what is told
-
-any_message : (names : List Oref) (k : ℕ) → message_for (λ ns. Invalid ns k) (if_any names) ≡ message_of names k
-any_message [] k = refl
-any_message (x ∷ xs) k = refl
-
--- where the sets were touched and each session's names were sent to it
-pub writes_told : (K L : Kept) (w : ℕ) (names : List Oref) (k : ℕ) (es : List (ℕ × List Oref)) → IsTold K L → L.sets ≡ sets.touch K.sets w names k → IsGathered K.sets.cached w names (named es) → L.waiting ≡ names_sent K.waiting es k → WritesTold K L w names k
-writes_told K L w names k es same touched held sent = record {
-  same = same;
-  sets = touched;
-  news = λ s.
-      ap (λ (W : Waiting). waiting W s) sent
-      ∙ names_wait K.waiting es k s held.order
-      ∙ ap (λ (o : Option (List Oref)). waiting K.waiting s ++ message_for (λ ns. Invalid ns k) o) (held.full s)
-      ∙ ap (λ (ms : List Message). waiting K.waiting s ++ ms) (any_message (names_of (named es) s) k ∙ ap (λ (ns : List Oref). message_of ns k) (held.names_are s) ∙ by s (nat_eq s w));
-  order = λ h. subst (λ (W : Waiting). IsSorted W) (sym sent) (names_order K.waiting es k h);
-}
-  where
-    by : (s : ℕ) (t : Bool) → message_of (cond t [] (names_for K.sets s names)) k ≡ cond t [] (message_of (names_for K.sets s names) k)
-    by s true = refl
-    by s false = refl
-
-pub upgrade_told : (K L : Kept) (number : ℕ) (text : List ℕ) (k : ℕ) → IsTold K L → L.sets ≡ K.sets → IsSorted K.clients → L.waiting ≡ upgrade_sent K.waiting K.clients.pairs number text k → UpgradeTold K L number text k
-upgrade_told K L number text k same sets order sent = record {
-  same = same;
-  sets = sets;
-  news = λ s.
-      ap (λ (W : Waiting). waiting W s) sent
-      ∙ upgrade_waits K.waiting K.clients.pairs number text k s order
-      ∙ ap (λ (ms : List Message). waiting K.waiting s ++ ms) (by (get K.clients s));
-  order = λ h. subst (λ (W : Waiting). IsSorted W) (sym sent) (upgrade_order K.waiting K.clients.pairs number text k h);
-}
-  where
-    by : (o : Option ℕ) → message_for (λ c. Upgrade number text k) o ≡ cond (is_some o) (Upgrade number text k ∷ []) []
-    by None = refl
-    by (Some c) = refl

@@ -1,5 +1,7 @@
 -- How the names of written objects are gathered for the sessions that are told of them. No public clause cites
 -- this module.
+use Rattle.cached_sets.specs.Noted.{Noted, is_silent, with_place}
+use Rattle.cached_sets.specs.Sets.{Sets}
 use Rattle.link_table.specs.Pairs.{is_linked}
 use Rattle.session_outbox.specs.Outbox.{Waiting, push}
 use Rattle.session_outbox.specs.declared.message.Message.TheVariants.{Invalid, Upgrade}
@@ -61,3 +63,17 @@ names_sent W es k = fold (λ V e. push V e.0 (Invalid e.1 k)) W es
 -- with an upgrade sent to each of some sessions
 abbrev pub upgrade_sent : Waiting → List (ℕ × ℕ) → ℕ → List ℕ → ℕ → Waiting
 upgrade_sent W es number text k = fold (λ V e. push V e.0 (Upgrade number text k)) W es
+
+-- with a place noted of each of some sessions
+abbrev pub noted_at : Noted → List ℕ → ℕ → Noted
+noted_at N ss k = fold (λ M s. with_place M s k) N ss
+
+-- those of them that have more places than they may then
+abbrev pub silent_at : Noted → List ℕ → ℕ → List ℕ
+silent_at N [] k = []
+silent_at N (s ∷ ss) k = cond (is_silent (with_place N s k) s) (s ∷ silent_at (with_place N s k) ss k) (silent_at (with_place N s k) ss k)
+
+-- A place was noted of some sessions, and these are those of them that are silent then.
+pub record AreNoted (before after : Sets) (ss : List ℕ) (k : ℕ) (silent : List ℕ) : Type 0 where
+  pub sets : after ≡ record before { noted = noted_at before.noted ss k }
+  pub silent_are : silent ≡ silent_at before.noted ss k

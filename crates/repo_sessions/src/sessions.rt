@@ -1,4 +1,5 @@
 ghost use Rattle.std.specs.Prelude.{◌≡◌, ◌+◌, ◌-◌, IfOk, OnOk, OnErr};
+ghost use Rattle.std.specs.List.{fold};
 ghost use Rattle.std.specs.Map.{keys_of};
 ghost use Rattle.cached_sets.specs.Sets as sets;
 ghost use Rattle.session_outbox.specs.Messages.{first};
@@ -6,7 +7,7 @@ ghost use Rattle.session_outbox.specs.Outbox.{waiting};
 ghost use Rattle.session_outbox.specs.declared.message.Message.TheVariants.{Grant, Page as APage};
 ghost use Rattle.page_format.specs.Pages.{page_bytes};
 ghost use Rattle.validation_queue.specs.Names.{Rises};
-ghost use Rattle.repo_sessions.specs.Sessions.{acknowledged, begun, ended, is_live, no_sessions, sent, taken, without};
+ghost use Rattle.repo_sessions.specs.Sessions.{KeepsNumbers, acknowledged, begun, ended, is_live, no_sessions, retire, sent, has_session, taken, without};
 
 use cached_sets::Sets;
 use page_format::Page;
@@ -17,14 +18,16 @@ use std::marker::Model;
 use std::mem;
 use thor_value::{NoMemory, Oref, Orefs};
 
-/// The live sessions of a repository, each with what its client may have cached and what waits for it. A
-/// client has one live session at most.
+/// The live sessions of a repository, each with what its client may have cached and what waits for it, and the
+/// sessions that were given up and haven't ended. A client has one of these at most.
 pub struct Sessions {
     pub(crate) alloc: Global,
     /// The client of each live session.
     pub(crate) clients: BTreeMap<u32, u8>,
-    /// The live session of each client.
+    /// The session of each client that hasn't ended.
     pub(crate) live: BTreeMap<u8, u32>,
+    /// The client of each session that was given up and hasn't ended.
+    pub(crate) retired: BTreeMap<u32, u8>,
     /// The number of the session that began last, 0 before the first. Restarts don't change it.
     pub(crate) last: u32,
     pub(crate) sets: Sets,
@@ -37,6 +40,7 @@ impl Drop for Sessions {
             alloc,
             clients,
             live,
+            retired,
             last,
             sets,
             outbox,
@@ -44,6 +48,7 @@ impl Drop for Sessions {
         let _ = alloc;
         drop(clients);
         drop(live);
+        drop(retired);
         let _ = last;
         drop(sets);
         drop(outbox);
@@ -55,7 +60,7 @@ impl Model for Sessions {
 
     ghost Value = { Kept };
 
-    ghost view = { λ s. record { clients = record { pairs = s.clients.entries }; live = record { pairs = s.live.entries }; last = s.last; sets = s.sets; waiting = s.outbox } };
+    ghost view = { λ s. record { clients = record { pairs = s.clients.entries }; live = record { pairs = s.live.entries }; retired = record { pairs = s.retired.entries }; last = s.last; sets = s.sets; waiting = s.outbox } };
 }
 
 impl Sessions {
@@ -67,6 +72,7 @@ impl Sessions {
             alloc,
             clients: BTreeMap::new(alloc),
             live: BTreeMap::new(alloc),
+            retired: BTreeMap::new(alloc),
             last: 0,
             sets: Sets::new(alloc)?,
             outbox: Outbox::new(alloc)?,
@@ -78,6 +84,13 @@ impl Sessions {
         ensures { result ≡ is_live self.now session }
     {
         self.clients.contains_key(&session)
+    }
+
+    /// Whether a session hasn't ended: it is live, or was given up.
+    pub fn has_session(&self, session: u32) -> bool
+        ensures { result ≡ has_session self.now session }
+    {
+        self.is_live(session) || self.retired.contains_key(&session)
     }
 
     /// Begins a session of a client, and ends its older one. The answer is its number. Want of memory, too,
@@ -111,9 +124,36 @@ impl Sessions {
     {
         if let Some(session) = session {
             self.clients.remove(&session);
+            self.retired.remove(&session);
             self.sets.drop_session(session);
             self.outbox.drop_session(session);
         }
+    }
+
+    /// Gives a session up, whose client leaves too much unacknowledged: it is told nothing more, and nothing is kept of it
+    /// but that it hasn't ended. After `NoMemory` all sessions are to end.
+    fn retire(&mut self, session: u32) -> Result<(), NoMemory>
+        ensures numbers { KeepsNumbers self.old self.new }
+        ensures ok { OnOk result (self.new ≡ retire self.old session) }
+    {
+        self.sets.drop_session(session);
+        self.outbox.drop_session(session);
+        let Some(client) = self.clients.remove(&session) else {
+            return Ok(());
+        };
+        self.retired.insert(session, client)?;
+        Ok(())
+    }
+
+    /// Gives some sessions up. After `NoMemory` all sessions are to end.
+    pub(crate) fn retire_all(&mut self, silent: Vec<u32>) -> Result<(), NoMemory>
+        ensures numbers { KeepsNumbers self.old self.new }
+        ensures ok { OnOk result (self.new ≡ fold retire self.old silent.items) }
+    {
+        for session in silent {
+            self.retire(session)?;
+        }
+        Ok(())
     }
 
     /// Ends all sessions. Those that begin later have higher numbers. After `NoMemory` all is as it was.

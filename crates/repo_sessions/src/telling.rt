@@ -5,11 +5,12 @@ ghost use Rattle.std.specs.List.Sorted.{IsStrictlySortedBy};
 ghost use Rattle.std.specs.Map.{keys_of};
 ghost use Rattle.std.specs.Ordering.{nat_cmp};
 ghost use Rattle.cached_sets.specs.Sets as sets;
-ghost use Rattle.repo_sessions.specs.Noting.{IsGathered, IsNoted, named, names_sent, noted, upgrade_sent};
-ghost use Rattle.repo_sessions.specs.Sessions.{IsTold};
-ghost use Rattle.repo_sessions.specs.Telling.{UpgradeTold, WritesTold};
+ghost use Rattle.repo_sessions.specs.Noting.{AreNoted, IsGathered, IsNoted, named, names_sent, noted, upgrade_sent};
+ghost use Rattle.repo_sessions.specs.Sessions.{KeepsNumbers, Kept};
+ghost use Rattle.repo_sessions.specs.Telling.{Retires, UpgradeTold, WritesTold};
 
 use crate::sessions::Sessions;
+use cached_sets::Sets;
 use session_outbox::{Message, Outbox};
 use std::alloc::Global;
 use std::collections::BTreeMap;
@@ -17,18 +18,20 @@ use thor_value::{NoMemory, Oref, Orefs, Text, TryCopy, Writes};
 
 impl Sessions {
     /// A session has written objects, in the commit at a place: they come into the invalid set of each other
-    /// session whose client may have copies of them, and each of these is sent their names. After `NoMemory`
-    /// some of them may have been told.
+    /// session whose client may have copies of them, and each of these is sent their names. One whose client hasn't
+    /// acknowledged more than 4,096 places of such news is given up. After `NoMemory` some of them may have been told.
     ///
-    /// It takes time for each such session and object, and none for the other sessions.
+    /// It takes time for each such session and object, and none for the other sessions; and what a session has once, as
+    /// it is given up.
     pub fn tell_writes(&mut self, writer: u32, writes: &Writes, place: u64) -> Result<(), NoMemory>
-        ensures told { IsTold self.old self.new }
-        ensures sets { OnOk result (self.new.sets ≡ sets.touch self.old.sets writer (keys_of writes.now) place) }
-        ensures news { OnOk result (WritesTold self.old self.new writer (keys_of writes.now) place) }
+        ensures numbers { KeepsNumbers self.old self.new }
+        ensures news { OnOk result ((told : Kept) × WritesTold self.old told writer (keys_of writes.now) place × Retires self.old told self.new) }
     {
         self.sets.touch(writer, writes, place)?;
         let holders = self.holders(writer, writes)?;
-        send_names(&mut self.outbox, holders, place)
+        let silent = note_all(self.alloc, &mut self.sets, &holders, place)?;
+        send_names(&mut self.outbox, holders, place)?;
+        self.retire_all(silent)
     }
 
     /// The sessions but the writer's that may have copies of written objects, each with their names, rising.
@@ -64,15 +67,34 @@ impl Sessions {
         Err(NoMemory)
     }
 
-    /// An upgrade has committed at a place: every session is told. After `NoMemory` some of them may have
-    /// been.
+    /// An upgrade has committed at a place: every live session is told. One whose client hasn't acknowledged more than
+    /// 4,096 places of news is given up. After `NoMemory` some of them may have been told.
     pub fn tell_upgrade(&mut self, number: u32, text: &Text, place: u64) -> Result<(), NoMemory>
-        ensures told { IsTold self.old self.new }
-        ensures sets { self.new.sets ≡ self.old.sets }
-        ensures news { OnOk result (UpgradeTold self.old self.new number text.now place) }
+        ensures numbers { KeepsNumbers self.old self.new }
+        ensures news { OnOk result ((told : Kept) × UpgradeTold self.old told number text.now place × Retires self.old told self.new) }
     {
-        send_upgrade(&mut self.outbox, &self.clients, number, text, place)
+        let silent = note_all(self.alloc, &mut self.sets, &self.clients, place)?;
+        send_upgrade(&mut self.outbox, &self.clients, number, text, place)?;
+        self.retire_all(silent)
     }
+}
+
+/// Notes a place of some sessions. The answer are those that have more places than they may then.
+fn note_all<V>(
+    alloc: Global,
+    sets: &mut Sets,
+    sessions: &BTreeMap<u32, V>,
+    place: u64,
+) -> Result<Vec<u32>, NoMemory>
+    ensures { IfOk result (λ silent. AreNoted sets.old sets.new (keys_of sessions.now.entries) place silent.items) }
+{
+    let mut silent = Vec::new(alloc);
+    for session in sessions.keys() {
+        if sets.note(*session, place)? {
+            silent.push(*session)?;
+        }
+    }
+    Ok(silent)
 }
 
 /// Sends sessions the names of what was written.

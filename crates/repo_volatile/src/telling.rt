@@ -5,7 +5,7 @@ ghost use Rattle.thor_value.specs.FiniteMap.{has};
 ghost use Rattle.validation_queue.specs.Contents.{cleared, decide, with_one};
 ghost use Rattle.repo_volatile.specs.Telling.{CommitTold};
 ghost use Rattle.repo_volatile.specs.Volatile.{is_upgrade_kind, transaction_of};
-ghost use Rattle.repo_sessions.specs.Sessions.{IsTold};
+ghost use Rattle.repo_sessions.specs.Sessions.{KeepsNumbers};
 
 use crate::memory::{Memory, is_upgrade};
 use log_entries::{Kind, Request};
@@ -16,10 +16,10 @@ use validation_queue::is_in_order;
 const ROOM: usize = 1_024;
 
 impl Memory {
-    /// Tells sessions of the commit of a request at a place. An upgrade, which gets this number, is a fence for
-    /// all transactions.
+    /// Tells sessions of the commit of a request at a place, and gives those up whose clients leave too much
+    /// unacknowledged. An upgrade, which gets this number, is a fence for all transactions.
     pub fn tell(&mut self, request: &Request, number: u32, place: u64) -> Result<(), NoMemory>
-        ensures told { IsTold self.old.sessions self.new.sessions }
+        ensures numbers { KeepsNumbers self.old.sessions self.new.sessions }
         ensures queue { self.new.queue ≡ cond (is_upgrade_kind request.now.kind) (cleared request.now.tx) self.old.queue }
         ensures requested { self.new.requested ≡ self.old.requested }
         ensures drawn { self.new.drawn ≡ self.old.drawn }

@@ -15,6 +15,7 @@ pub mod Drawn
 pub mod Paged
 pub mod Outlived
 pub mod Fences
+pub mod Ending
 pub mod EpochsTold
 pub mod Thresholds
 pub mod Above

@@ -2,9 +2,10 @@
 use Rattle.log_entries.specs.declared.request.Request.{Request}
 use Rattle.spec_history.proofs.Growth.{length-state}
 use Rattle.spec_history.specs.History.{Base, State, commit_of, epoch_of, put, start, state}
+use Rattle.spec_trace.specs.Exact.{IsEndedIn, IsGoneIn}
 use Rattle.spec_trace.specs.Messages.{InOrder, KeepsOrder, WaitsByPlace}
 use Rattle.spec_history.specs.Requests.{is_upgrade, written}
-use Rattle.spec_trace.specs.Session.{Grant, Invalid, Notice, Page, Session, Upgrade, begun, bound, invalid_of, is_silent, meet, move, moved, notice, or_retired, pass, place_of, push, rested, retired, session, session_from, session_lives, told, told_of, upto_of}
+use Rattle.spec_trace.specs.Session.{Ended, Grant, Invalid, Live, Notice, Page, Retired, Session, Stage, Upgrade, begun, bound, invalid_of, is_ended, is_live, is_silent, meet, move, moved, notice, or_retired, pass, place_of, push, rested, retired, session, session_ended, session_from, session_lives, told, told_of, upto_of}
 use Rattle.spec_trace.specs.Trace.{E, Item, M, entries}
 use Rattle.spec_trace.specs.declared.mark.Mark.TheVariants as the
 use Rattle.std.proofs.Common.{Bool, List, [], ap, arith, cond, inl, inr, rules, false, length, refl, subst, suc, take, true, zero, ℕ, ◌+◌, ◌++◌, ◌<◌, ◌≡◌, ◌≤◌, ◌∙◌, ◌∷◌}
@@ -228,3 +229,15 @@ all-wait (Some v) n h = waits-by-place v h.rise
 
 pub wait-by-place : (b : Base) (T : List Item) (s : ℕ) → IfSome (session b T s) (λ v. WaitsByPlace v)
 wait-by-place b T s = all-wait (session b T s) (length (entries T)) (keeps-order b T s)
+
+-- ---- the end of a session
+
+-- one that has ended isn't live
+pub ended_is_gone : (o : Option Session) → IsEndedIn o → IsGoneIn o
+ended_is_gone None h = tt
+ended_is_gone (Some v) h = by v.stage h
+  where
+    by : (t : Stage) → is_ended t ≡ true → is_live t ≡ false
+    by Live e = cc
+    by Retired e = refl
+    by Ended e = refl

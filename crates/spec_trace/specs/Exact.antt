@@ -35,6 +35,11 @@ abbrev pub IsGoneIn : Option Session → Type 0
 IsGoneIn None = Unit {0}
 IsGoneIn (Some v) = session_lives v ≡ false
 
+-- there is no session s that hasn't ended
+abbrev pub IsEndedIn : Option Session → Type 0
+IsEndedIn None = Unit {0}
+IsEndedIn (Some v) = session_ended v ≡ true
+
 -- the message that waits first for a session stands at this place
 abbrev pub WaitsAt : ℕ → Session → Type 0
 WaitsAt place v = IsSomeAnd (slice_get v.sent v.taken) (λ m. place_of m ≡ place)

@@ -3,7 +3,7 @@ use Rattle.log_entries.specs.declared.entry.Entry.TheVariants.{Life}
 use Rattle.spec_trace.specs.Calls.{Settled, Undecided, asked, is_kept, last_session, next_page}
 use Rattle.spec_history.specs.History.{Base, IsCommitted, Known, is_undecided, known_by, state}
 use Rattle.spec_history.specs.Requests.{has_written}
-use Rattle.spec_trace.specs.Session.{Session, session, session_lives}
+use Rattle.spec_trace.specs.Session.{Session, session, session_lives, unanswered}
 use Rattle.spec_trace.specs.Trace.{Item, M, entries}
 use Rattle.spec_trace.specs.declared.mark.Mark.TheVariants as the
 use Rattle.std.specs.List.{list_any, slice_get}
@@ -41,3 +41,10 @@ pub record PagesAreGranted (b : Base) (T : List Item) : Type 0 where
   pub objects : (x : Oref) (o : Obj) → get (state b (entries T)).objects x ≡ Some o → x.page < next_page b T
   -- also those of what an undecided transaction wrote
   pub written : (t : Ts) (o : Known) (x : Oref) → known_by b (entries T) t ≡ Some o → has_written o.request x ≡ true → x.page < next_page b T
+
+-- Why a session isn't live: a Life came since it began, its client has connected anew, or its client has left more news
+-- unacknowledged than the base allows.
+pub data IsGoneBy (b : Base) (T : List Item) (s : ℕ) (v : Session) : Type 0 where
+  ByLife : (m n : ℕ) → slice_get (entries T) m ≡ Some (Life n) → v.began ≤ m → IsGoneBy b T s v
+  ByNewer : (m n : ℕ) → slice_get T m ≡ Some (M (the.Connected n v.client)) → s < n → IsGoneBy b T s v
+  BySilence : (n : ℕ) → b.silence ≡ Some n → n < unanswered v → IsGoneBy b T s v

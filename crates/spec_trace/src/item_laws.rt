@@ -9,7 +9,8 @@ ghost use Rattle.spec_history.specs.Requests.{is_upgrade};
 ghost use Rattle.spec_history.specs.Sound.{Vouches, sound};
 ghost use Rattle.spec_trace.specs.Calls.{last_session, next_page, was_granted};
 ghost use Rattle.spec_trace.specs.Exact.{ComesFromSession, ItemIsExact, exact};
-ghost use Rattle.spec_trace.specs.Sessions.{AnswersAgree, PagesAreGranted, SessionsAreNumbered};
+ghost use Rattle.spec_trace.specs.Session.{Session, session, session_lives};
+ghost use Rattle.spec_trace.specs.Sessions.{AnswersAgree, IsGoneBy, PagesAreGranted, SessionsAreNumbered};
 ghost use Rattle.spec_trace.specs.Trace.{E, Item, M, entries};
 ghost use Rattle.spec_trace.specs.declared.mark.Mark.TheVariants as the;
 ghost use Rattle.std.specs.List.{slice_get};
@@ -27,6 +28,13 @@ pub fn exact_traces_grow()
 /// A session has one number and one client, and one that is live has seen no Life.
 pub fn sessions_are_numbered()
     ensures { (b : Base) (T : List Item) → exact b T → SessionsAreNumbered b T }
+{}
+
+/// A session that isn't live has ended by a Life or by a newer session of its client, or its client has left more news
+/// unacknowledged than the base allows.
+pub fn sessions_end_for_a_cause()
+    ensures { (b : Base) (T : List Item) (s : ℕ) (v : Session) → exact b T → session b T s ≡ Some v →
+        session_lives v ≡ false → IsGoneBy b T s v }
 {}
 
 /// The numbers that are given next don't fall, and a granted page is below the next one.

@@ -24,7 +24,7 @@ pub use gap_laws::copies_outlive_others;
 pub use item_examples::{call_examples, exact_examples, growth_examples, inexact_examples};
 pub use item_laws::{
     accepted_requests_continue, answers_agree, exact_traces_grow, next_numbers_rise,
-    pages_are_granted, sessions_are_numbered, stamps_are_drawn_once,
+    pages_are_granted, sessions_are_numbered, sessions_end_for_a_cause, stamps_are_drawn_once,
 };
 pub use kept_item::KeptItem;
 pub use mark::Mark;

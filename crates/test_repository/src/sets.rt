@@ -138,3 +138,25 @@ fn held(alloc: Global) -> Result<usize, NoMemory> {
 fn a_write_is_seen_by_the_others_that_have_the_page(rt: HostRuntime) {
     assert!(rt; held(rt.alloc()) == Ok(STEPS.len()));
 }
+
+/// The place at which a session is told that it has too many, where it is told at each from 1 on and its client has
+/// acknowledged those below `upto` once 4,096 are noted; 0 where it never is.
+fn silent_at(alloc: Global, upto: u64) -> Result<u64, NoMemory> {
+    let mut sets = Sets::new(alloc)?;
+    for place in 1..10_000u64 {
+        if sets.note(1, place)? {
+            return Ok(place);
+        }
+        if place == 4_096 {
+            sets.acknowledge(1, upto);
+        }
+    }
+    Ok(0)
+}
+
+#[test]
+fn a_session_may_leave_4096_places_unacknowledged(rt: HostRuntime) {
+    assert!(rt; silent_at(rt.alloc(), 0) == Ok(4_097));
+    assert!(rt; silent_at(rt.alloc(), 2) == Ok(4_098));
+    assert!(rt; silent_at(rt.alloc(), 4_097) == Ok(8_193));
+}

@@ -10,8 +10,8 @@ use Rattle.thor_value.specs.declared.values.Obj.{Obj}
 
 pub returns-then-is_err-clause-err : goal.returns-then-is_err-clause-err
 returns-then-is_err-clause-err g c =
-    let kept : Invalids → Sets = λ N. record { cached = c.self.inside.pages; invalid = N } in
-    rw (← c.self.view_is, c.loop-write.invariant.pages) (ap kept (c.undo.ensures.rest ∙ c.mark_holders-touched.ensures.undone c.self.inside.invalid c.loop-write.invariant.undone))
+    let kept : Invalids → Sets = λ N. record { cached = c.self.inside.pages; invalid = N; noted = c.self.inside.noted } in
+    rw (← c.self.view_is, c.loop-write.invariant.pages, c.loop-write.invariant.noted) (ap kept (c.undo.ensures.rest ∙ c.mark_holders-touched.ensures.undone c.self.inside.invalid c.loop-write.invariant.undone))
 
 pub loop-write-preserved : goal.loop-write-preserved
 loop-write-preserved g c =
@@ -26,6 +26,7 @@ loop-write-preserved g c =
     ∙ ap (λ (y : Oref × Obj). c.tick.new.self + length (lefts P y.0.page)) c.write-item.is in
     let steps = steps_from P ws i c.write-item.result c.loop-write-test.true in
     record {
+      noted = c.loop-write.invariant.noted;
       pages = c.loop-write.invariant.pages;
       left =
           ap (λ (M : Invalids). marked M (touches P c.args.writer (keys_of (drop (i + 1) ws))) c.args.place)

@@ -7,6 +7,7 @@ use Rattle.std.specs.Map.{keys_of}
 
 abbrev pub invariant-loop-write : goal.invariant-loop-write
 invariant-loop-write g l = record {
+  noted : l.self-inside.noted ≡ l.initial.self-inside.noted;
   pages : l.self-inside.pages ≡ l.initial.self-inside.pages;
   -- the writes that are left lead to the same
   left : marked l.self-inside.invalid (touches l.initial.self-inside.pages l.writer (keys_of (drop l.write-index l.write-items))) l.place
