@@ -6,3 +6,4 @@ pub mod Reaching
 pub mod Drops
 pub mod Falling
 pub mod Typed
+pub mod Nested
