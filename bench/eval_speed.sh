@@ -7,12 +7,13 @@
 set -eu
 source "$(dirname "$0")/measuring.sh"
 command -v valgrind > /dev/null || { echo "there is no valgrind" >&2; exit 1; }
-begin eval_speed $( (below paused_eval; below method_parse) | awk '!seen[$0]++')
+begin eval_speed $( (below paused_eval; below lang_bounded_eval; below method_parse) | awk '!seen[$0]++')
 cat > "$work/crates/eval_speed/src/main.rt" <<'RT'
 #![tactic(auto)]
 
 use class_defs::{Block, Declarations, RootDeclaration, RootDeclarations, Schema};
-use method_eval::{Names, Ran, View, eval};
+use lang_bounded_eval::eval;
+use method_eval::{Names, Ran, View};
 use method_parse::{parse_block, parse_setup};
 use object_codec::put_obj;
 use page_format::Page;

@@ -9,3 +9,4 @@ pub mod Typed
 pub mod Leaving
 pub mod Supplying
 pub mod Distinct
+pub mod Nested

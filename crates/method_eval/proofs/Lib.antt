@@ -1,4 +1,3 @@
-pub mod Depth
 pub mod Given
 pub mod Holding
 pub mod Marking

@@ -1,6 +1,5 @@
 pub mod Answers
 pub mod Does
-pub mod Inner
 pub mod Marks
 pub mod Names
 pub mod Viewed

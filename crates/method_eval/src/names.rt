@@ -225,7 +225,7 @@ impl Names {
     }
 
     /// The names that an evaluation has at hand.
-    pub(crate) fn supply(&self, alloc: Global) -> Result<NameSupply, NoMemory>
+    pub fn supply(&self, alloc: Global) -> Result<NameSupply, NoMemory>
         ensures { IfOk result (λ supply. supply ≡ spec.supply self.now) }
     {
         Ok(NameSupply {

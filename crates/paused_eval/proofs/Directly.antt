@@ -115,43 +115,66 @@ left_later (Err NoMemory) d p n h e = tt
 pub same_world : (s : Schema) (c d : Contents) → Keeps c d → on s d ≡ on s c
 same_world s c d h = ap (over s) (same_hands s c d h)
 
-pub value-none : (w : World) (n : ℕ) (e : Expr) (m : Machine) → n ≡ 0 → (directly w n).value_of e m ≡ (Err (Later (doing.Evaluate n e) []), m)
+-- where there is no room, at depth 0, and at a depth above it; where no step is left
+pub value-full : (w : World) (r n : ℕ) (e : Expr) (m : Machine) → r ≡ 0 → (directly w r n).value_of e m ≡ (Err (Later (doing.Evaluate n e) []), m)
 unfolding directly
-value-none w zero e m h = refl
-value-none w (suc n) e m h = absurd (omega (arith, h))
+value-full w zero n e m h = refl
+value-full w (suc r) n e m h = absurd (omega (arith, h))
 
-pub value-over : (w : World) (n : ℕ) (e : Expr) (m : Machine) → 100000 ≤ m.steps → (directly w n).value_of e m ≡ (Err (Later (doing.Evaluate n e) []), m)
-unfolding directly value_at
-value-over w zero e m h = refl
-value-over w (suc n) e m h = let t : nat_lt m.steps STEP_LIMIT ≡ false = grind (arith, nat_tests) in
-    ap (λ (b : Bool). cond b (node w n (directly w n) (out-Expr e) (stepped m)) (Err (Later (doing.Evaluate (suc n) e) []), m)) t
-
-value-below : (w : World) (n : ℕ) (e : Expr) (m : Machine) → m.steps < 100000 → (directly w (suc n)).value_of e m ≡ node w n (directly w n) (out-Expr e) (stepped m)
-unfolding directly value_at
-value-below w n e m h = let t : nat_lt m.steps STEP_LIMIT ≡ true = grind (arith, nat_tests) in
-    ap (λ (b : Bool). cond b (node w n (directly w n) (out-Expr e) (stepped m)) (Err (Later (doing.Evaluate (suc n) e) []), m)) t
-
-pub value-deeper : (w : World) (n : ℕ) (e : Expr) (m : Machine) → 0 < n → m.steps < 100000 → (directly w n).value_of e m ≡ node w (n - 1) (directly w (n - 1)) (out-Expr e) (stepped m)
-value-deeper w n e m some h = let i : n ≡ suc (n - 1) = omega (arith, some) in ap (λ (k : ℕ). (directly w k).value_of e m) i ∙ value-below w (n - 1) e m h
-
-pub execute-none : (w : World) (n : ℕ) (s : Stmt) (m : Machine) → n ≡ 0 → (directly w n).execute s m ≡ (Err (Later (doing.Execute n s) []), m)
+pub value-none : (w : World) (r n : ℕ) (e : Expr) (m : Machine) → n ≡ 0 → (directly w r n).value_of e m ≡ (Err (Later (doing.Evaluate n e) []), m)
 unfolding directly
-execute-none w zero s m h = refl
-execute-none w (suc n) s m h = absurd (omega (arith, h))
+value-none w zero n e m h = refl
+value-none w (suc r) zero e m h = refl
+value-none w (suc r) (suc n) e m h = absurd (omega (arith, h))
 
-pub execute-over : (w : World) (n : ℕ) (s : Stmt) (m : Machine) → 100000 ≤ m.steps → (directly w n).execute s m ≡ (Err (Later (doing.Execute n s) []), m)
+pub value-over : (w : World) (r n : ℕ) (e : Expr) (m : Machine) → 100000 ≤ m.steps → (directly w r n).value_of e m ≡ (Err (Later (doing.Evaluate n e) []), m)
+unfolding directly value_at
+value-over w zero n e m h = refl
+value-over w (suc r) zero e m h = refl
+value-over w (suc r) (suc n) e m h = let t : nat_lt m.steps STEP_LIMIT ≡ false = grind (arith, nat_tests) in
+    ap (λ (b : Bool). cond b (node w n (directly w r n) (out-Expr e) (stepped m)) (Err (Later (doing.Evaluate (suc n) e) []), m)) t
+
+value-below : (w : World) (r n : ℕ) (e : Expr) (m : Machine) → m.steps < 100000 → (directly w (suc r) (suc n)).value_of e m ≡ node w n (directly w r n) (out-Expr e) (stepped m)
+unfolding directly value_at
+value-below w r n e m h = let t : nat_lt m.steps STEP_LIMIT ≡ true = grind (arith, nat_tests) in
+    ap (λ (b : Bool). cond b (node w n (directly w r n) (out-Expr e) (stepped m)) (Err (Later (doing.Evaluate (suc n) e) []), m)) t
+
+pub value-deeper : (w : World) (r n : ℕ) (e : Expr) (m : Machine) → 0 < r → 0 < n → m.steps < 100000
+    → (directly w r n).value_of e m ≡ node w (n - 1) (directly w (r - 1) (n - 1)) (out-Expr e) (stepped m)
+value-deeper w r n e m more some h =
+    let i : r ≡ suc (r - 1) = omega (arith, more) in
+    let j : n ≡ suc (n - 1) = omega (arith, some) in
+    ap (λ (k : ℕ). (directly w k n).value_of e m) i ∙ ap (λ (k : ℕ). (directly w (suc (r - 1)) k).value_of e m) j ∙ value-below w (r - 1) (n - 1) e m h
+
+pub execute-full : (w : World) (r n : ℕ) (s : Stmt) (m : Machine) → r ≡ 0 → (directly w r n).execute s m ≡ (Err (Later (doing.Execute n s) []), m)
+unfolding directly
+execute-full w zero n s m h = refl
+execute-full w (suc r) n s m h = absurd (omega (arith, h))
+
+pub execute-none : (w : World) (r n : ℕ) (s : Stmt) (m : Machine) → n ≡ 0 → (directly w r n).execute s m ≡ (Err (Later (doing.Execute n s) []), m)
+unfolding directly
+execute-none w zero n s m h = refl
+execute-none w (suc r) zero s m h = refl
+execute-none w (suc r) (suc n) s m h = absurd (omega (arith, h))
+
+pub execute-over : (w : World) (r n : ℕ) (s : Stmt) (m : Machine) → 100000 ≤ m.steps → (directly w r n).execute s m ≡ (Err (Later (doing.Execute n s) []), m)
 unfolding directly statement_at
-execute-over w zero s m h = refl
-execute-over w (suc n) s m h = let t : nat_lt m.steps STEP_LIMIT ≡ false = grind (arith, nat_tests) in
-    ap (λ (b : Bool). cond b (statement w n (directly w n) (out-Stmt s) (stepped m)) (Err (Later (doing.Execute (suc n) s) []), m)) t
+execute-over w zero n s m h = refl
+execute-over w (suc r) zero s m h = refl
+execute-over w (suc r) (suc n) s m h = let t : nat_lt m.steps STEP_LIMIT ≡ false = grind (arith, nat_tests) in
+    ap (λ (b : Bool). cond b (statement w n (directly w r n) (out-Stmt s) (stepped m)) (Err (Later (doing.Execute (suc n) s) []), m)) t
 
-execute-below : (w : World) (n : ℕ) (s : Stmt) (m : Machine) → m.steps < 100000 → (directly w (suc n)).execute s m ≡ statement w n (directly w n) (out-Stmt s) (stepped m)
+execute-below : (w : World) (r n : ℕ) (s : Stmt) (m : Machine) → m.steps < 100000 → (directly w (suc r) (suc n)).execute s m ≡ statement w n (directly w r n) (out-Stmt s) (stepped m)
 unfolding directly statement_at
-execute-below w n s m h = let t : nat_lt m.steps STEP_LIMIT ≡ true = grind (arith, nat_tests) in
-    ap (λ (b : Bool). cond b (statement w n (directly w n) (out-Stmt s) (stepped m)) (Err (Later (doing.Execute (suc n) s) []), m)) t
+execute-below w r n s m h = let t : nat_lt m.steps STEP_LIMIT ≡ true = grind (arith, nat_tests) in
+    ap (λ (b : Bool). cond b (statement w n (directly w r n) (out-Stmt s) (stepped m)) (Err (Later (doing.Execute (suc n) s) []), m)) t
 
-pub execute-deeper : (w : World) (n : ℕ) (s : Stmt) (m : Machine) → 0 < n → m.steps < 100000 → (directly w n).execute s m ≡ statement w (n - 1) (directly w (n - 1)) (out-Stmt s) (stepped m)
-execute-deeper w n s m some h = let i : n ≡ suc (n - 1) = omega (arith, some) in ap (λ (k : ℕ). (directly w k).execute s m) i ∙ execute-below w (n - 1) s m h
+pub execute-deeper : (w : World) (r n : ℕ) (s : Stmt) (m : Machine) → 0 < r → 0 < n → m.steps < 100000
+    → (directly w r n).execute s m ≡ statement w (n - 1) (directly w (r - 1) (n - 1)) (out-Stmt s) (stepped m)
+execute-deeper w r n s m more some h =
+    let i : r ≡ suc (r - 1) = omega (arith, more) in
+    let j : n ≡ suc (n - 1) = omega (arith, some) in
+    ap (λ (k : ℕ). (directly w k n).execute s m) i ∙ ap (λ (k : ℕ). (directly w (suc (r - 1)) k).execute s m) j ∙ execute-below w (r - 1) (n - 1) s m h
 
 -- ---- loops, for the code
 
@@ -233,7 +256,7 @@ module _ (w : World) (n : ℕ) (d : Directly) (c : Expr) (b : List Stmt) where
   pub next_turn : (t : ℕ) (v x : Value) (m o p : Machine) → holds v ≡ true → body t m ≡ (Ok Next, o) → tests w n d t c b o ≡ (Ok x, p) → turn w n d t c b v m ≡ turn w n d (t - 1) c b x p
   next_turn t v x m o p h e f = body_ends t v m o h e ∙ tested_again t x o p f
 
-pub ruleset at_depth = (value-none, value-over, value-deeper, execute-none, execute-over, execute-deeper)
+pub ruleset at_depth = (value-full, value-none, value-over, value-deeper, execute-full, execute-none, execute-over, execute-deeper)
 
 -- ---- by small steps
 
@@ -453,14 +476,15 @@ module _ (w : World) (Q : Left → Machine → Type 0) (Z : Fault → Machine �
     unfolding statement_at
     statement_comes s fs m q = statement_by (nat_lt m.steps STEP_LIMIT) s fs m refl q
 
-  pub record Both (n : ℕ) : Type 0 where
-    pub values : Values n (directly w n)
-    pub statements : Statements n (directly w n)
+  pub record Both (r n : ℕ) : Type 0 where
+    pub values : Values n (directly w r n)
+    pub statements : Statements n (directly w r n)
 
-  pub both : (n : ℕ) → Both n
+  pub both : (r n : ℕ) → Both r n
   unfolding directly
-  both zero = record { values = λ e fs m q. q; statements = λ s fs m q. q }
-  both (suc n) = let inner = both n in record { values = value_comes n (directly w n) inner.values inner.statements; statements = statement_comes n (directly w n) inner.values inner.statements }
+  both zero n = record { values = λ e fs m q. q; statements = λ s fs m q. q }
+  both (suc r) zero = record { values = λ e fs m q. q; statements = λ s fs m q. q }
+  both (suc r) (suc n) = let inner = both r n in record { values = value_comes n (directly w r n) inner.values inner.statements; statements = statement_comes n (directly w r n) inner.values inner.statements }
 
 -- ---- runs
 
@@ -514,14 +538,14 @@ module _ (s : Schema) (f : Oref → Option Object) (tx : List Stmt) (names : Lis
   resumes (Err NoMemory) o fs gs (Err halt.NoMemory) h is = tt
 
   -- an expression was evaluated so
-  pub value_goes : (n : ℕ) (e : Expr) (fs gs : List Frame) (m o : Machine) (r : Result Value Unwound) (d : Result Doing Halt) → Directs r o ((directly (over s f) n).value_of e m)
+  pub value_goes : (room n : ℕ) (e : Expr) (fs gs : List Frame) (m o : Machine) (r : Result Value Unwound) (d : Result Doing Halt) → Directs r o ((directly (over s f) room n).value_of e m)
       → Resumes (returned r) fs d gs → Runs s f tx names count (left (doing.Evaluate n e) fs) (named ns m) → Went s f tx names count d gs (named ns o)
-  value_goes n e fs gs m o r d is next q =
+  value_goes room n e fs gs m o r d is next q =
       resumes (returned r) o fs gs d
-      (as_flow r o fs (by_code Returned r o ((directly (over s f) n).value_of e m) fs is ((both (over s f) here failed runs_follow runs_fail n).values e fs m q))) next
+      (as_flow r o fs (by_code Returned r o ((directly (over s f) room n).value_of e m) fs is ((both (over s f) here failed runs_follow runs_fail room n).values e fs m q))) next
 
   -- a statement was executed so
-  pub statement_goes : (n : ℕ) (x : Stmt) (fs gs : List Frame) (m o : Machine) (r : Result Flow Unwound) (d : Result Doing Halt) → Directs r o ((directly (over s f) n).execute x m)
+  pub statement_goes : (room n : ℕ) (x : Stmt) (fs gs : List Frame) (m o : Machine) (r : Result Flow Unwound) (d : Result Doing Halt) → Directs r o ((directly (over s f) room n).execute x m)
       → Resumes r fs d gs → Runs s f tx names count (left (doing.Execute n x) fs) (named ns m) → Went s f tx names count d gs (named ns o)
-  statement_goes n x fs gs m o r d is next q =
-      resumes r o fs gs d (by_code (λ (g : Flow). g) r o ((directly (over s f) n).execute x m) fs is ((both (over s f) here failed runs_follow runs_fail n).statements x fs m q)) next
+  statement_goes room n x fs gs m o r d is next q =
+      resumes r o fs gs d (by_code (λ (g : Flow). g) r o ((directly (over s f) room n).execute x m) fs is ((both (over s f) here failed runs_follow runs_fail room n).statements x fs m q)) next

@@ -9,7 +9,6 @@ pub mod Later
 pub mod Lifting
 pub mod Methods
 mod Names
-pub mod Nested
 pub mod Nodes
 pub mod Standing
 pub mod Unwinding

@@ -60,59 +60,59 @@ then_does : {A B : Type 0} (s : Schema) (c d : Contents) (p : Outcome A) (a : A)
 then_does {A} s c d p a m n r f k h e i =
     subst (λ (q : Outcome A). Directs r n (goes_on_after q.0 q.1 f (k (on s c)))) (sym e) (subst (λ (w : World). Directs r n (k w a m)) (same_world s c d h) i)
 
-pub called_does : (s : Schema) (c d : Contents) (n : ℕ) (receiver : Expr) (name : List ℕ) (es rest : List Expr) (t : ExprType) (v : Value) (none : List Value) (m o p : Machine) (r : Result Value Unwound)
-    → Keeps c d → t ≡ type_of (scope_at s m) receiver → none ≡ [] → rest ≡ es → (directly (on s c) n).value_of receiver m ≡ (Ok v, o)
-    → Directs r p (collect (on s d) n (directly (on s d) n) t v name none rest o) → Directs r p (called (on s c) n (directly (on s c) n) receiver name es m)
-called_does s c d n receiver name es rest t v none m o p r h at empty all is i =
+pub called_does : (s : Schema) (c d : Contents) (room n : ℕ) (receiver : Expr) (name : List ℕ) (es rest : List Expr) (t : ExprType) (v : Value) (none : List Value) (m o p : Machine) (r : Result Value Unwound)
+    → Keeps c d → t ≡ type_of (scope_at s m) receiver → none ≡ [] → rest ≡ es → (directly (on s c) room n).value_of receiver m ≡ (Ok v, o)
+    → Directs r p (collect (on s d) n (directly (on s d) room n) t v name none rest o) → Directs r p (called (on s c) n (directly (on s c) room n) receiver name es m)
+called_does s c d room n receiver name es rest t v none m o p r h at empty all is i =
     let k : ExprType = type_of (scope_at s m) receiver in
-    then_does s c d ((directly (on s c) n).value_of receiver m) v o p r (frame.Callee n k name es) (λ w x. collect w n (directly w n) k x name [] es) h is
-    (subst (λ (x : ExprType). Directs r p (collect (on s d) n (directly (on s d) n) x v name [] es o)) at
-    (subst (λ (vs : List Value). Directs r p (collect (on s d) n (directly (on s d) n) t v name vs es o)) empty
-    (subst (λ (xs : List Expr). Directs r p (collect (on s d) n (directly (on s d) n) t v name none xs o)) all i)))
+    then_does s c d ((directly (on s c) room n).value_of receiver m) v o p r (frame.Callee n k name es) (λ w x. collect w n (directly w room n) k x name [] es) h is
+    (subst (λ (x : ExprType). Directs r p (collect (on s d) n (directly (on s d) room n) x v name [] es o)) at
+    (subst (λ (vs : List Value). Directs r p (collect (on s d) n (directly (on s d) room n) t v name vs es o)) empty
+    (subst (λ (xs : List Expr). Directs r p (collect (on s d) n (directly (on s d) room n) t v name none xs o)) all i)))
 
-pub called_left : (w : World) (n : ℕ) (receiver : Expr) (name same : List ℕ) (es rest : List Expr) (t : ExprType) (u v : Unwound) (m o : Machine)
-    → t ≡ type_of (scope_at w.schema m) receiver → same ≡ name → rest ≡ es → Directs {A = Value} (Err u) o ((directly w n).value_of receiver m)
-    → Waits (frame.Callee n t same rest) u v → Directs {A = Value} (Err v) o (called w n (directly w n) receiver name es m)
-called_left w n receiver name same es rest t u v m o at is all h i =
+pub called_left : (w : World) (room n : ℕ) (receiver : Expr) (name same : List ℕ) (es rest : List Expr) (t : ExprType) (u v : Unwound) (m o : Machine)
+    → t ≡ type_of (scope_at w.schema m) receiver → same ≡ name → rest ≡ es → Directs {A = Value} (Err u) o ((directly w room n).value_of receiver m)
+    → Waits (frame.Callee n t same rest) u v → Directs {A = Value} (Err v) o (called w n (directly w room n) receiver name es m)
+called_left w room n receiver name same es rest t u v m o at is all h i =
     let k : ExprType = type_of (scope_at w.schema m) receiver in
     let f : frame.Callee n t same rest ≡ frame.Callee n k name es = cc in
-    left_waiting ((directly w n).value_of receiver m) u v (frame.Callee n k name es) (λ x. collect w n (directly w n) k x name [] es) o h (subst (λ (g : Frame). Waits g u v) f i)
+    left_waiting ((directly w room n).value_of receiver m) u v (frame.Callee n k name es) (λ x. collect w n (directly w room n) k x name [] es) o h (subst (λ (g : Frame). Waits g u v) f i)
 
-pub collect_left : (s : Schema) (c d : Contents) (n : ℕ) (t : ExprType) (r : Value) (name same : List ℕ) (vs : List Value) (xs : List Expr) (e : Expr) (es : List Expr) (u v : Unwound) (m o : Machine) (q : Outcome Value)
-    → Keeps c d → q ≡ collect (on s c) n (directly (on s c) n) t r name vs xs m → xs ≡ e ∷ es → same ≡ name → Directs {A = Value} (Err u) o ((directly (on s d) n).value_of e m)
+pub collect_left : (s : Schema) (c d : Contents) (room n : ℕ) (t : ExprType) (r : Value) (name same : List ℕ) (vs : List Value) (xs : List Expr) (e : Expr) (es : List Expr) (u v : Unwound) (m o : Machine) (q : Outcome Value)
+    → Keeps c d → q ≡ collect (on s c) n (directly (on s c) room n) t r name vs xs m → xs ≡ e ∷ es → same ≡ name → Directs {A = Value} (Err u) o ((directly (on s d) room n).value_of e m)
     → Waits (frame.Arguments n t r same vs es) u v → Directs {A = Value} (Err v) o q
-collect_left s c d n t r name same vs xs e es u v m o q h from first is does i =
+collect_left s c d room n t r name same vs xs e es u v m o q h from first is does i =
     let w : World = on s c in
-    let p : Outcome Value = (directly w n).value_of e m in
-    let there : Directs {A = Value} (Err u) o p = subst (λ (k : Outcome Value). Directs {A = Value} (Err u) o k) (other_world s c d (λ (k : World). (directly k n).value_of e m) h) does in
+    let p : Outcome Value = (directly w room n).value_of e m in
+    let there : Directs {A = Value} (Err u) o p = subst (λ (k : Outcome Value). Directs {A = Value} (Err u) o k) (other_world s c d (λ (k : World). (directly k room n).value_of e m) h) does in
     let waits : Waits (frame.Arguments n t r name vs es) u v = subst (λ (k : List ℕ). Waits (frame.Arguments n t r k vs es) u v) is i in
-    directs_is (Err v) o (collect w n (directly w n) t r name vs (e ∷ es) m) q (from ∙ ap (λ (k : List Expr). collect w n (directly w n) t r name vs k m) first)
-    (left_waiting p u v (frame.Arguments n t r name vs es) (λ x. collect w n (directly w n) t r name (vs ++ x ∷ []) es) o there waits)
+    directs_is (Err v) o (collect w n (directly w room n) t r name vs (e ∷ es) m) q (from ∙ ap (λ (k : List Expr). collect w n (directly w room n) t r name vs k m) first)
+    (left_waiting p u v (frame.Arguments n t r name vs es) (λ x. collect w n (directly w room n) t r name (vs ++ x ∷ []) es) o there waits)
 
-pub statement_does : (s : Schema) (c d : Contents) (n : ℕ) (x : Stmt-F Stmt) (e : Expr) (v : Value) (m o p : Machine) (r : Result Flow Unwound) → Keeps c d → e ≡ first_part x
-    → (directly (on s c) n).value_of e m ≡ (Ok v, o) → Directs r p (effect (on s d) n (directly (on s d) n) x v o) → Directs r p (statement (on s c) n (directly (on s c) n) x m)
-statement_does s c d n x e v m o p r h first is i =
-    then_does s c d ((directly (on s c) n).value_of (first_part x) m) v o p r (waiting_frame s.classes n x) (λ w y. effect w n (directly w n) x y) h
-    (sym (ap (λ (k : Expr). (directly (on s c) n).value_of k m) first) ∙ is) i
+pub statement_does : (s : Schema) (c d : Contents) (room n : ℕ) (x : Stmt-F Stmt) (e : Expr) (v : Value) (m o p : Machine) (r : Result Flow Unwound) → Keeps c d → e ≡ first_part x
+    → (directly (on s c) room n).value_of e m ≡ (Ok v, o) → Directs r p (effect (on s d) n (directly (on s d) room n) x v o) → Directs r p (statement (on s c) n (directly (on s c) room n) x m)
+statement_does s c d room n x e v m o p r h first is i =
+    then_does s c d ((directly (on s c) room n).value_of (first_part x) m) v o p r (waiting_frame s.classes n x) (λ w y. effect w n (directly w room n) x y) h
+    (sym (ap (λ (k : Expr). (directly (on s c) room n).value_of k m) first) ∙ is) i
 
 -- ---- turns
 
 pub one_less : (t k : ℕ) → t - k - 1 ≡ t - (k + 1)
 one_less t k = omega arith
 
-module _ (s : Schema) (c d e : Contents) (n t : ℕ) (condition : Expr) (b : List Stmt) (v : Value) (m o p : Machine) (q : Outcome Flow) (g : Flow)
-    (kept : Keeps c d) (later : Keeps d e) (on_turn : holds v ≡ true) (from : q ≡ turn (on s c) n (directly (on s c) n) t condition b v m)
-    (done : body (on s d) n (directly (on s d) n) condition b t m ≡ (Ok g, o)) (next : g ≡ Next) where
-  done_here : body (on s c) n (directly (on s c) n) condition b t m ≡ (Ok Next, o)
-  done_here = sym (other_world s c d (λ (w : World). body w n (directly w n) condition b t m) kept) ∙ done ∙ ap (λ (k : Flow). (Ok k, o)) next
+module _ (s : Schema) (c d e : Contents) (room n t : ℕ) (condition : Expr) (b : List Stmt) (v : Value) (m o p : Machine) (q : Outcome Flow) (g : Flow)
+    (kept : Keeps c d) (later : Keeps d e) (on_turn : holds v ≡ true) (from : q ≡ turn (on s c) n (directly (on s c) room n) t condition b v m)
+    (done : body (on s d) n (directly (on s d) room n) condition b t m ≡ (Ok g, o)) (next : g ≡ Next) where
+  done_here : body (on s c) n (directly (on s c) room n) condition b t m ≡ (Ok Next, o)
+  done_here = sym (other_world s c d (λ (w : World). body w n (directly w room n) condition b t m) kept) ∙ done ∙ ap (λ (k : Flow). (Ok k, o)) next
 
-  tests_here : tests (on s e) n (directly (on s e) n) t condition b o ≡ tests (on s c) n (directly (on s c) n) t condition b o
-  tests_here = other_world s c e (λ (w : World). tests w n (directly w n) t condition b o) (λ x. later x ∙ kept x)
+  tests_here : tests (on s e) n (directly (on s e) room n) t condition b o ≡ tests (on s c) n (directly (on s c) room n) t condition b o
+  tests_here = other_world s c e (λ (w : World). tests w n (directly w room n) t condition b o) (λ x. later x ∙ kept x)
 
-  pub turn_left : (u : Unwound) → Directs {A = Value} (Err u) p (tests (on s e) n (directly (on s e) n) t condition b o) → Directs {A = Flow} (Err u) p q
-  turn_left (Later k fs) h = from ∙ test_left (on s c) n (directly (on s c) n) condition b t v m o p (Later k fs) on_turn done_here (sym tests_here ∙ h)
-  turn_left (Faulted k) h = from ∙ test_left (on s c) n (directly (on s c) n) condition b t v m o p (Faulted k) on_turn done_here (sym tests_here ∙ h)
+  pub turn_left : (u : Unwound) → Directs {A = Value} (Err u) p (tests (on s e) n (directly (on s e) room n) t condition b o) → Directs {A = Flow} (Err u) p q
+  turn_left (Later k fs) h = from ∙ test_left (on s c) n (directly (on s c) room n) condition b t v m o p (Later k fs) on_turn done_here (sym tests_here ∙ h)
+  turn_left (Faulted k) h = from ∙ test_left (on s c) n (directly (on s c) room n) condition b t v m o p (Faulted k) on_turn done_here (sym tests_here ∙ h)
   turn_left NoMemory h = tt
 
-  pub turned : (x : Value) → tests (on s e) n (directly (on s e) n) t condition b o ≡ (Ok x, p) → q ≡ turn (on s c) n (directly (on s c) n) (t - 1) condition b x p
-  turned x h = from ∙ next_turn (on s c) n (directly (on s c) n) condition b t v x m o p on_turn done_here (sym tests_here ∙ h)
+  pub turned : (x : Value) → tests (on s e) n (directly (on s e) room n) t condition b o ≡ (Ok x, p) → q ≡ turn (on s c) n (directly (on s c) room n) (t - 1) condition b x p
+  turned x h = from ∙ next_turn (on s c) n (directly (on s c) room n) condition b t v x m o p on_turn done_here (sym tests_here ∙ h)

@@ -280,6 +280,8 @@ module _ (w : World) (n : ℕ) (inner : Directly) where
   unfoldable pub statement_at : Stmt → Direct Flow
   statement_at s = λ m. if nat_lt m.steps STEP_LIMIT then statement (out-Stmt s) (stepped m) else later (doing.Execute (suc n) s) m
 
-unfoldable pub directly : World → ℕ → Directly
-directly w zero = record { value_of = λ e. later (doing.Evaluate 0 e); execute = λ s. later (doing.Execute 0 s) }
-directly w (suc n) = record { value_of = value_at w n (directly w n); execute = statement_at w n (directly w n) }
+-- where there is room for so many nodes inside one another, which may be n deep; without room small steps go on
+unfoldable pub directly : World → ℕ → ℕ → Directly
+directly w zero n = record { value_of = λ e. later (doing.Evaluate n e); execute = λ s. later (doing.Execute n s) }
+directly w (suc r) zero = record { value_of = λ e. later (doing.Evaluate 0 e); execute = λ s. later (doing.Execute 0 s) }
+directly w (suc r) (suc n) = record { value_of = value_at w n (directly w r n); execute = statement_at w n (directly w r n) }

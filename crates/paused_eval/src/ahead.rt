@@ -18,7 +18,7 @@ use crate::direct_statements::execute;
 use crate::unwound::{Frames, Unwound};
 use class_defs::{Flow, Machine, Stop};
 use client_cache::Cache;
-use lang_small_steps::{Doing, Frame, Stack};
+use lang_small_steps::{Doing, Frame, RECURSION_LIMIT, Stack};
 use method_eval::{Halt, Program};
 use std::sync::ledger::Ledger;
 use thor_value::{NoMemory, Value};
@@ -59,7 +59,8 @@ fn resumed(stack: &mut Stack<Frame>, came: Result<Flow, Unwound>) -> Result<Doin
     }
 }
 
-/// What is done next, where an expression or a statement is evaluated by plain recursion as far as that goes.
+/// What is done next, where an expression or a statement is evaluated by plain recursion as far as that goes. It goes no
+/// deeper than `RECURSION_LIMIT` nodes, so the stack of the thread that it takes has a bound, however deep a script is.
 pub fn ahead<L: Ledger>(
     program: &Program<'_>,
     epoch: u32,
@@ -87,6 +88,7 @@ pub fn ahead<L: Ledger>(
                 cache,
                 machine,
                 bodies,
+                RECURSION_LIMIT,
                 nested,
                 expr.shared(),
             );
@@ -100,6 +102,7 @@ pub fn ahead<L: Ledger>(
                 cache,
                 machine,
                 bodies,
+                RECURSION_LIMIT,
                 nested,
                 stmt.shared(),
             );

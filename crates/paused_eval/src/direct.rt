@@ -1,5 +1,6 @@
-//! An evaluation by plain recursion, as far as the objects are at hand. Where it can't go on, each function that is left
-//! puts the frame that waits for its part behind those of the parts inside. Objects are made in small steps.
+//! An evaluation by plain recursion, as far as the objects are at hand and there is room: `room` nodes more may be open inside
+//! one another. Where it can't go on, each function that is left puts the frame that waits for its part behind those of the
+//! parts inside. Objects are made in small steps.
 
 ghost use Rattle.std.specs.Prelude.{◌≡◌, ◌<◌, map, None, IfOk};
 ghost use Rattle.class_defs.specs.Types.{method_of};
@@ -35,7 +36,8 @@ use std::mem;
 use std::sync::ledger::Ledger;
 use thor_value::{Fault, NoMemory, Oref, Text, Value, Values};
 
-/// The value of an expression whose nodes may be `nested` deep.
+/// The value of an expression whose nodes may be `nested` deep. Where there is no `room` for one node more inside those that
+/// are open, small steps go on.
 #[cycle(direct)]
 #[tactic(auto, using(crate::proofs::Directly::at_depth, crate::proofs::Directly::left_later, crate::proofs::Counting::counted_step))]
 pub fn value_of<L: Ledger>(
@@ -44,17 +46,21 @@ pub fn value_of<L: Ledger>(
     cache: &mut Cache,
     machine: &mut Machine,
     bodies: &mut Bodies<'_, L>,
+    room: u32,
     nested: u32,
     expr: &Shared<ExprNode>,
 ) -> Result<Value, Unwound>
     requires tied { Tied cache.old }
     requires known { bodies.old.methods.now ≡ class_methods program.now.schema.now.classes }
-    ensures does { Directs result (state machine.new cache.new) ((directly (on program.now.schema.now cache.old) nested).value_of (plain expr.now) (state machine.old cache.old)) }
+    ensures does { Directs result (state machine.new cache.new) ((directly (on program.now.schema.now cache.old) room nested).value_of (plain expr.now) (state machine.old cache.old)) }
     ensures tied { Lasts result (Tied cache.new) }
     ensures kept { Lasts result (Keeps cache.old cache.new) }
     ensures known { bodies.new.methods.now ≡ class_methods program.now.schema.now.classes }
     ensures work { Lasts result (surplus bodies.new.work machine.new.steps ≡ surplus bodies.old.work machine.old.steps) }
 {
+    if room == 0 {
+        return evaluate_later(program.alloc, nested, expr);
+    }
     if nested == 0 || machine.steps >= STEP_LIMIT {
         return evaluate_later(program.alloc, nested, expr);
     }
@@ -66,6 +72,7 @@ pub fn value_of<L: Ledger>(
         cache,
         machine,
         bodies,
+        room - 1,
         nested - 1,
         expr.get(),
     )
@@ -80,12 +87,13 @@ fn node<L: Ledger>(
     cache: &mut Cache,
     machine: &mut Machine,
     bodies: &mut Bodies<'_, L>,
+    room: u32,
     inner: u32,
     node: &ExprNode,
 ) -> Result<Value, Unwound>
     requires tied { Tied cache.old }
     requires known { bodies.old.methods.now ≡ class_methods program.now.schema.now.classes }
-    ensures does { Directs result (state machine.new cache.new) (spec.node (on program.now.schema.now cache.old) inner (directly (on program.now.schema.now cache.old) inner) (out-Expr (plain node.now)) (state machine.old cache.old)) }
+    ensures does { Directs result (state machine.new cache.new) (spec.node (on program.now.schema.now cache.old) inner (directly (on program.now.schema.now cache.old) room inner) (out-Expr (plain node.now)) (state machine.old cache.old)) }
     ensures tied { Lasts result (Tied cache.new) }
     ensures kept { Lasts result (Keeps cache.old cache.new) }
     ensures known { bodies.new.methods.now ≡ class_methods program.now.schema.now.classes }
@@ -111,10 +119,10 @@ fn node<L: Ledger>(
         )),
         ExprNode::New { class, line: _, at } => create_later(program.alloc, class, *at),
         ExprNode::Parens { inner: inside, .. } => {
-            value_of(program, epoch, cache, machine, bodies, inner, inside)
+            value_of(program, epoch, cache, machine, bodies, room, inner, inside)
         }
         ExprNode::Negate { operand, .. } => {
-            negate(program, epoch, cache, machine, bodies, inner, operand)
+            negate(program, epoch, cache, machine, bodies, room, inner, operand)
         }
         ExprNode::Binary {
             operator,
@@ -122,7 +130,7 @@ fn node<L: Ledger>(
             right,
             ..
         } => binary(
-            program, epoch, cache, machine, bodies, inner, *operator, left, right,
+            program, epoch, cache, machine, bodies, room, inner, *operator, left, right,
         ),
         ExprNode::Call {
             receiver,
@@ -130,7 +138,7 @@ fn node<L: Ledger>(
             arguments,
             ..
         } => called(
-            program, epoch, cache, machine, bodies, inner, receiver, method, arguments,
+            program, epoch, cache, machine, bodies, room, inner, receiver, method, arguments,
         ),
     }
 }
@@ -143,18 +151,19 @@ fn negate<L: Ledger>(
     cache: &mut Cache,
     machine: &mut Machine,
     bodies: &mut Bodies<'_, L>,
+    room: u32,
     inner: u32,
     operand: &Shared<ExprNode>,
 ) -> Result<Value, Unwound>
     requires tied { Tied cache.old }
     requires known { bodies.old.methods.now ≡ class_methods program.now.schema.now.classes }
-    ensures does { Directs result (state machine.new cache.new) (spec.negate (on program.now.schema.now cache.old) inner (directly (on program.now.schema.now cache.old) inner) (plain operand.now) (state machine.old cache.old)) }
+    ensures does { Directs result (state machine.new cache.new) (spec.negate (on program.now.schema.now cache.old) inner (directly (on program.now.schema.now cache.old) room inner) (plain operand.now) (state machine.old cache.old)) }
     ensures tied { Lasts result (Tied cache.new) }
     ensures kept { Lasts result (Keeps cache.old cache.new) }
     ensures known { bodies.new.methods.now ≡ class_methods program.now.schema.now.classes }
     ensures work { Lasts result (surplus bodies.new.work machine.new.steps ≡ surplus bodies.old.work machine.old.steps) }
 {
-    match value_of(program, epoch, cache, machine, bodies, inner, operand) {
+    match value_of(program, epoch, cache, machine, bodies, room, inner, operand) {
         Ok(value) => Ok(Value::Int(0i64.wrapping_sub(number(value)))),
         Err(unwound) => Err(behind_negation(unwound)),
     }
@@ -169,6 +178,7 @@ fn combine<L: Ledger>(
     cache: &mut Cache,
     machine: &mut Machine,
     bodies: &mut Bodies<'_, L>,
+    room: u32,
     inner: u32,
     operator: Operator,
     first: Value,
@@ -176,13 +186,13 @@ fn combine<L: Ledger>(
 ) -> Result<Value, Unwound>
     requires tied { Tied cache.old }
     requires known { bodies.old.methods.now ≡ class_methods program.now.schema.now.classes }
-    ensures does { Directs result (state machine.new cache.new) (spec.combine (on program.now.schema.now cache.old) inner (directly (on program.now.schema.now cache.old) inner) operator first (plain right.now) (state machine.old cache.old)) }
+    ensures does { Directs result (state machine.new cache.new) (spec.combine (on program.now.schema.now cache.old) inner (directly (on program.now.schema.now cache.old) room inner) operator first (plain right.now) (state machine.old cache.old)) }
     ensures tied { Lasts result (Tied cache.new) }
     ensures kept { Lasts result (Keeps cache.old cache.new) }
     ensures known { bodies.new.methods.now ≡ class_methods program.now.schema.now.classes }
     ensures work { Lasts result (surplus bodies.new.work machine.new.steps ≡ surplus bodies.old.work machine.old.steps) }
 {
-    match value_of(program, epoch, cache, machine, bodies, inner, right) {
+    match value_of(program, epoch, cache, machine, bodies, room, inner, right) {
         Ok(second) => Ok(combined(operator, first, second)),
         Err(unwound) => Err(behind_left(unwound, operator, first)),
     }
@@ -196,6 +206,7 @@ fn binary<L: Ledger>(
     cache: &mut Cache,
     machine: &mut Machine,
     bodies: &mut Bodies<'_, L>,
+    room: u32,
     inner: u32,
     operator: Operator,
     left: &Shared<ExprNode>,
@@ -203,15 +214,15 @@ fn binary<L: Ledger>(
 ) -> Result<Value, Unwound>
     requires tied { Tied cache.old }
     requires known { bodies.old.methods.now ≡ class_methods program.now.schema.now.classes }
-    ensures does { Directs result (state machine.new cache.new) (spec.binary (on program.now.schema.now cache.old) inner (directly (on program.now.schema.now cache.old) inner) operator (plain left.now) (plain right.now) (state machine.old cache.old)) }
+    ensures does { Directs result (state machine.new cache.new) (spec.binary (on program.now.schema.now cache.old) inner (directly (on program.now.schema.now cache.old) room inner) operator (plain left.now) (plain right.now) (state machine.old cache.old)) }
     ensures tied { Lasts result (Tied cache.new) }
     ensures kept { Lasts result (Keeps cache.old cache.new) }
     ensures known { bodies.new.methods.now ≡ class_methods program.now.schema.now.classes }
     ensures work { Lasts result (surplus bodies.new.work machine.new.steps ≡ surplus bodies.old.work machine.old.steps) }
 {
-    match value_of(program, epoch, cache, machine, bodies, inner, left) {
+    match value_of(program, epoch, cache, machine, bodies, room, inner, left) {
         Ok(first) => combine(
-            program, epoch, cache, machine, bodies, inner, operator, first, right,
+            program, epoch, cache, machine, bodies, room, inner, operator, first, right,
         ),
         Err(unwound) => Err(behind_right(unwound, inner, operator, right)),
     }
@@ -225,6 +236,7 @@ fn called<L: Ledger>(
     cache: &mut Cache,
     machine: &mut Machine,
     bodies: &mut Bodies<'_, L>,
+    room: u32,
     inner: u32,
     receiver: &Shared<ExprNode>,
     method: &Shared<Text>,
@@ -232,18 +244,20 @@ fn called<L: Ledger>(
 ) -> Result<Value, Unwound>
     requires tied { Tied cache.old }
     requires known { bodies.old.methods.now ≡ class_methods program.now.schema.now.classes }
-    ensures does { Directs result (state machine.new cache.new) (spec.called (on program.now.schema.now cache.old) inner (directly (on program.now.schema.now cache.old) inner) (plain receiver.now) method.now (map plain arguments.now) (state machine.old cache.old)) }
+    ensures does { Directs result (state machine.new cache.new) (spec.called (on program.now.schema.now cache.old) inner (directly (on program.now.schema.now cache.old) room inner) (plain receiver.now) method.now (map plain arguments.now) (state machine.old cache.old)) }
     ensures tied { Lasts result (Tied cache.new) }
     ensures kept { Lasts result (Keeps cache.old cache.new) }
     ensures known { bodies.new.methods.now ≡ class_methods program.now.schema.now.classes }
     ensures work { Lasts result (surplus bodies.new.work machine.new.steps ≡ surplus bodies.old.work machine.old.steps) }
 {
     let kind = type_of(program, machine, receiver.get());
-    match value_of(program, epoch, cache, machine, bodies, inner, receiver) {
+    match value_of(
+        program, epoch, cache, machine, bodies, room, inner, receiver,
+    ) {
         Ok(target) => {
             let none = Values::new(program.alloc);
             collect(
-                program, epoch, cache, machine, bodies, inner, kind, target, method, none,
+                program, epoch, cache, machine, bodies, room, inner, kind, target, method, none,
                 arguments,
             )
         }
@@ -260,6 +274,7 @@ fn collect<L: Ledger>(
     cache: &mut Cache,
     machine: &mut Machine,
     bodies: &mut Bodies<'_, L>,
+    room: u32,
     inner: u32,
     kind: ExprType,
     target: Value,
@@ -269,7 +284,7 @@ fn collect<L: Ledger>(
 ) -> Result<Value, Unwound>
     requires tied { Tied cache.old }
     requires known { bodies.old.methods.now ≡ class_methods program.now.schema.now.classes }
-    ensures does { Directs result (state machine.new cache.new) (spec.collect (on program.now.schema.now cache.old) inner (directly (on program.now.schema.now cache.old) inner) kind target method.now none (map plain arguments.now) (state machine.old cache.old)) }
+    ensures does { Directs result (state machine.new cache.new) (spec.collect (on program.now.schema.now cache.old) inner (directly (on program.now.schema.now cache.old) room inner) kind target method.now none (map plain arguments.now) (state machine.old cache.old)) }
     ensures tied { Lasts result (Tied cache.new) }
     ensures kept { Lasts result (Keeps cache.old cache.new) }
     ensures known { bodies.new.methods.now ≡ class_methods program.now.schema.now.classes }
@@ -280,10 +295,12 @@ fn collect<L: Ledger>(
         match SharedExprs::at(arguments, place) {
             None => {
                 return ready(
-                    program, epoch, cache, machine, bodies, inner, kind, target, method, done,
+                    program, epoch, cache, machine, bodies, room, inner, kind, target, method, done,
                 );
             }
-            Some(expr) => match value_of(program, epoch, cache, machine, bodies, inner, expr) {
+            Some(expr) => match value_of(
+                program, epoch, cache, machine, bodies, room, inner, expr,
+            ) {
                 Ok(value) => done.push(value)?,
                 Err(unwound) => {
                     let rest = SharedExprs::behind(arguments, place)?;
@@ -303,6 +320,7 @@ fn ready<L: Ledger>(
     cache: &mut Cache,
     machine: &mut Machine,
     bodies: &mut Bodies<'_, L>,
+    room: u32,
     inner: u32,
     kind: ExprType,
     target: Value,
@@ -311,7 +329,7 @@ fn ready<L: Ledger>(
 ) -> Result<Value, Unwound>
     requires tied { Tied cache.old }
     requires known { bodies.old.methods.now ≡ class_methods program.now.schema.now.classes }
-    ensures does { Directs result (state machine.new cache.new) (spec.ready (on program.now.schema.now cache.old) inner (directly (on program.now.schema.now cache.old) inner) kind target method.now arguments (state machine.old cache.old)) }
+    ensures does { Directs result (state machine.new cache.new) (spec.ready (on program.now.schema.now cache.old) inner (directly (on program.now.schema.now cache.old) room inner) kind target method.now arguments (state machine.old cache.old)) }
     ensures tied { Lasts result (Tied cache.new) }
     ensures kept { Lasts result (Keeps cache.old cache.new) }
     ensures known { bodies.new.methods.now ≡ class_methods program.now.schema.now.classes }
@@ -319,7 +337,7 @@ fn ready<L: Ledger>(
 {
     match (kind, target) {
         (ExprType::Class(class), Value::Ref(oref)) => call(
-            program, epoch, cache, machine, bodies, inner, class, oref, method, arguments,
+            program, epoch, cache, machine, bodies, room, inner, class, oref, method, arguments,
         ),
         (_, _) => faulted(Fault::NullCall),
     }
@@ -334,6 +352,7 @@ fn call<L: Ledger>(
     cache: &mut Cache,
     machine: &mut Machine,
     bodies: &mut Bodies<'_, L>,
+    room: u32,
     inner: u32,
     class: u16,
     oref: Oref,
@@ -342,7 +361,7 @@ fn call<L: Ledger>(
 ) -> Result<Value, Unwound>
     requires tied { Tied cache.old }
     requires known { bodies.old.methods.now ≡ class_methods program.now.schema.now.classes }
-    ensures does { Directs result (state machine.new cache.new) (spec.call (on program.now.schema.now cache.old) inner (directly (on program.now.schema.now cache.old) inner) class oref method.now arguments (state machine.old cache.old)) }
+    ensures does { Directs result (state machine.new cache.new) (spec.call (on program.now.schema.now cache.old) inner (directly (on program.now.schema.now cache.old) room inner) class oref method.now arguments (state machine.old cache.old)) }
     ensures tied { Lasts result (Tied cache.new) }
     ensures kept { Lasts result (Keeps cache.old cache.new) }
     ensures known { bodies.new.methods.now ≡ class_methods program.now.schema.now.classes }
@@ -360,7 +379,8 @@ fn call<L: Ledger>(
                 owners,
             };
             enter(
-                program, epoch, cache, machine, bodies, inner, found, this, method, &arguments,
+                program, epoch, cache, machine, bodies, room, inner, found, this, method,
+                &arguments,
             )
         }
         Err(halt) => Err(not_entered(program.alloc, halt, inner, class, oref, method, arguments)),
@@ -375,6 +395,7 @@ fn enter<L: Ledger>(
     cache: &mut Cache,
     machine: &mut Machine,
     bodies: &mut Bodies<'_, L>,
+    room: u32,
     inner: u32,
     found: u16,
     this: Receiver,
@@ -384,7 +405,7 @@ fn enter<L: Ledger>(
     requires tied { Tied cache.old }
     requires known { bodies.old.methods.now ≡ class_methods program.now.schema.now.classes }
     requires depth { machine.old.depth < 64 }
-    ensures does { Directs result (state machine.new cache.new) (spec.enter_as (on program.now.schema.now cache.old) inner (directly (on program.now.schema.now cache.old) inner) this found (method_of program.now.schema.now.classes this.class name.now) arguments.now (state machine.old cache.old)) }
+    ensures does { Directs result (state machine.new cache.new) (spec.enter_as (on program.now.schema.now cache.old) inner (directly (on program.now.schema.now cache.old) room inner) this found (method_of program.now.schema.now.classes this.class name.now) arguments.now (state machine.old cache.old)) }
     ensures tied { Lasts result (Tied cache.new) }
     ensures kept { Lasts result (Keeps cache.old cache.new) }
     ensures known { bodies.new.methods.now ≡ class_methods program.now.schema.now.classes }
@@ -395,7 +416,7 @@ fn enter<L: Ledger>(
     }
     match method_in(program, bodies, this.class, name.get().as_slice()) {
         Some(method) => run_body(
-            program, epoch, cache, machine, bodies, inner, this, method, arguments,
+            program, epoch, cache, machine, bodies, room, inner, this, method, arguments,
         ),
         None => faulted(Fault::NullCall),
     }
@@ -443,6 +464,7 @@ fn run_body<L: Ledger>(
     cache: &mut Cache,
     machine: &mut Machine,
     bodies: &mut Bodies<'_, L>,
+    room: u32,
     inner: u32,
     this: Receiver,
     method: &SharedMethod,
@@ -452,7 +474,7 @@ fn run_body<L: Ledger>(
     requires known { bodies.old.methods.now ≡ class_methods program.now.schema.now.classes }
     requires depth { machine.old.depth < 64 }
     requires typed { IsTyped program.now.schema.now.classes method.now }
-    ensures does { Directs result (state machine.new cache.new) (spec.run_body (on program.now.schema.now cache.old) inner (directly (on program.now.schema.now cache.old) inner) this method.now.method arguments.now (state machine.old cache.old)) }
+    ensures does { Directs result (state machine.new cache.new) (spec.run_body (on program.now.schema.now cache.old) inner (directly (on program.now.schema.now cache.old) room inner) this method.now.method arguments.now (state machine.old cache.old)) }
     ensures tied { Lasts result (Tied cache.new) }
     ensures kept { Lasts result (Keeps cache.old cache.new) }
     ensures known { bodies.new.methods.now ≡ class_methods program.now.schema.now.classes }
@@ -464,7 +486,16 @@ fn run_body<L: Ledger>(
         locals,
     } = go_inside(program, machine, this, method, arguments)?;
     let kind = method.result();
-    match block(program, epoch, cache, machine, bodies, inner, method.body()) {
+    match block(
+        program,
+        epoch,
+        cache,
+        machine,
+        bodies,
+        room,
+        inner,
+        method.body(),
+    ) {
         Ok(flow) => {
             leave_body(machine, depth, this, locals);
             Ok(ended(kind, flow))

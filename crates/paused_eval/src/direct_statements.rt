@@ -1,4 +1,4 @@
-//! Statements, blocks and loops by plain recursion, as far as the objects are at hand (`direct`).
+//! Statements, blocks and loops by plain recursion, as far as the objects are at hand and there is room (`direct`).
 
 ghost use Rattle.std.specs.Prelude.{◌≡◌, map};
 ghost use Rattle.class_defs.specs.declared.statements.Stmt.{out-Stmt};
@@ -35,19 +35,20 @@ pub fn block<L: Ledger>(
     cache: &mut Cache,
     machine: &mut Machine,
     bodies: &mut Bodies<'_, L>,
+    room: u32,
     inner: u32,
     stmts: &Shared<StmtNodes>,
 ) -> Result<Flow, Unwound>
     requires tied { Tied cache.old }
     requires known { bodies.old.methods.now ≡ class_methods program.now.schema.now.classes }
-    ensures does { Directs result (state machine.new cache.new) (spec.block (on program.now.schema.now cache.old) inner (directly (on program.now.schema.now cache.old) inner) (map plain_stmt stmts.now) (state machine.old cache.old)) }
+    ensures does { Directs result (state machine.new cache.new) (spec.block (on program.now.schema.now cache.old) inner (directly (on program.now.schema.now cache.old) room inner) (map plain_stmt stmts.now) (state machine.old cache.old)) }
     ensures tied { Lasts result (Tied cache.new) }
     ensures kept { Lasts result (Keeps cache.old cache.new) }
     ensures known { bodies.new.methods.now ≡ class_methods program.now.schema.now.classes }
     ensures work { Lasts result (surplus bodies.new.work machine.new.steps ≡ surplus bodies.old.work machine.old.steps) }
 {
     let count = machine.locals.len();
-    match in_order(program, epoch, cache, machine, bodies, inner, stmts) {
+    match in_order(program, epoch, cache, machine, bodies, room, inner, stmts) {
         Ok(flow) => {
             machine.locals.truncate(count);
             Ok(flow)
@@ -65,12 +66,13 @@ fn in_order<L: Ledger>(
     cache: &mut Cache,
     machine: &mut Machine,
     bodies: &mut Bodies<'_, L>,
+    room: u32,
     inner: u32,
     stmts: &Shared<StmtNodes>,
 ) -> Result<Flow, Unwound>
     requires tied { Tied cache.old }
     requires known { bodies.old.methods.now ≡ class_methods program.now.schema.now.classes }
-    ensures does { Directs result (state machine.new cache.new) (spec.in_order (on program.now.schema.now cache.old) inner (directly (on program.now.schema.now cache.old) inner) (map plain_stmt stmts.now) (state machine.old cache.old)) }
+    ensures does { Directs result (state machine.new cache.new) (spec.in_order (on program.now.schema.now cache.old) inner (directly (on program.now.schema.now cache.old) room inner) (map plain_stmt stmts.now) (state machine.old cache.old)) }
     ensures tied { Lasts result (Tied cache.new) }
     ensures kept { Lasts result (Keeps cache.old cache.new) }
     ensures known { bodies.new.methods.now ≡ class_methods program.now.schema.now.classes }
@@ -79,7 +81,7 @@ fn in_order<L: Ledger>(
     for place in 0..usize::MAX {
         match SharedBlock::at(stmts, place) {
             None => return Ok(Flow::Next),
-            Some(stmt) => match execute(program, epoch, cache, machine, bodies, inner, stmt) {
+            Some(stmt) => match execute(program, epoch, cache, machine, bodies, room, inner, stmt) {
                 Ok(Flow::Next) => {}
                 Ok(Flow::Returned(value)) => return Ok(Flow::Returned(value)),
                 Err(unwound) => {
@@ -92,7 +94,8 @@ fn in_order<L: Ledger>(
     Err(Unwound::NoMemory)
 }
 
-/// A statement whose nodes may be `nested` deep.
+/// A statement whose nodes may be `nested` deep. Where there is no `room` for it inside the nodes that are open, small steps
+/// go on.
 #[cycle(direct)]
 #[tactic(auto, using(crate::proofs::Directly::at_depth, crate::proofs::Directly::left_later, crate::proofs::Counting::counted_step))]
 pub fn execute<L: Ledger>(
@@ -101,17 +104,21 @@ pub fn execute<L: Ledger>(
     cache: &mut Cache,
     machine: &mut Machine,
     bodies: &mut Bodies<'_, L>,
+    room: u32,
     nested: u32,
     stmt: &Shared<StmtNode>,
 ) -> Result<Flow, Unwound>
     requires tied { Tied cache.old }
     requires known { bodies.old.methods.now ≡ class_methods program.now.schema.now.classes }
-    ensures does { Directs result (state machine.new cache.new) ((directly (on program.now.schema.now cache.old) nested).execute (plain_stmt stmt.now) (state machine.old cache.old)) }
+    ensures does { Directs result (state machine.new cache.new) ((directly (on program.now.schema.now cache.old) room nested).execute (plain_stmt stmt.now) (state machine.old cache.old)) }
     ensures tied { Lasts result (Tied cache.new) }
     ensures kept { Lasts result (Keeps cache.old cache.new) }
     ensures known { bodies.new.methods.now ≡ class_methods program.now.schema.now.classes }
     ensures work { Lasts result (surplus bodies.new.work machine.new.steps ≡ surplus bodies.old.work machine.old.steps) }
 {
+    if room == 0 {
+        return execute_later(program.alloc, nested, stmt);
+    }
     if nested == 0 || machine.steps >= STEP_LIMIT {
         return execute_later(program.alloc, nested, stmt);
     }
@@ -123,6 +130,7 @@ pub fn execute<L: Ledger>(
         cache,
         machine,
         bodies,
+        room - 1,
         nested - 1,
         stmt.get(),
     )
@@ -137,12 +145,13 @@ fn statement<L: Ledger>(
     cache: &mut Cache,
     machine: &mut Machine,
     bodies: &mut Bodies<'_, L>,
+    room: u32,
     inner: u32,
     node: &StmtNode,
 ) -> Result<Flow, Unwound>
     requires tied { Tied cache.old }
     requires known { bodies.old.methods.now ≡ class_methods program.now.schema.now.classes }
-    ensures does { Directs result (state machine.new cache.new) (spec.statement (on program.now.schema.now cache.old) inner (directly (on program.now.schema.now cache.old) inner) (out-Stmt (plain_stmt node.now)) (state machine.old cache.old)) }
+    ensures does { Directs result (state machine.new cache.new) (spec.statement (on program.now.schema.now cache.old) inner (directly (on program.now.schema.now cache.old) room inner) (out-Stmt (plain_stmt node.now)) (state machine.old cache.old)) }
     ensures tied { Lasts result (Tied cache.new) }
     ensures kept { Lasts result (Keeps cache.old cache.new) }
     ensures known { bodies.new.methods.now ≡ class_methods program.now.schema.now.classes }
@@ -154,10 +163,13 @@ fn statement<L: Ledger>(
         cache,
         machine,
         bodies,
+        room,
         inner,
         first_part(node),
     ) {
-        Ok(value) => effect(program, epoch, cache, machine, bodies, inner, node, value),
+        Ok(value) => effect(
+            program, epoch, cache, machine, bodies, room, inner, node, value,
+        ),
         Err(unwound) => Err(behind_first_part(program, unwound, inner, node)),
     }
 }
@@ -171,13 +183,14 @@ fn effect<L: Ledger>(
     cache: &mut Cache,
     machine: &mut Machine,
     bodies: &mut Bodies<'_, L>,
+    room: u32,
     inner: u32,
     node: &StmtNode,
     value: Value,
 ) -> Result<Flow, Unwound>
     requires tied { Tied cache.old }
     requires known { bodies.old.methods.now ≡ class_methods program.now.schema.now.classes }
-    ensures does { Directs result (state machine.new cache.new) (spec.effect (on program.now.schema.now cache.old) inner (directly (on program.now.schema.now cache.old) inner) (out-Stmt (plain_stmt node.now)) value (state machine.old cache.old)) }
+    ensures does { Directs result (state machine.new cache.new) (spec.effect (on program.now.schema.now cache.old) inner (directly (on program.now.schema.now cache.old) room inner) (out-Stmt (plain_stmt node.now)) value (state machine.old cache.old)) }
     ensures tied { Lasts result (Tied cache.new) }
     ensures kept { Lasts result (Keeps cache.old cache.new) }
     ensures known { bodies.new.methods.now ≡ class_methods program.now.schema.now.classes }
@@ -211,7 +224,7 @@ fn effect<L: Ledger>(
         StmtNode::Return { .. } => Ok(Flow::Returned(value)),
         StmtNode::If { then, .. } => {
             if holds(value) {
-                block(program, epoch, cache, machine, bodies, inner, then)
+                block(program, epoch, cache, machine, bodies, room, inner, then)
             } else {
                 Ok(Flow::Next)
             }
@@ -222,14 +235,16 @@ fn effect<L: Ledger>(
             ..
         } => {
             if holds(value) {
-                block(program, epoch, cache, machine, bodies, inner, then)
+                block(program, epoch, cache, machine, bodies, room, inner, then)
             } else {
-                block(program, epoch, cache, machine, bodies, inner, otherwise)
+                block(
+                    program, epoch, cache, machine, bodies, room, inner, otherwise,
+                )
             }
         }
         StmtNode::While { condition, body } => {
             turns(
-                program, epoch, cache, machine, bodies, inner, condition, body, value,
+                program, epoch, cache, machine, bodies, room, inner, condition, body, value,
             )
         }
         StmtNode::Print { .. } => {
@@ -249,6 +264,7 @@ fn turn_body<L: Ledger>(
     cache: &mut Cache,
     machine: &mut Machine,
     bodies: &mut Bodies<'_, L>,
+    room: u32,
     inner: u32,
     turns: u32,
     condition: &Shared<ExprNode>,
@@ -256,13 +272,13 @@ fn turn_body<L: Ledger>(
 ) -> Result<Flow, Unwound>
     requires tied { Tied cache.old }
     requires known { bodies.old.methods.now ≡ class_methods program.now.schema.now.classes }
-    ensures does { Directs result (state machine.new cache.new) (spec.part (spec.block (on program.now.schema.now cache.old) inner (directly (on program.now.schema.now cache.old) inner) (map plain_stmt body.now)) (frame.Again inner turns (plain condition.now) (map plain_stmt body.now)) spec.done (state machine.old cache.old)) }
+    ensures does { Directs result (state machine.new cache.new) (spec.part (spec.block (on program.now.schema.now cache.old) inner (directly (on program.now.schema.now cache.old) room inner) (map plain_stmt body.now)) (frame.Again inner turns (plain condition.now) (map plain_stmt body.now)) spec.done (state machine.old cache.old)) }
     ensures tied { Lasts result (Tied cache.new) }
     ensures kept { Lasts result (Keeps cache.old cache.new) }
     ensures known { bodies.new.methods.now ≡ class_methods program.now.schema.now.classes }
     ensures work { Lasts result (surplus bodies.new.work machine.new.steps ≡ surplus bodies.old.work machine.old.steps) }
 {
-    match block(program, epoch, cache, machine, bodies, inner, body) {
+    match block(program, epoch, cache, machine, bodies, room, inner, body) {
         Ok(flow) => Ok(flow),
         Err(unwound) => Err(behind_turn(unwound, inner, turns, condition, body)),
     }
@@ -277,6 +293,7 @@ fn test_again<L: Ledger>(
     cache: &mut Cache,
     machine: &mut Machine,
     bodies: &mut Bodies<'_, L>,
+    room: u32,
     inner: u32,
     turns: u32,
     condition: &Shared<ExprNode>,
@@ -284,7 +301,7 @@ fn test_again<L: Ledger>(
 ) -> Result<Value, Unwound>
     requires tied { Tied cache.old }
     requires known { bodies.old.methods.now ≡ class_methods program.now.schema.now.classes }
-    ensures does { Directs result (state machine.new cache.new) (spec.tests (on program.now.schema.now cache.old) inner (directly (on program.now.schema.now cache.old) inner) turns (plain condition.now) (map plain_stmt body.now) (state machine.old cache.old)) }
+    ensures does { Directs result (state machine.new cache.new) (spec.tests (on program.now.schema.now cache.old) inner (directly (on program.now.schema.now cache.old) room inner) turns (plain condition.now) (map plain_stmt body.now) (state machine.old cache.old)) }
     ensures tied { Lasts result (Tied cache.new) }
     ensures kept { Lasts result (Keeps cache.old cache.new) }
     ensures known { bodies.new.methods.now ≡ class_methods program.now.schema.now.classes }
@@ -295,7 +312,9 @@ fn test_again<L: Ledger>(
     }
     machine.steps += 1;
     bodies.work.tick();
-    match value_of(program, epoch, cache, machine, bodies, inner, condition) {
+    match value_of(
+        program, epoch, cache, machine, bodies, room, inner, condition,
+    ) {
         Ok(value) => Ok(value),
         Err(unwound) => Err(behind_test(unwound, inner, turns - 1, condition, body)),
     }
@@ -310,6 +329,7 @@ fn turns<L: Ledger>(
     cache: &mut Cache,
     machine: &mut Machine,
     bodies: &mut Bodies<'_, L>,
+    room: u32,
     inner: u32,
     condition: &Shared<ExprNode>,
     body: &Shared<StmtNodes>,
@@ -317,7 +337,7 @@ fn turns<L: Ledger>(
 ) -> Result<Flow, Unwound>
     requires tied { Tied cache.old }
     requires known { bodies.old.methods.now ≡ class_methods program.now.schema.now.classes }
-    ensures does { Directs result (state machine.new cache.new) (spec.turn (on program.now.schema.now cache.old) inner (directly (on program.now.schema.now cache.old) inner) 100000 (plain condition.now) (map plain_stmt body.now) tested (state machine.old cache.old)) }
+    ensures does { Directs result (state machine.new cache.new) (spec.turn (on program.now.schema.now cache.old) inner (directly (on program.now.schema.now cache.old) room inner) 100000 (plain condition.now) (map plain_stmt body.now) tested (state machine.old cache.old)) }
     ensures tied { Lasts result (Tied cache.new) }
     ensures kept { Lasts result (Keeps cache.old cache.new) }
     ensures known { bodies.new.methods.now ≡ class_methods program.now.schema.now.classes }
@@ -330,13 +350,13 @@ fn turns<L: Ledger>(
         }
         let turns = 100_000 - count;
         match turn_body(
-            program, epoch, cache, machine, bodies, inner, turns, condition, body,
+            program, epoch, cache, machine, bodies, room, inner, turns, condition, body,
         )? {
             Flow::Next => {}
             Flow::Returned(value) => return Ok(Flow::Returned(value)),
         }
         match test_again(
-            program, epoch, cache, machine, bodies, inner, turns, condition, body,
+            program, epoch, cache, machine, bodies, room, inner, turns, condition, body,
         ) {
             Ok(next) => value = next,
             Err(unwound) => return Err(unwound),

@@ -62,7 +62,7 @@ fn field<L: Ledger>(
     give(field_value(program, cache, machine, name))
 }
 
-#[tactic(auto, using(crate::proofs::Lifting::lifts, crate::proofs::Nested::nested))]
+#[tactic(auto, using(crate::proofs::Lifting::lifts, lang_small_steps::proofs::Nested::nested))]
 fn evaluate<L: Ledger>(
     program: &Program<'_>,
     cache: &mut Cache,
@@ -88,7 +88,7 @@ fn evaluate<L: Ledger>(
     start(program, machine, work, stack, nested - 1, node)
 }
 
-#[tactic(auto, using(crate::proofs::Nested::nested))]
+#[tactic(auto, using(lang_small_steps::proofs::Nested::nested))]
 fn execute<L: Ledger>(
     program: &Program<'_>,
     machine: &mut Machine,

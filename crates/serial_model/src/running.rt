@@ -11,7 +11,8 @@ ghost use Rattle.serial_model.specs.Whole.{IsFirst, IsOfItsEpoch, NoneDue};
 
 use crate::whole_maps::overwrite;
 use class_defs::{Block, Schema};
-use method_eval::{Names, Ran, View, eval};
+use lang_bounded_eval::eval;
+use method_eval::{Names, Ran, View};
 use std::alloc::Global;
 use std::mem;
 use thor_value::{Answer, NoMemory, Orefs, Writes};

@@ -7,11 +7,10 @@ ghost use Rattle.method_eval.specs.Does.{Does};
 ghost use Rattle.method_eval.specs.Names.{supply};
 ghost use Rattle.method_eval.specs.Viewed.{reading};
 
-use crate::halt::Halt;
 use crate::run::block;
-use crate::view::{Ran, View};
-use crate::world::{Program, World};
 use class_defs::{Block, Flow, Machine, Object, Schema, Stop};
+use lang_small_steps::RECURSION_LIMIT;
+use method_eval::{Halt, Program, Ran, View, World};
 use std::alloc::Global;
 use thor_value::{
     Answer, Fault, Ints, NoMemory, Obj, Oref, OrefMap, Orefs, Sequence, Writes, both,
@@ -42,7 +41,7 @@ pub(crate) fn execute_all(
 ) -> Result<Flow, Halt>
     ensures { Does result machine.new (execute_all (reading world.now) tx.now machine.old) }
 {
-    block(world, 100_001, machine, tx)
+    block(world, RECURSION_LIMIT, 100_001, machine, tx)
 }
 
 fn stored(epoch: u32, written: (Oref, Object)) -> (Oref, Obj)
@@ -139,7 +138,7 @@ fn ran_at(
 /// Evaluates a transaction over a view: exactly as its run over the objects at hand that aren't due.
 ///
 /// What it costs follows the steps of the run, and not the number of objects in the view.
-#[tactic(auto, unfolding(crate::specs::Answers::evaluation))]
+#[tactic(auto, unfolding(method_eval::specs::Answers::evaluation))]
 pub fn eval<'a>(
     alloc: Global,
     tx: &Block,

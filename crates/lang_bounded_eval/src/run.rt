@@ -1,37 +1,40 @@
 ghost use Rattle.std.specs.Prelude.{◌<◌};
 ghost use Rattle.method_eval.specs.Does.{Does};
-ghost use Rattle.method_eval.specs.Inner.{value_of, execute, block, expression, node, values_of, called, call_object, run_body, in_order, statement, repeat};
+ghost use Rattle.lang_bounded_eval.specs.Inner.{value_of, execute, block, expression, node, values_of, called, call_object, run_body, in_order, statement, repeat};
 ghost use Rattle.method_eval.specs.Viewed.{reading};
 
-use crate::calls::{bound, owners_at, result_of};
-use crate::halt::Halt;
-use crate::locals::{assign_local, declare, holds};
-use crate::objects::{assign_field, create, field_value, named_value, touch};
-use crate::steps::{fault, take_step};
-use crate::types::{method_of, type_named, type_of};
-use crate::world::World;
+use crate::small_steps::{execute_by_steps, value_by_steps};
 use class_defs::{
     Block, DEPTH_LIMIT, Expr, ExprType, Exprs, Flow, Machine, Method, Receiver, Stmt, combined,
     number,
 };
+use method_eval::{
+    Halt, World, assign_field, assign_local, bound, create, declare, fault, field_value, holds,
+    method_of, named_value, owners_at, result_of, take_step, touch, type_named, type_of,
+};
 use std::mem;
 use thor_value::{Fault, Oref, Value, Values};
 
-/// The value of an expression, where nodes at most `nested` deep may stand inside one another.
+/// The value of an expression, where nodes at most `nested` deep may stand inside one another. So many as there is `room` for
+/// are evaluated by plain recursion, and what stands deeper by small steps.
 #[cycle(run)]
 #[tactic(auto, using(crate::proofs::Depth::at_depth))]
 pub fn value_of(
     world: &World<'_>,
+    room: u32,
     nested: u32,
     machine: &mut Machine,
     expr: &Expr,
 ) -> Result<Value, Halt>
     ensures { Does result machine.new (value_of (reading world.now) nested expr.now machine.old) }
 {
+    if room == 0 {
+        return value_by_steps(world, nested, machine, expr);
+    }
     if nested == 0 {
         return fault(Fault::Steps);
     }
-    expression(world, nested - 1, machine, expr)
+    expression(world, room - 1, nested - 1, machine, expr)
 }
 
 /// One node of an expression, whose parts may be `inner` deep.
@@ -39,6 +42,7 @@ pub fn value_of(
 #[tactic(auto, unfolding(class_defs::specs::Expressions::expression))]
 fn expression(
     world: &World<'_>,
+    room: u32,
     inner: u32,
     machine: &mut Machine,
     expr: &Expr,
@@ -46,11 +50,17 @@ fn expression(
     ensures { Does result machine.new (expression (reading world.now) inner expr.now machine.old) }
 {
     take_step(machine)?;
-    node(world, inner, machine, expr)
+    node(world, room, inner, machine, expr)
 }
 
 #[cycle(run)]
-fn node(world: &World<'_>, inner: u32, machine: &mut Machine, expr: &Expr) -> Result<Value, Halt>
+fn node(
+    world: &World<'_>,
+    room: u32,
+    inner: u32,
+    machine: &mut Machine,
+    expr: &Expr,
+) -> Result<Value, Halt>
     ensures { Does result machine.new (node (reading world.now) inner expr.now machine.old) }
 {
     match expr {
@@ -66,9 +76,9 @@ fn node(world: &World<'_>, inner: u32, machine: &mut Machine, expr: &Expr) -> Re
         Expr::Parens {
             inner: part,
             line: _,
-        } => value_of(world, inner, machine, part.get()),
+        } => value_of(world, room, inner, machine, part.get()),
         Expr::Negate { operand, line: _ } => {
-            let value = value_of(world, inner, machine, operand.get())?;
+            let value = value_of(world, room, inner, machine, operand.get())?;
             Ok(Value::Int(0i64.wrapping_sub(number(value))))
         }
         Expr::Binary {
@@ -77,8 +87,8 @@ fn node(world: &World<'_>, inner: u32, machine: &mut Machine, expr: &Expr) -> Re
             right,
             line: _,
         } => {
-            let first = value_of(world, inner, machine, left.get())?;
-            let second = value_of(world, inner, machine, right.get())?;
+            let first = value_of(world, room, inner, machine, left.get())?;
+            let second = value_of(world, room, inner, machine, right.get())?;
             Ok(combined(*operator, first, second))
         }
         Expr::Call {
@@ -87,6 +97,7 @@ fn node(world: &World<'_>, inner: u32, machine: &mut Machine, expr: &Expr) -> Re
             arguments,
         } => called(
             world,
+            room,
             inner,
             machine,
             receiver.get(),
@@ -101,6 +112,7 @@ fn node(world: &World<'_>, inner: u32, machine: &mut Machine, expr: &Expr) -> Re
 #[tactic(auto, unfolding(class_defs::specs::Expressions::values_of))]
 fn values_of(
     world: &World<'_>,
+    room: u32,
     inner: u32,
     machine: &mut Machine,
     exprs: &Exprs,
@@ -109,7 +121,7 @@ fn values_of(
 {
     let mut values = Values::new(world.program.alloc);
     for expr in exprs.as_slice() {
-        values.push(value_of(world, inner, machine, expr)?)?;
+        values.push(value_of(world, room, inner, machine, expr)?)?;
     }
     Ok(values)
 }
@@ -118,6 +130,7 @@ fn values_of(
 #[tactic(auto, unfolding(class_defs::specs::Calls::call))]
 fn called(
     world: &World<'_>,
+    room: u32,
     inner: u32,
     machine: &mut Machine,
     receiver: &Expr,
@@ -127,11 +140,11 @@ fn called(
     ensures { Does result machine.new (called (reading world.now) inner receiver.now method.now arguments.now machine.old) }
 {
     let kind = type_of(&world.program, machine, receiver);
-    let target = value_of(world, inner, machine, receiver)?;
-    let values = values_of(world, inner, machine, arguments)?;
+    let target = value_of(world, room, inner, machine, receiver)?;
+    let values = values_of(world, room, inner, machine, arguments)?;
     match (kind, target) {
         (ExprType::Class(class), Value::Ref(oref)) => {
-            call_object(world, inner, machine, class, oref, method, values)
+            call_object(world, room, inner, machine, class, oref, method, values)
         }
         (_, _) => fault(Fault::NullCall),
     }
@@ -141,6 +154,7 @@ fn called(
 #[tactic(auto, unfolding(class_defs::specs::Calls::call_object))]
 fn call_object(
     world: &World<'_>,
+    room: u32,
     inner: u32,
     machine: &mut Machine,
     class: u16,
@@ -164,7 +178,7 @@ fn call_object(
         owners,
     };
     match method_of(&world.program, class, method) {
-        Some(method) => run_body(world, inner, machine, this, method, &arguments),
+        Some(method) => run_body(world, room, inner, machine, this, method, &arguments),
         None => fault(Fault::NullCall),
     }
 }
@@ -174,6 +188,7 @@ fn call_object(
 #[tactic(auto, unfolding(class_defs::specs::Calls::run_body))]
 fn run_body(
     world: &World<'_>,
+    room: u32,
     inner: u32,
     machine: &mut Machine,
     this: Receiver,
@@ -188,7 +203,7 @@ fn run_body(
     let caller_locals = mem::replace(&mut machine.locals, locals);
     let caller = mem::replace(&mut machine.this, Some(this));
     machine.depth = depth + 1;
-    let flow = block(world, inner, machine, &method.body)?;
+    let flow = block(world, room, inner, machine, &method.body)?;
     machine.depth = depth;
     machine.this = caller;
     machine.locals = caller_locals;
@@ -200,6 +215,7 @@ fn run_body(
 #[tactic(auto, unfolding(class_defs::specs::Statements::block_of))]
 pub fn block(
     world: &World<'_>,
+    room: u32,
     inner: u32,
     machine: &mut Machine,
     stmts: &Block,
@@ -207,7 +223,7 @@ pub fn block(
     ensures { Does result machine.new (block (reading world.now) inner stmts.now machine.old) }
 {
     let count = machine.locals.len();
-    let flow = in_order(world, inner, machine, stmts.as_slice())?;
+    let flow = in_order(world, room, inner, machine, stmts.as_slice())?;
     machine.locals.truncate(count);
     Ok(flow)
 }
@@ -215,6 +231,7 @@ pub fn block(
 #[cycle(run)]
 fn in_order(
     world: &World<'_>,
+    room: u32,
     inner: u32,
     machine: &mut Machine,
     stmts: &[Stmt],
@@ -222,7 +239,7 @@ fn in_order(
     ensures { Does result machine.new (in_order (reading world.now) inner stmts.now machine.old) }
 {
     for stmt in stmts {
-        match execute(world, inner, machine, stmt)? {
+        match execute(world, room, inner, machine, stmt)? {
             Flow::Next => {}
             Flow::Returned(value) => return Ok(Flow::Returned(value)),
         }
@@ -230,16 +247,25 @@ fn in_order(
     Ok(Flow::Next)
 }
 
-/// The execution of a statement, where nodes at most `nested` deep may stand inside one another.
+/// The execution of a statement, where nodes at most `nested` deep may stand inside one another; with `room` as above.
 #[cycle(run)]
 #[tactic(auto, using(crate::proofs::Depth::at_depth))]
-fn execute(world: &World<'_>, nested: u32, machine: &mut Machine, stmt: &Stmt) -> Result<Flow, Halt>
+fn execute(
+    world: &World<'_>,
+    room: u32,
+    nested: u32,
+    machine: &mut Machine,
+    stmt: &Stmt,
+) -> Result<Flow, Halt>
     ensures { Does result machine.new (execute (reading world.now) nested stmt.now machine.old) }
 {
+    if room == 0 {
+        return execute_by_steps(world, nested, machine, stmt);
+    }
     if nested == 0 {
         return fault(Fault::Steps);
     }
-    statement(world, nested - 1, machine, stmt)
+    statement(world, room - 1, nested - 1, machine, stmt)
 }
 
 /// One statement, whose parts may be `inner` deep.
@@ -247,6 +273,7 @@ fn execute(world: &World<'_>, nested: u32, machine: &mut Machine, stmt: &Stmt) -
 #[tactic(auto, unfolding(class_defs::specs::Statements::statement))]
 fn statement(
     world: &World<'_>,
+    room: u32,
     inner: u32,
     machine: &mut Machine,
     stmt: &Stmt,
@@ -261,7 +288,7 @@ fn statement(
             value,
         } => {
             take_step(machine)?;
-            let value = value_of(world, inner, machine, value)?;
+            let value = value_of(world, room, inner, machine, value)?;
             declare(
                 machine,
                 type_named(&world.program, type_name),
@@ -276,7 +303,7 @@ fn statement(
             value,
         } => {
             take_step(machine)?;
-            let value = value_of(world, inner, machine, value)?;
+            let value = value_of(world, room, inner, machine, value)?;
             assign_local(&mut machine.locals, name.text.as_slice(), value);
             Ok(Flow::Next)
         }
@@ -286,20 +313,20 @@ fn statement(
             value,
         } => {
             take_step(machine)?;
-            let value = value_of(world, inner, machine, value)?;
+            let value = value_of(world, room, inner, machine, value)?;
             assign_field(world, machine, field.text.as_slice(), value)?;
             Ok(Flow::Next)
         }
         Stmt::Return { value } => {
             take_step(machine)?;
-            let value = value_of(world, inner, machine, value)?;
+            let value = value_of(world, room, inner, machine, value)?;
             Ok(Flow::Returned(value))
         }
         Stmt::If { condition, then } => {
             take_step(machine)?;
-            let value = value_of(world, inner, machine, condition)?;
+            let value = value_of(world, room, inner, machine, condition)?;
             if holds(value) {
-                block(world, inner, machine, then)
+                block(world, room, inner, machine, then)
             } else {
                 Ok(Flow::Next)
             }
@@ -310,23 +337,23 @@ fn statement(
             otherwise,
         } => {
             take_step(machine)?;
-            let value = value_of(world, inner, machine, condition)?;
+            let value = value_of(world, room, inner, machine, condition)?;
             if holds(value) {
-                block(world, inner, machine, then)
+                block(world, room, inner, machine, then)
             } else {
-                block(world, inner, machine, otherwise)
+                block(world, room, inner, machine, otherwise)
             }
         }
-        Stmt::While { condition, body } => repeat(world, inner, machine, condition, body),
+        Stmt::While { condition, body } => repeat(world, room, inner, machine, condition, body),
         Stmt::Print { value } => {
             take_step(machine)?;
-            let value = value_of(world, inner, machine, value)?;
+            let value = value_of(world, room, inner, machine, value)?;
             machine.printed.push(number(value))?;
             Ok(Flow::Next)
         }
         Stmt::Evaluate { value } => {
             take_step(machine)?;
-            let _value = value_of(world, inner, machine, value)?;
+            let _value = value_of(world, room, inner, machine, value)?;
             Ok(Flow::Next)
         }
     }
@@ -338,6 +365,7 @@ fn statement(
 #[tactic(auto, using(crate::proofs::Depth::turns))]
 fn repeat(
     world: &World<'_>,
+    room: u32,
     inner: u32,
     machine: &mut Machine,
     condition: &Expr,
@@ -347,11 +375,11 @@ fn repeat(
 {
     for _ in 0..100_001u32 {
         take_step(machine)?;
-        let value = value_of(world, inner, machine, condition)?;
+        let value = value_of(world, room, inner, machine, condition)?;
         if !holds(value) {
             return Ok(Flow::Next);
         }
-        match block(world, inner, machine, body)? {
+        match block(world, room, inner, machine, body)? {
             Flow::Next => {}
             Flow::Returned(value) => return Ok(Flow::Returned(value)),
         }
