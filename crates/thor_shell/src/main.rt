@@ -25,7 +25,7 @@ use std::io::ErrorKind;
 use std::process::ExitCode;
 use std::sync::Wait;
 use std::thread::Threads;
-use thor_top::{Status, thor};
+use thor_top::{Status, StoreParts, thor};
 use thor_value::{NoMemory, Text, Texts};
 use top_words::{Command, Plan, WordsFault, read_words};
 
@@ -182,7 +182,9 @@ fn perform<R: Threads + Wait + Sync, P: Parts + Send>(
         words.as_slice(),
         &mut source,
         &mut sink,
-        parts,
+        StoreParts {
+            repositories: parts,
+        },
         &OpenGate,
     )
     .status

@@ -1,5 +1,5 @@
 use Rattle.disk_trait.specs.Numbers.{number}
-use Rattle.std.proofs.Common.{rules, ◌<◌, length}
+use Rattle.std.proofs.Common.{rules, sym, ◌<◌, length}
 use Rattle.disk_trait.proofs.MemLifts.{kept_read, mem_unmade}
 use Rattle.disk_trait.proofs.mem_parts.MemPartsParts.read_at.Goals as goal
 
@@ -10,8 +10,8 @@ returns-in_err-time-clause-made g c =
 
 pub invariant_of-self : goal.invariant_of-self
 invariant_of-self g c =
-    record { sound = (kept_read c.args.self.now.disks c.read_at-answer.new.disks (number c.args.disk) c.args.self.now.time c.in_ok-time.time (g.C.Clock.greatest c.args.self.now.clock) c.in_ok-time.ensures.ok c.args.self.now.sound c.args.at c.args.into.now c.read_at-answer.new.into _ c.read_at-answer.result c.read_at-answer.ensures.made c.read_at-answer.ensures.bytes).0 }
+    record { sound = (kept_read c.args.self.now.disks c.read_at-answer.new.disks c.number.result c.args.self.now.time c.in_ok-time.time (g.C.Clock.greatest c.args.self.now.clock) c.in_ok-time.ensures.ok c.args.self.now.sound c.args.at c.args.into.now c.read_at-answer.new.into _ c.read_at-answer.result c.read_at-answer.ensures.made c.read_at-answer.ensures.bytes).0 }
 
 pub returns-clause-call : goal.returns-clause-call
 returns-clause-call g c =
-    (kept_read c.args.self.now.disks c.read_at-answer.new.disks (number c.args.disk) c.args.self.now.time c.in_ok-time.time (g.C.Clock.greatest c.args.self.now.clock) c.in_ok-time.ensures.ok c.args.self.now.sound c.args.at c.args.into.now c.read_at-answer.new.into _ c.read_at-answer.result c.read_at-answer.ensures.made c.read_at-answer.ensures.bytes).1
+    rw (sym c.number.ensures.number) ((kept_read c.args.self.now.disks c.read_at-answer.new.disks c.number.result c.args.self.now.time c.in_ok-time.time (g.C.Clock.greatest c.args.self.now.clock) c.in_ok-time.ensures.ok c.args.self.now.sound c.args.at c.args.into.now c.read_at-answer.new.into _ c.read_at-answer.result c.read_at-answer.ensures.made c.read_at-answer.ensures.bytes).1)
