@@ -5,7 +5,7 @@ use outside::{Gate, MemSink, MemSource};
 use std::alloc::Global;
 use std::sync::Wait;
 use std::thread::Threads;
-use thor_top::{Status, thor};
+use thor_top::{Status, StoreParts, thor};
 use thor_value::{Ints, NoMemory, Text, Texts};
 
 /// What is run: the words, the script, and on how many repositories.
@@ -49,7 +49,9 @@ pub fn run<R: Threads + Wait + Sync, G: Gate + Sync>(
     let script = Text::from_slice(alloc, asked.script)?;
     let mut source = MemSource::new(script, Ints::new(alloc));
     let mut sink = MemSink::new(Ints::new(alloc));
-    let parts = empty(alloc, asked.repos)?;
+    let parts = StoreParts {
+        repositories: empty(alloc, asked.repos)?,
+    };
     let outcome = thor(
         rt,
         alloc,

@@ -7,7 +7,7 @@ use outside::{OpenGate, StdSource};
 use std::mem;
 use std::sync::Wait;
 use std::thread::Threads;
-use thor_top::{Outcome, Status, thor};
+use thor_top::{Outcome, Status, StoreParts, thor};
 use thor_value::Texts;
 
 /// How the program ended, with the parts.
@@ -40,16 +40,19 @@ pub fn perform<R: Threads + Wait + Sync, P: Parts + Send>(
         words.as_slice(),
         &mut source,
         &mut sink,
-        parts,
+        StoreParts {
+            repositories: parts,
+        },
         &OpenGate,
     );
     let is_run = !traces.as_slice().is_empty();
     let noted = sink.noted();
     advise_behind(rt, status, is_run, noted);
     mem::forget(traces);
+    let StoreParts { repositories } = parts;
     Ended {
         status,
         is_down: noted.is_down,
-        parts,
+        parts: repositories,
     }
 }

@@ -1,4 +1,2 @@
-pub mod BaseLaws
-pub mod PromiseLaws
+pub mod ReplyLaws
 pub mod StageLaws
-pub mod WordsLaws

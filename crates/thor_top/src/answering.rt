@@ -1,10 +1,13 @@
-//! The answer to a plan, on one thread or on several.
+//! The answer to a plan, on one thread or on several, and to words.
 
-ghost use Rattle.top_statement.specs.Kept.{WritesNothing};
-ghost use Rattle.top_statement.specs.Top.{SaysBy};
 ghost use Rattle.repo_opening.specs.Same.{AreSame};
-ghost use Rattle.std.specs.Prelude.{IfOk, vec_len, ◌≡◌};
+ghost use Rattle.std.specs.Prelude.{IfOk, Some, vec_len, ◌≡◌};
 ghost use Rattle.store_opening.specs.Reading.{ReadAll};
+ghost use Rattle.top_statement.specs.Kept.{RefusesBy, WritesNothing};
+ghost use Rattle.top_statement.specs.Top.{IsForOthers, IsHanded, IsNoPlan, IsPlan, Says, told_by};
+ghost use Rattle.top_words.specs.Words.{plan_of};
+ghost use Rattle.top_words.specs.declared.command.Command.TheVariants.{Check};
+ghost use Rattle.top_words.specs.declared.command.Plan.{Plan};
 
 use crate::beginning::begin;
 use crate::in_turn::run_in_turn;
@@ -16,8 +19,10 @@ use outside::{Gate, Source};
 use std::alloc::Global;
 use std::sync::Wait;
 use std::thread::Threads;
-use top_statement::Answered;
-use top_words::Plan;
+use thor_value::{NoMemory, Text};
+use top_reply::Reply;
+use top_statement::{Answered, untouched};
+use top_words::{Command, Plan, WordsFault, read_words};
 
 /// What a run on threads goes by: what starts them, and the gate that their events pass.
 #[derive(Drop)]
@@ -33,7 +38,7 @@ pub(crate) fn answer_in_turn<S: Source, P: Parts>(
     source: &mut S,
     parts: Vec<P>,
 ) -> Answered<P>
-    ensures reply { IfOk result.reply (λ r. SaysBy (ReadAll P.disks parts.items) plan.now (vec_len parts) (record { left = S.left source.old; faults = S.faults source.old }) (record { left = S.left source.new; faults = S.faults source.new }) r.status r.text) }
+    ensures reply { IfOk result.reply (Says (ReadAll P.disks parts.items) (IsHanded plan.now (vec_len parts)) (IsForOthers plan.now (vec_len parts)) (told_by S.left S.faults source.old) (told_by S.left S.faults source.new)) }
     ensures parts { vec_len result.parts ≡ vec_len parts }
     ensures kept { WritesNothing plan.now.command result.reply → AreSame P.disks parts.items result.parts.items }
 {
@@ -48,19 +53,14 @@ pub(crate) fn answer_in_turn<S: Source, P: Parts>(
 }
 
 /// Answers a plan. A run has a thread for each client.
-pub(crate) fn answer_on_threads<
-    R: Threads + Wait + Sync,
-    S: Source,
-    P: Parts + Send,
-    G: Gate + Sync,
->(
+fn answer_on_threads<R: Threads + Wait + Sync, S: Source, P: Parts + Send, G: Gate + Sync>(
     alloc: Global,
     runtime: &Runtime<'_, R, G>,
     plan: &Plan,
     source: &mut S,
     parts: Vec<P>,
 ) -> Answered<P>
-    ensures reply { IfOk result.reply (λ r. SaysBy (ReadAll P.disks parts.items) plan.now (vec_len parts) (record { left = S.left source.old; faults = S.faults source.old }) (record { left = S.left source.new; faults = S.faults source.new }) r.status r.text) }
+    ensures reply { IfOk result.reply (Says (ReadAll P.disks parts.items) (IsHanded plan.now (vec_len parts)) (IsForOthers plan.now (vec_len parts)) (told_by S.left S.faults source.old) (told_by S.left S.faults source.new)) }
     ensures parts { vec_len result.parts ≡ vec_len parts }
     ensures kept { WritesNothing plan.now.command result.reply → AreSame P.disks parts.items result.parts.items }
 {
@@ -72,5 +72,45 @@ pub(crate) fn answer_on_threads<
             told(alloc, expected, finished)
         }
         Err(answered) => answered,
+    }
+}
+
+/// Answers a plan by its command.
+fn answer_plan<R: Threads + Wait + Sync, S: Source, P: Parts + Send, G: Gate + Sync>(
+    alloc: Global,
+    runtime: &Runtime<'_, R, G>,
+    plan: &Plan,
+    source: &mut S,
+    parts: Vec<P>,
+) -> Answered<P>
+    ensures reply { IfOk result.reply (Says (ReadAll P.disks parts.items) (IsHanded plan.now (vec_len parts)) (IsForOthers plan.now (vec_len parts)) (told_by S.left S.faults source.old) (told_by S.left S.faults source.new)) }
+    ensures parts { vec_len result.parts ≡ vec_len parts }
+    ensures kept { WritesNothing plan.now.command result.reply → AreSame P.disks parts.items result.parts.items }
+{
+    match plan.command {
+        Command::Run => answer_on_threads(alloc, runtime, plan, source, parts),
+        Command::Check | Command::Play | Command::Gen { n: _ } => {
+            answer_in_turn(alloc, plan, source, parts)
+        }
+    }
+}
+
+/// Answers words.
+pub(crate) fn answer<R: Threads + Wait + Sync, S: Source, P: Parts + Send, G: Gate + Sync>(
+    alloc: Global,
+    runtime: &Runtime<'_, R, G>,
+    words: &[Text],
+    source: &mut S,
+    parts: Vec<P>,
+) -> Answered<P>
+    ensures reply { IfOk result.reply (Says (ReadAll P.disks parts.items) (IsPlan words.now (vec_len parts)) (IsNoPlan words.now (vec_len parts)) (told_by S.left S.faults source.old) (told_by S.left S.faults source.new)) }
+    ensures parts { vec_len result.parts ≡ vec_len parts }
+    ensures kept { RefusesBy result.reply → AreSame P.disks parts.items result.parts.items }
+    ensures checked { (plan : Plan) → plan_of words.now ≡ Some plan → plan.command ≡ Check → AreSame P.disks parts.items result.parts.items }
+{
+    match read_words(alloc, words) {
+        Ok(plan) => answer_plan(alloc, runtime, &plan, source, parts),
+        Err(WordsFault::Words) => untouched(alloc, Ok(Reply::Words), parts),
+        Err(WordsFault::NoMemory) => untouched(alloc, Err(NoMemory), parts),
     }
 }

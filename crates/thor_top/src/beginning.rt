@@ -1,44 +1,52 @@
 //! What a plan asks for is begun: its script is read, its store is opened. No run is made here.
 
 ghost use Rattle.cluster_core.specs.Counts.{parts_of};
-ghost use Rattle.top_statement.specs.Kept.{WritesNothing};
-ghost use Rattle.top_statement.specs.Top.{SaysBy, TellsOf};
 ghost use Rattle.repo_opening.specs.Same.{AreSame};
 ghost use Rattle.script_parse.specs.Script.{HasFew};
 ghost use Rattle.std.specs.Prelude.{IfErr, IfOk, List, length, vec_len, ◌≡◌, ◌≤◌};
 ghost use Rattle.store_opening.specs.Counts.{HasParts, parts_in};
 ghost use Rattle.store_opening.specs.Reading.{ReadAll};
-ghost use Rattle.thor_top.specs.Stages.{Foretells, IsJudged, IsPlayed, IsStoredBy};
+ghost use Rattle.thor_top.specs.Stages.{Foretells, IsPlayed};
+ghost use Rattle.top_judging.specs.Stages.{IsJudged, IsStoredBy};
+ghost use Rattle.top_statement.specs.Kept.{WritesNothing};
+ghost use Rattle.top_statement.specs.Top.{IsForOthers, IsHanded, RepliesTo, Says, form_of, told_by};
 
-use crate::finding::{Judged, find};
 use crate::opening::{OpenRun, open_run};
-use crate::reading::script_of;
 use disk_trait::Parts;
 use outside::Source;
 use script_parse::Script;
 use std::alloc::Global;
-use top_reply::{Form, Status, says};
+use top_judging::{Judged, find, script_of};
+use top_reply::{Form, Reply};
 use top_statement::{Answered, are_parts_of, unplayed, untouched};
 use top_words::{Command, Plan};
 
-/// The answer to a check of a script that breaks no rule.
+/// How a command tells a run, where it makes one.
+fn form_of(command: Command) -> Option<Form>
+    ensures { result ≡ form_of command }
+{
+    match command {
+        Command::Check => None,
+        Command::Play => Some(Form::Report),
+        Command::Run => Some(Form::Report),
+        Command::Gen { n: _ } => Some(Form::Summary),
+    }
+}
+
+/// The reply to a check of a script that breaks no rule.
 fn checked<P: Parts>(alloc: Global, plan: &Plan, script: &Script, judged: Judged<P>) -> Answered<P>
     requires command { plan.now.command ≡ Command.Check }
     requires judged { IsJudged plan.now script.now judged.found.store judged.base }
-    ensures reply { (given : List P) → IfOk result.reply (λ r. TellsOf (ReadAll P.disks given) plan.now script.now r.status r.text) }
+    ensures reply { (given : List P) → IfOk result.reply (RepliesTo (ReadAll P.disks given) plan.now script.now) }
     ensures parts { vec_len result.parts ≡ parts_in judged.found }
     ensures same { (given : List P) → HasParts P.disks given judged.found → AreSame P.disks given result.parts.items }
 {
     let Judged { base, found } = judged;
     drop(base);
-    unplayed(
-        alloc,
-        says(alloc, Status::Done, b"ok\n"),
-        found.into_parts(),
-    )
+    unplayed(alloc, Ok(Reply::Accepted), found.into_parts())
 }
 
-/// Opens the store for the run that a command asks for. Else the answer, with the parts.
+/// Opens the store for the run that a command asks for. Else the reply, with the parts.
 fn begin_judged<P: Parts>(
     alloc: Global,
     plan: &Plan,
@@ -46,22 +54,20 @@ fn begin_judged<P: Parts>(
     judged: Judged<P>,
 ) -> Result<OpenRun<P>, Answered<P>>
     requires { IsJudged plan.now script judged.found.store judged.base }
-    ensures foretells { (given : List P) → IsStoredBy (ReadAll P.disks given) judged.found.store → IfOk result (λ run. Foretells (TellsOf (ReadAll P.disks given) plan.now script) run.expected) }
+    ensures foretells { (given : List P) → IsStoredBy (ReadAll P.disks given) judged.found.store → IfOk result (λ run. Foretells (RepliesTo (ReadAll P.disks given) plan.now script) run.expected) }
     ensures played { IfOk result (λ run. IsPlayed plan.now.command) }
     ensures count { IfOk result (λ run. parts_of run.cluster ≡ parts_in judged.found) }
-    ensures reply { (given : List P) → IfErr result (λ a. IfOk a.reply (λ r. TellsOf (ReadAll P.disks given) plan.now script r.status r.text)) }
+    ensures reply { (given : List P) → IfErr result (λ a. IfOk a.reply (RepliesTo (ReadAll P.disks given) plan.now script)) }
     ensures parts { IfErr result (λ a. vec_len a.parts ≡ parts_in judged.found) }
     ensures kept { (given : List P) → HasParts P.disks given judged.found → IfErr result (λ a. WritesNothing plan.now.command a.reply → AreSame P.disks given a.parts.items) }
 {
-    match plan.command {
-        Command::Check => {
+    match form_of(plan.command) {
+        Some(form) => open_run(alloc, plan, form, script, judged),
+        None => {
             let answered = checked(alloc, plan, &script, judged);
             drop(script);
             Err(answered)
         }
-        Command::Play => open_run(alloc, plan, Form::Report, script, judged),
-        Command::Run => open_run(alloc, plan, Form::Report, script, judged),
-        Command::Gen { n: _ } => open_run(alloc, plan, Form::Summary, script, judged),
     }
 }
 
@@ -75,10 +81,10 @@ fn begin_script<P: Parts>(
     requires few { HasFew script.setup }
     requires clients { length script.clients ≤ 64 }
     requires events { length script.events ≤ 1000000 }
-    ensures foretells { IfOk result (λ run. Foretells (TellsOf (ReadAll P.disks parts.items) plan.now script) run.expected) }
+    ensures foretells { IfOk result (λ run. Foretells (RepliesTo (ReadAll P.disks parts.items) plan.now script) run.expected) }
     ensures played { IfOk result (λ run. IsPlayed plan.now.command) }
     ensures count { IfOk result (λ run. parts_of run.cluster ≡ vec_len parts) }
-    ensures reply { IfErr result (λ a. IfOk a.reply (λ r. TellsOf (ReadAll P.disks parts.items) plan.now script r.status r.text)) }
+    ensures reply { IfErr result (λ a. IfOk a.reply (RepliesTo (ReadAll P.disks parts.items) plan.now script)) }
     ensures parts { IfErr result (λ a. vec_len a.parts ≡ vec_len parts) }
     ensures kept { IfErr result (λ a. WritesNothing plan.now.command a.reply → AreSame P.disks parts.items a.parts.items) }
 {
@@ -91,7 +97,7 @@ fn begin_script<P: Parts>(
     }
 }
 
-/// Begins what a plan asks for, on the parts: the store is open for the script's run. Else the answer, with the parts:
+/// Begins what a plan asks for, on the parts: the store is open for the script's run. Else the reply, with the parts:
 /// where words, script or store are refused, and behind a check, their disks are as they were.
 pub(crate) fn begin<S: Source, P: Parts>(
     alloc: Global,
@@ -99,15 +105,15 @@ pub(crate) fn begin<S: Source, P: Parts>(
     source: &mut S,
     parts: Vec<P>,
 ) -> Result<OpenRun<P>, Answered<P>>
-    ensures foretells { IfOk result (λ run. Foretells (SaysBy (ReadAll P.disks parts.items) plan.now (vec_len parts) (record { left = S.left source.old; faults = S.faults source.old }) (record { left = S.left source.new; faults = S.faults source.new })) run.expected) }
+    ensures foretells { IfOk result (λ run. Foretells (Says (ReadAll P.disks parts.items) (IsHanded plan.now (vec_len parts)) (IsForOthers plan.now (vec_len parts)) (told_by S.left S.faults source.old) (told_by S.left S.faults source.new)) run.expected) }
     ensures played { IfOk result (λ run. IsPlayed plan.now.command) }
     ensures count { IfOk result (λ run. parts_of run.cluster ≡ vec_len parts) }
-    ensures reply { IfErr result (λ a. IfOk a.reply (λ r. SaysBy (ReadAll P.disks parts.items) plan.now (vec_len parts) (record { left = S.left source.old; faults = S.faults source.old }) (record { left = S.left source.new; faults = S.faults source.new }) r.status r.text)) }
+    ensures reply { IfErr result (λ a. IfOk a.reply (Says (ReadAll P.disks parts.items) (IsHanded plan.now (vec_len parts)) (IsForOthers plan.now (vec_len parts)) (told_by S.left S.faults source.old) (told_by S.left S.faults source.new))) }
     ensures parts { IfErr result (λ a. vec_len a.parts ≡ vec_len parts) }
     ensures kept { IfErr result (λ a. WritesNothing plan.now.command a.reply → AreSame P.disks parts.items a.parts.items) }
 {
     if !are_parts_of(plan, parts.as_slice()) {
-        return Err(untouched(alloc, says(alloc, Status::Words, b"words\n"), parts));
+        return Err(untouched(alloc, Ok(Reply::Words), parts));
     }
     match script_of(alloc, plan, source) {
         Ok(script) => begin_script(alloc, plan, script, parts),

@@ -4,20 +4,14 @@
 mod answering;
 mod beginning;
 mod expected;
-mod finding;
 mod in_turn;
-mod judging;
 mod opening;
 mod performing;
-mod reading;
-mod starting;
 mod telling;
 mod top;
-mod unopened;
-mod writing;
 
 pub use performing::perform;
-pub use reading::SCRIPT_LIMIT;
 pub use top::thor;
-pub use top_reply::Status;
-pub use top_statement::Outcome;
+pub use top_judging::SCRIPT_LIMIT;
+pub use top_reply::{Reply, Status};
+pub use top_statement::{Outcome, StoreParts};

@@ -1,28 +1,26 @@
 //! The store that was found is opened for a script's run.
 
-ghost use Rattle.top_reply.specs.Texts.{TellsUnsettled};
 ghost use Rattle.cluster_core.specs.Counts.{parts_of, schemas_of};
-ghost use Rattle.top_statement.specs.Opening.{IsBase, IsStore};
-ghost use Rattle.top_statement.specs.Reports.{TellsRun};
 ghost use Rattle.script_check.specs.Upgrading.{extended, upgrades_of};
 ghost use Rattle.serial_model.specs.Replays.{AreMade};
-ghost use Rattle.std.specs.Prelude.{IfErr, IfOk, IfSome, List, None, length, vec_len, ◌≡◌, ℕ};
+ghost use Rattle.std.specs.Prelude.{IfErr, IfOk, List, vec_len, ◌≡◌, ℕ};
 ghost use Rattle.store_opening.specs.Counts.{parts_in};
-ghost use Rattle.store_opening.specs.Reading.{IsOpened, IsStoredIn, ReadAll};
-ghost use Rattle.thor_top.specs.Stages.{Foretells, HasSchemas, IsJudged, IsOpenedAs, IsStoredBy};
+ghost use Rattle.store_opening.specs.Reading.{IsStoredIn, ReadAll};
+ghost use Rattle.thor_top.specs.Stages.{Foretells, RepliesRun};
 ghost use Rattle.thor_value.specs.FiniteMap.{IsSorted};
+ghost use Rattle.top_judging.specs.Stages.{IsJudged, IsOpenedAs, IsStoredBy, RepliesUnsettled};
+ghost use Rattle.top_statement.specs.Opening.{IsStore};
 
-use crate::expected::{Expected, OpenedStore};
-use crate::finding::Judged;
-use crate::unopened::unsettled;
-use class_defs::{Plain, Schemas, Setup};
+use crate::expected::Expected;
+use class_defs::{Schemas, Setup};
 use cluster_core::{Cluster, Plan as Run, Start};
 use disk_trait::Parts;
-use script_check::{opened_store, roots_of, with_upgrades};
+use script_check::roots_of;
 use script_parse::Script;
 use std::alloc::Global;
 use store_opening::{ClusterFault, Found};
 use thor_value::{NoMemory, TryCopy, both};
+use top_judging::{Judged, OpenedStore, opened_of, unsettled};
 use top_reply::Form;
 use top_statement::{Answered, unplayed};
 use top_words::Plan;
@@ -32,49 +30,6 @@ pub struct OpenRun<P: Parts> {
     pub cluster: Cluster<P>,
     /// What the run is compared with before it is told.
     pub expected: Expected,
-}
-
-/// The store with which the run begins; `None` where the store that was found has another epoch than its schemas.
-fn store_of<P: Parts>(
-    alloc: Global,
-    script: &Script,
-    base: &Schemas,
-    found: &Found<P>,
-) -> Result<Option<Plain>, NoMemory>
-    requires base { IsBase script.now.setup base.now }
-    requires made { AreMade base.now }
-    requires schemas { HasSchemas script.now.setup found.now.store base.now }
-    ensures store { IfOk result (λ store. IfSome store (IsStore script.now.setup base.now)) }
-    ensures sorted { IfOk result (λ store. IfSome store (λ s. IsSorted s.objects)) }
-    ensures opened { (images : List (ℕ → List ℕ)) → IsStoredIn images found.now.store → IfOk result (λ store. IfSome store (IsOpenedAs images script.now.setup base.now)) }
-{
-    match &script.setup {
-        Some(_) => Ok(Some(opened_store(alloc, &base.first)?)),
-        None => stored(alloc, base, found),
-    }
-}
-
-/// The store as it was found; `None` where it has another epoch than its schemas.
-fn stored<P: Parts>(
-    alloc: Global,
-    base: &Schemas,
-    found: &Found<P>,
-) -> Result<Option<Plain>, NoMemory>
-    requires { HasSchemas None found.now.store base.now }
-    ensures epoch { IfOk result (λ store. IfSome store (λ s. s.epoch ≡ length base.now.upgraded)) }
-    ensures sorted { IfOk result (λ store. IfSome store (λ s. IsSorted s.objects)) }
-    ensures opened { (images : List (ℕ → List ℕ)) → IsStoredIn images found.now.store → IfOk result (λ store. IfSome store (IsOpened images base.now)) }
-{
-    match found.opened(alloc)? {
-        Some(store) => {
-            if store.epoch as usize == base.upgraded.len() {
-                Ok(Some(store))
-            } else {
-                Ok(None)
-            }
-        }
-        None => Ok(None),
-    }
 }
 
 /// With what a store is opened: with the setup of the script, where it has one.
@@ -111,31 +66,6 @@ fn run_of(
     })
 }
 
-/// The store with which the run begins, under the schemas behind the script's upgrades; `None` where the store that was
-/// found has another epoch than its schemas.
-fn opened_of<P: Parts>(
-    alloc: Global,
-    script: &Script,
-    base: &Schemas,
-    found: &Found<P>,
-) -> Result<Option<OpenedStore>, NoMemory>
-    requires base { IsBase script.now.setup base.now }
-    requires made { AreMade base.now }
-    requires schemas { HasSchemas script.now.setup found.now.store base.now }
-    ensures schemas { IfOk result (λ opened. IfSome opened (λ o. o.schemas ≡ extended base.now (upgrades_of script.now.clients))) }
-    ensures store { IfOk result (λ opened. IfSome opened (λ o. IsStore script.now.setup base.now o.store)) }
-    ensures sorted { IfOk result (λ opened. IfSome opened (λ o. IsSorted o.store.objects)) }
-    ensures opened { (images : List (ℕ → List ℕ)) → IsStoredIn images found.now.store → IfOk result (λ opened. IfSome opened (λ o. IsOpenedAs images script.now.setup base.now o.store)) }
-{
-    match store_of(alloc, script, base, found)? {
-        Some(store) => Ok(Some(OpenedStore {
-            schemas: with_upgrades(alloc, base.copy()?, script.clients.as_slice())?,
-            store,
-        })),
-        None => Ok(None),
-    }
-}
-
 /// What a run takes: the store with which it begins, and what it is asked for.
 fn prepared<P: Parts>(
     alloc: Global,
@@ -160,7 +90,7 @@ fn prepared<P: Parts>(
     }
 }
 
-/// Opens the store that was found. Else the answer, with the parts.
+/// Opens the store that was found. Else the reply, with the parts.
 fn open<P: Parts>(
     alloc: Global,
     run: Run,
@@ -171,20 +101,20 @@ fn open<P: Parts>(
     ensures same { IfOk result (λ run. schemas_of run.cluster ≡ run.expected.opened.schemas) }
     ensures expected { IfOk result (λ run. run.expected ≡ expected) }
     ensures count { IfOk result (λ run. parts_of run.cluster ≡ parts_in found) }
-    ensures reply { IfErr result (λ a. IfOk a.reply (λ r. TellsUnsettled r.status r.text)) }
+    ensures reply { IfErr result (λ a. IfOk a.reply RepliesUnsettled) }
     ensures parts { IfErr result (λ a. vec_len a.parts ≡ parts_in found) }
 {
     match Cluster::open(alloc, found, run) {
         Ok(cluster) => Ok(OpenRun { cluster, expected }),
         Err(ClusterFault { parts, why }) => {
             drop(expected);
-            Err(unplayed(alloc, unsettled(alloc, why), parts))
+            Err(unplayed(alloc, unsettled(why), parts))
         }
     }
 }
 
 /// Opens the store that was found for the run of a script that breaks no rule on it, to be told in a form. Else the
-/// answer, with the parts.
+/// reply, with the parts.
 pub(crate) fn open_run<P: Parts>(
     alloc: Global,
     plan: &Plan,
@@ -193,10 +123,10 @@ pub(crate) fn open_run<P: Parts>(
     judged: Judged<P>,
 ) -> Result<OpenRun<P>, Answered<P>>
     requires { IsJudged plan.now script judged.found.store judged.base }
-    ensures foretells { (given : List P) → IsStoredBy (ReadAll P.disks given) judged.found.store → IfOk result (λ run. Foretells (TellsRun (ReadAll P.disks given) form plan.now.repos script) run.expected) }
+    ensures foretells { (given : List P) → IsStoredBy (ReadAll P.disks given) judged.found.store → IfOk result (λ run. Foretells (RepliesRun (ReadAll P.disks given) form plan.now.repos script) run.expected) }
     ensures same { IfOk result (λ run. schemas_of run.cluster ≡ run.expected.opened.schemas) }
     ensures count { IfOk result (λ run. parts_of run.cluster ≡ parts_in judged.found) }
-    ensures reply { IfErr result (λ a. IfOk a.reply (λ r. TellsUnsettled r.status r.text)) }
+    ensures reply { IfErr result (λ a. IfOk a.reply RepliesUnsettled) }
     ensures parts { IfErr result (λ a. vec_len a.parts ≡ parts_in judged.found) }
 {
     let Judged { base, found } = judged;

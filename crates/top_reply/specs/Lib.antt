@@ -1,3 +1,4 @@
+pub mod Replies
 pub mod Reports
 pub mod Statuses
 pub mod Texts

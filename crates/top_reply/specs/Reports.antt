@@ -18,11 +18,10 @@ use Rattle.serial_model.specs.declared.outcomes.Cause.TheVariants as cause
 use Rattle.serial_model.specs.declared.outcomes.Ended.{Ended}
 use Rattle.serial_model.specs.declared.outcomes.ItemOutcome.{ItemOutcome}
 use Rattle.serial_model.specs.declared.outcomes.ItemOutcome.TheVariants.{Done, Upgraded, Faulted, Refused, Unknown}
-use Rattle.top_reply.specs.Texts.{TellsUnopened}
+use Rattle.top_reply.specs.Replies.{run_reply}
 use Rattle.top_reply.specs.declared.form.Form.{Form}
 use Rattle.top_reply.specs.declared.form.Form.TheVariants as form
-use Rattle.top_reply.specs.declared.status.Status.{Status}
-use Rattle.top_reply.specs.declared.status.Status.TheVariants as status
+use Rattle.top_reply.specs.declared.reply.Reply.{Reply}
 
 -- whether an item was done or ended in a fault
 abbrev pub is_finished_as : ItemOutcome → Bool
@@ -108,33 +107,6 @@ pub record IsRun (form : Form) (schemas : Schemas) (store : Plain) (script : Scr
   pub written_out : text ≡ run_text form schemas store ended history
   pub tells : TellsAs form ended history text
 
--- the status of a report, by whether all items were finished
-abbrev pub status_of : Bool → Status
-status_of true = status.Done
-status_of false = status.Unfinished
-
--- the status tells whether all items were finished
-abbrev pub IsReported : Form → Schemas → Plain → Script → Status → List ℕ → Type 0
-IsReported form schemas store script status.Done text = IsRun form schemas store script true text
-IsReported form schemas store script status.Unfinished text = IsRun form schemas store script false text
-IsReported form schemas store script status.Words text = ⊥
-IsReported form schemas store script status.Script text = ⊥
-IsReported form schemas store script status.SourceFault text = ⊥
-IsReported form schemas store script status.SinkFault text = ⊥
-IsReported form schemas store script status.DiskFault text = ⊥
-IsReported form schemas store script status.Damaged text = ⊥
-IsReported form schemas store script status.Limit text = ⊥
-IsReported form schemas store script status.NoMemory text = ⊥
-
--- what the status and its text tell of a store that was to be opened
-abbrev pub TellsOpened : Form → Schemas → Plain → Script → Status → List ℕ → Type 0
-TellsOpened form schemas store script status.Done text = IsRun form schemas store script true text
-TellsOpened form schemas store script status.Unfinished text = IsRun form schemas store script false text
-TellsOpened form schemas store script status.DiskFault text = TellsUnopened status.DiskFault text
-TellsOpened form schemas store script status.Damaged text = ⊥
-TellsOpened form schemas store script status.Words text = ⊥
-TellsOpened form schemas store script status.Script text = ⊥
-TellsOpened form schemas store script status.SourceFault text = ⊥
-TellsOpened form schemas store script status.SinkFault text = ⊥
-TellsOpened form schemas store script status.Limit text = ⊥
-TellsOpened form schemas store script status.NoMemory text = ⊥
+-- the reply tells a run in this form
+abbrev pub IsReported : Form → Schemas → Plain → Script → Reply → Type 0
+IsReported form schemas store script r = (finished : Bool) × ((text : List ℕ) × ((r ≡ run_reply form finished text) × IsRun form schemas store script finished text))

@@ -5,12 +5,12 @@ ghost use Rattle.std.specs.List.{list_all, list_any};
 ghost use Rattle.serial_model.specs.History.{IsLegal, after};
 ghost use Rattle.class_defs.specs.declared.store.Plain.{Plain};
 ghost use Rattle.top_reply.specs.Reports as spec;
-ghost use Rattle.top_reply.specs.Reports.{IsReported, TellsAs};
+ghost use Rattle.top_reply.specs.Replies.{run_reply};
+ghost use Rattle.top_reply.specs.Reports.{IsReported, IsRun, TellsAs};
 ghost use Rattle.thor_value.specs.FiniteMap.{IsSorted};
 
 use crate::form::Form;
 use crate::reply::Reply;
-use crate::status::Status;
 use base_reasons::Reason;
 use class_defs::{Plain, Schemas};
 use report_summary::{accounts_sum, print_summary};
@@ -18,6 +18,7 @@ use report_text::print_report;
 use script_parse::{Items, Script};
 use serial_model::{Cause, Ended, Ends, ItemOutcome, are_made};
 use std::alloc::Global;
+use std::mem;
 use thor_value::{NoMemory, Text};
 use top_history_check::{CheckedHistory, Lines, checked_history};
 
@@ -132,17 +133,6 @@ fn is_unhindered(script: &Script, ends: &[Ended]) -> bool
     !runs_alone(script) || end_at_once(ends)
 }
 
-/// The status of a report, by whether all items are finished.
-fn status_of(finished: bool) -> Status
-    ensures { result ≡ spec.status_of finished }
-{
-    if finished {
-        Status::Done
-    } else {
-        Status::Unfinished
-    }
-}
-
 /// The text of a run whose history was checked.
 fn run_text(
     alloc: Global,
@@ -163,7 +153,55 @@ fn run_text(
     }
 }
 
-/// What is told of a run, where its history is a serial one from the store and answers the items. Where it isn't,
+/// The text of a run, and whether all its items are finished.
+#[derive(Drop)]
+struct ToldRun {
+    finished: bool,
+    text: Text,
+}
+
+/// A run in a form, where its history is a serial one from the store and answers the items. Else the answer is that of
+/// want of memory.
+fn told_run(
+    alloc: Global,
+    form: Form,
+    schemas: &Schemas,
+    store: &Plain,
+    script: &Script,
+    lines: Lines,
+    ends: &Ends,
+) -> Result<ToldRun, NoMemory>
+    requires { IsSorted store.now.objects }
+    ensures { IfOk result (λ run. IsRun form schemas.now store.now script.now run.finished run.text) }
+{
+    if !are_made(schemas) || !is_unhindered(script, ends.as_slice()) {
+        return Err(NoMemory);
+    }
+    match checked_history(alloc, schemas, store, &script.clients, lines, ends)? {
+        Some(checked) => {
+            let text = run_text(alloc, form, schemas, ends, &checked);
+            mem::forget(checked);
+            Ok(ToldRun {
+                finished: are_finished(ends.as_slice()),
+                text: text?,
+            })
+        }
+        None => Err(NoMemory),
+    }
+}
+
+/// The reply that tells a run in a form.
+fn run_reply(form: Form, run: ToldRun) -> Reply
+    ensures { result ≡ run_reply form run.finished run.text }
+{
+    let ToldRun { finished, text } = run;
+    match form {
+        Form::Report => Reply::Report { finished, text },
+        Form::Summary => Reply::Summary { finished, text },
+    }
+}
+
+/// What is replied of a run, where its history is a serial one from the store and answers the items. Where it isn't,
 /// nothing is told: the answer is that of want of memory.
 pub fn report(
     alloc: Global,
@@ -175,16 +213,8 @@ pub fn report(
     ends: &Ends,
 ) -> Result<Reply, NoMemory>
     requires { IsSorted store.now.objects }
-    ensures { IfOk result (λ reply. IsReported form schemas.now store.now script.now reply.status reply.text) }
+    ensures { IfOk result (IsReported form schemas.now store.now script.now) }
 {
-    if !are_made(schemas) || !is_unhindered(script, ends.as_slice()) {
-        return Err(NoMemory);
-    }
-    match checked_history(alloc, schemas, store, &script.clients, lines, ends)? {
-        Some(checked) => Ok(Reply {
-            status: status_of(are_finished(ends.as_slice())),
-            text: run_text(alloc, form, schemas, ends, &checked)?,
-        }),
-        None => Err(NoMemory),
-    }
+    let run = told_run(alloc, form, schemas, store, script, lines, ends)?;
+    Ok(run_reply(form, run))
 }

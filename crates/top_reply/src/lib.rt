@@ -5,8 +5,10 @@ mod checking;
 mod form;
 mod reply;
 mod status;
+mod texts;
 
 pub use checking::report;
 pub use form::Form;
-pub use reply::{Reply, damaged, failed, limited, refused, says};
+pub use reply::Reply;
 pub use status::Status;
+pub use texts::{damaged_text, disk_text, limit_text, status_of};

@@ -1,34 +1,29 @@
--- Which answers leave the disks as they were (this project's): those that refuse the words, the script or the store, and
--- whatever a check answers.
-use Rattle.std.specs.Prelude.{Result, Ok, Err}
+-- Which replies leave the disks as they were (this project's): those that refuse the words, the script or the store, and
+-- whatever a check replies.
+use Rattle.std.specs.Prelude.{◌≡◌, ◌⊎◌, None, Result, Ok, Err}
 use Rattle.top_words.specs.declared.command.Command.{Command}
-use Rattle.top_words.specs.declared.command.Command.TheVariants.{Check, Play, Run, Gen}
 use Rattle.top_reply.specs.declared.reply.Reply.{Reply}
-use Rattle.top_reply.specs.declared.status.Status.{Status}
-use Rattle.top_reply.specs.declared.status.Status.TheVariants as status
+use Rattle.top_reply.specs.declared.reply.Reply.TheVariants as reply
 use Rattle.thor_value.specs.declared.memory.NoMemory.{NoMemory}
+use Rattle.top_statement.specs.Top.{form_of}
 
 -- the words, the script or the store is refused, or the script couldn't be read
-abbrev pub Refuses : Status → Type 0
-Refuses status.Words = Unit {0}
-Refuses status.Script = Unit {0}
-Refuses status.SourceFault = Unit {0}
-Refuses status.Damaged = Unit {0}
-Refuses status.Limit = Unit {0}
-Refuses status.Done = ⊥
-Refuses status.Unfinished = ⊥
-Refuses status.SinkFault = ⊥
-Refuses status.DiskFault = ⊥
-Refuses status.NoMemory = ⊥
+abbrev pub Refuses : Reply → Type 0
+Refuses (reply.Report finished text) = ⊥
+Refuses (reply.Summary finished text) = ⊥
+Refuses reply.Accepted = ⊥
+Refuses (reply.Refused refusal) = Unit {0}
+Refuses (reply.Limit limit) = Unit {0}
+Refuses (reply.DiskFault repo) = ⊥
+Refuses (reply.Damaged repo disk place) = Unit {0}
+Refuses reply.Words = Unit {0}
+Refuses reply.SourceFault = Unit {0}
 
 -- what is to be written refuses something
 abbrev pub RefusesBy : Result Reply NoMemory → Type 0
-RefusesBy (Ok reply) = Refuses reply.status
+RefusesBy (Ok r) = Refuses r
 RefusesBy (Err e) = ⊥
 
--- A command with this answer writes nothing to a disk: a check never does, and a run that is refused doesn't begin.
+-- A command with this reply writes nothing to a disk: one that makes no run never does, and a run that is refused doesn't begin.
 abbrev pub WritesNothing : Command → Result Reply NoMemory → Type 0
-WritesNothing Check r = Unit {0}
-WritesNothing Play r = RefusesBy r
-WritesNothing Run r = RefusesBy r
-WritesNothing (Gen n) r = RefusesBy r
+WritesNothing command r = (form_of command ≡ None) ⊎ RefusesBy r

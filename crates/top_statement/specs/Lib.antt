@@ -2,3 +2,4 @@ pub mod Kept
 pub mod Opening
 pub mod Reports
 pub mod Top
+pub mod Written

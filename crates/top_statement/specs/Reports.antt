@@ -1,10 +1,7 @@
 -- What the program tells of an accepted script's run (this project's).
-use Rattle.std.specs.Prelude.{Bool, List, false, true, ℕ}
+use Rattle.std.specs.Prelude.{Bool, List, ℕ}
 use Rattle.top_reply.specs.Reports.{IsRun}
-use Rattle.top_reply.specs.Texts.{TellsUnopened}
 use Rattle.top_reply.specs.declared.form.Form.{Form}
-use Rattle.top_reply.specs.declared.status.Status.{Status}
-use Rattle.top_reply.specs.declared.status.Status.TheVariants as status
 use Rattle.class_defs.specs.declared.store.Plain.{Plain}
 use Rattle.class_defs.specs.declared.store.Schemas.{Schemas}
 use Rattle.top_statement.specs.Opening.{DiskBytes, IsAccepted, IsOfDisks, IsStore}
@@ -19,16 +16,3 @@ pub record IsReport (DiskReads : DiskBytes) (form : Form) (repos : ℕ) (script 
   pub store_is : IsStore script.setup base store
   pub of_disks : IsOfDisks DiskReads script.setup base store
   pub run : IsRun form (extended base (upgrades_of script.clients)) store script finished text
-
--- what the status and its text tell of a run
-abbrev pub TellsRun : DiskBytes → Form → ℕ → Script → Status → List ℕ → Type 0
-TellsRun DiskReads form repos script status.Done text = IsReport DiskReads form repos script true text
-TellsRun DiskReads form repos script status.Unfinished text = IsReport DiskReads form repos script false text
-TellsRun DiskReads form repos script status.DiskFault text = TellsUnopened status.DiskFault text
-TellsRun DiskReads form repos script status.Damaged text = ⊥
-TellsRun DiskReads form repos script status.Words text = ⊥
-TellsRun DiskReads form repos script status.Script text = ⊥
-TellsRun DiskReads form repos script status.SourceFault text = ⊥
-TellsRun DiskReads form repos script status.SinkFault text = ⊥
-TellsRun DiskReads form repos script status.Limit text = ⊥
-TellsRun DiskReads form repos script status.NoMemory text = ⊥

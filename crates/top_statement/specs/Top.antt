@@ -1,57 +1,109 @@
--- What the program says (this project's): for each status the text that the sink takes, and when it comes.
-use Rattle.std.specs.Prelude.{◌≡◌, ◌⊎◌, ℕ, List, [], ◌∷◌, Option, Some, codes, ◌++◌, ◌≤◌, ◌<◌, length, true, false}
+-- What the program replies (this project's): for each reply what is true where it is given.
+use Rattle.std.specs.Prelude.{◌≡◌, ◌⊎◌, ℕ, Bool, List, Option, None, Some, length, ◌≤◌, ◌<◌}
 use Rattle.script_bank.specs.Bank.{script_text}
 use Rattle.outside.specs.Faults.{Rose}
-use Rattle.outside.specs.Streams.{IsAtEnd, IsMoreThan, Put, PutFront, Took}
+use Rattle.outside.specs.Streams.{IsAtEnd, IsMoreThan, Took}
 use Rattle.class_defs.specs.declared.store.Schemas.{Schemas}
 use Rattle.script_check.specs.Judging.{BreaksRule}
 use Rattle.script_check.specs.Upgrading.{last_schema, upgrades_of}
-use Rattle.script_parse.specs.Refusals.{refusal_text}
 use Rattle.script_parse.specs.Script.{IsRefusedText, IsWritten}
 use Rattle.script_parse.specs.declared.refusal.Refusal.{Refusal}
 use Rattle.script_parse.specs.declared.refusal.Refusal.TheVariants as refusal
 use Rattle.script_parse.specs.declared.script.Script.{Script}
 use Rattle.top_statement.specs.Opening.{DiskBytes, IsAccepted, IsBase}
 use Rattle.top_statement.specs.Reports.{IsReport}
-use Rattle.top_reply.specs.Texts.{TellsUnopened, limit_text}
 use Rattle.top_words.specs.Words.{plan_of}
 use Rattle.top_words.specs.declared.command.Command.{Command}
 use Rattle.top_words.specs.declared.command.Command.TheVariants.{Check, Play, Run, Gen}
 use Rattle.top_words.specs.declared.command.Plan.{Plan}
+use Rattle.top_reply.specs.declared.form.Form.{Form}
 use Rattle.top_reply.specs.declared.form.Form.TheVariants as form
-use Rattle.top_reply.specs.declared.status.Status.{Status}
-use Rattle.top_reply.specs.declared.status.Status.TheVariants as status
+use Rattle.top_reply.specs.declared.reply.Reply.{Reply}
+use Rattle.top_reply.specs.declared.reply.Reply.TheVariants as reply
 
--- ---- accepted scripts
+-- ---- what is read
 
--- the script breaks no rule over so many repositories, on the store that was found
-pub record IsChecked (repos : ℕ) (script : Script) (text : List ℕ) : Type 0 where
-  pub base : Schemas
-  pub accepted : IsAccepted repos script base
-  pub written_out : text ≡ codes "ok" ++ 10 ∷ []
+-- what a source tells: the bytes that it has left, where it tells them, and how many faults it counted
+pub record Told : Type 0 where
+  pub left : Option (List ℕ)
+  pub faults : ℕ
 
--- what a command writes of an accepted script, where all items are finished
-abbrev pub IsDone : DiskBytes → Command → ℕ → Script → List ℕ → Type 0
-IsDone DiskReads Check repos script text = IsChecked repos script text
-IsDone DiskReads Play repos script text = IsReport DiskReads form.Report repos script true text
-IsDone DiskReads Run repos script text = IsReport DiskReads form.Report repos script true text
-IsDone DiskReads (Gen n) repos script text = IsReport DiskReads form.Summary repos script true text
+-- what a source tells now, by what its trait tells
+abbrev pub told_by : {S : Type 0} → (S → Option (List ℕ)) → (S → ℕ) → S → Told
+told_by left faults source = record { left = left source; faults = faults source }
 
--- and where one was refused
-abbrev pub IsUnfinished : DiskBytes → Command → ℕ → Script → List ℕ → Type 0
-IsUnfinished DiskReads Check repos script text = ⊥
-IsUnfinished DiskReads Play repos script text = IsReport DiskReads form.Report repos script false text
-IsUnfinished DiskReads Run repos script text = IsReport DiskReads form.Report repos script false text
-IsUnfinished DiskReads (Gen n) repos script text = IsReport DiskReads form.Summary repos script false text
+-- the source was read to its end, and these were all its bytes, where it tells them; they are no more than a script
+-- may have
+pub record WasRead (before after : Option (List ℕ)) (bytes : List ℕ) : Type 0 where
+  pub took : Took before bytes after
+  pub at_end : IsAtEnd after
+  pub short : length bytes ≤ 8388608
 
--- ---- refused scripts
+-- the number of the generated script that a command runs; the others read theirs from the source
+abbrev pub made_by : Command → Option ℕ
+made_by Check = None
+made_by Play = None
+made_by Run = None
+made_by (Gen n) = Some n
 
--- A script is refused where it has no setup and the store is fresh, or has one and the store isn't; else where it breaks a rule
--- on the store.
-abbrev pub IsRefused : ℕ → Script → Refusal → Type 0
-IsRefused repos script r = (r ≡ refusal.Setup) ⊎ ((base : Schemas) × (IsBase script.setup base × BreaksRule (last_schema base) repos script r))
+-- the command reads its script from the source
+abbrev pub Reads : Command → Type 0
+Reads command = made_by command ≡ None
 
--- ---- what is said
+-- The bytes that are taken for a script: the source is read to its end; or they are those of the generated one, and the source
+-- is as it was.
+abbrev pub HasBytes : Option ℕ → ℕ → Told → Told → List ℕ → Type 0
+HasBytes None repos before after bytes = WasRead before.left after.left bytes
+HasBytes (Some n) repos before after bytes = (after ≡ before) × (bytes ≡ script_text n repos)
+
+-- how a command tells a run, where it makes one
+abbrev pub form_of : Command → Option Form
+form_of Check = None
+form_of Play = Some form.Report
+form_of Run = Some form.Report
+form_of (Gen n) = Some form.Summary
+
+-- these bytes were taken for a script, and this is true of them
+pub record OfBytes (plan : Plan) (before after : Told) (Of : List ℕ → Type 0) : Type 0 where
+  pub bytes : List ℕ
+  pub has : HasBytes (made_by plan.command) plan.repos before after bytes
+  pub says : Of bytes
+
+-- they are this script, and this is true of it
+pub record OfScript (plan : Plan) (before after : Told) (Of : Script → Type 0) : Type 0 where
+  pub script : Script
+  pub bytes : List ℕ
+  pub has : HasBytes (made_by plan.command) plan.repos before after bytes
+  pub written : IsWritten bytes script
+  pub says : Of script
+
+-- ---- which plan
+
+-- the words are a plan for so many repositories
+pub record IsPlan (words : List (List ℕ)) (count : ℕ) (plan : Plan) : Type 0 where
+  pub words_are : plan_of words ≡ Some plan
+  pub repos_are : plan.repos ≡ count
+
+-- the words are no plan, or one for another number of repositories
+abbrev pub IsNoPlan : List (List ℕ) → ℕ → Type 0
+IsNoPlan words count = (plan : Plan) → IsPlan words count plan → ⊥
+
+-- a plan that is handed in, for as many repositories as there are
+pub record IsHanded (handed : Plan) (count : ℕ) (plan : Plan) : Type 0 where
+  pub same : plan ≡ handed
+  pub repos_are : plan.repos ≡ count
+
+-- or for another number of them
+abbrev pub IsForOthers : Plan → ℕ → Type 0
+IsForOthers plan count = (plan.repos ≡ count) → ⊥
+
+-- there is a plan like this, and this is true by it
+pub record ByPlan (Like : Plan → Type 0) (Of : Plan → Type 0) : Type 0 where
+  pub plan : Plan
+  pub is : Like plan
+  pub says : Of plan
+
+-- ---- limits
 
 -- at most 64 clients, at most 1,000,000 events, and at most 1,000 upgrades
 pub record IsWithinLimits (script : Script) : Type 0 where
@@ -70,112 +122,82 @@ IsOverLimit script limit =
     ⊎ (((length script.clients ≤ 64) × (1000000 < length script.events) × (limit ≡ 1000000))
     ⊎ ((length script.clients ≤ 64) × (length script.events ≤ 1000000) × IsOverStore limit))
 
--- what the status and its text tell of a script that was read
-abbrev pub TellsOf : DiskBytes → Plan → Script → Status → List ℕ → Type 0
-TellsOf DiskReads plan script status.Done text = IsWithinLimits script × IsDone DiskReads plan.command plan.repos script text
-TellsOf DiskReads plan script status.Unfinished text = IsWithinLimits script × IsUnfinished DiskReads plan.command plan.repos script text
-TellsOf DiskReads plan script status.Script text = IsWithinLimits script × ((r : Refusal) × (IsRefused plan.repos script r × (text ≡ refusal_text r)))
-TellsOf DiskReads plan script status.Limit text = (limit : ℕ) × (IsOverLimit script limit × (text ≡ limit_text limit))
-TellsOf DiskReads plan script status.DiskFault text = TellsUnopened status.DiskFault text
-TellsOf DiskReads plan script status.Damaged text = TellsUnopened status.Damaged text
-TellsOf DiskReads plan script status.Words text = ⊥
-TellsOf DiskReads plan script status.SourceFault text = ⊥
-TellsOf DiskReads plan script status.SinkFault text = ⊥
-TellsOf DiskReads plan script status.NoMemory text = ⊥
+-- the source has more bytes than a script may have
+abbrev pub IsTooLong : Command → Told → ℕ → Type 0
+IsTooLong command before limit = Reads command × (IsMoreThan 8388608 before.left × (limit ≡ 8388608))
 
--- what the status and its text tell of bytes that are no script
-abbrev pub TellsRefused : List ℕ → Status → List ℕ → Type 0
-TellsRefused bytes status.Script text = (r : Refusal) × (IsRefusedText bytes r × (text ≡ refusal_text r))
-TellsRefused bytes status.Done text = ⊥
-TellsRefused bytes status.Unfinished text = ⊥
-TellsRefused bytes status.Limit text = ⊥
-TellsRefused bytes status.DiskFault text = ⊥
-TellsRefused bytes status.Damaged text = ⊥
-TellsRefused bytes status.Words text = ⊥
-TellsRefused bytes status.SourceFault text = ⊥
-TellsRefused bytes status.SinkFault text = ⊥
-TellsRefused bytes status.NoMemory text = ⊥
+-- ---- what is true of a plan's script, by the reply
 
--- what they tell of a script's bytes
-abbrev pub Tells : DiskBytes → Plan → List ℕ → Status → List ℕ → Type 0
-Tells DiskReads plan bytes s text = TellsRefused bytes s text ⊎ ((script : Script) × (IsWritten bytes script × TellsOf DiskReads plan script s text))
+-- the command tells runs in this form, and the text is that of the script's run
+abbrev pub IsRunOf : DiskBytes → Form → Plan → Script → Bool → List ℕ → Type 0
+IsRunOf DiskReads f plan script finished text = (form_of plan.command ≡ Some f) × (IsWithinLimits script × IsReport DiskReads f plan.repos script finished text)
 
--- the source was read to its end, and these were all its bytes, where it tells them; they are no more than a script
--- may have
-pub record WasRead (before after : Option (List ℕ)) (bytes : List ℕ) : Type 0 where
-  pub took : Took before bytes after
-  pub at_end : IsAtEnd after
-  pub short : length bytes ≤ 8388608
+-- the command is `check`, and the script breaks no rule on the store that was found
+abbrev pub IsCheckOf : Plan → Script → Type 0
+IsCheckOf plan script = (plan.command ≡ Check) × (IsWithinLimits script × ((base : Schemas) × IsAccepted plan.repos script base))
 
--- what a source tells: the bytes that it has left, where it tells them, and how many faults it counted
-pub record Told : Type 0 where
-  pub left : Option (List ℕ)
-  pub faults : ℕ
+-- A script is refused where it has no setup and the store is fresh, or has one and the store isn't; else where it breaks a rule
+-- on the store.
+abbrev pub IsRefused : ℕ → Script → Refusal → Type 0
+IsRefused repos script r = (r ≡ refusal.Setup) ⊎ ((base : Schemas) × (IsBase script.setup base × BreaksRule (last_schema base) repos script r))
 
--- what is told of the bytes of the source
-abbrev pub TellsBytes : DiskBytes → Plan → Told → Told → Status → List ℕ → Type 0
-TellsBytes DiskReads plan before after s text = (bytes : List ℕ) × (WasRead before.left after.left bytes × Tells DiskReads plan bytes s text)
+abbrev pub IsRefusalOf : Plan → Script → Refusal → Type 0
+IsRefusalOf plan script r = IsWithinLimits script × IsRefused plan.repos script r
 
--- what is told of the script that the source gives
-abbrev pub SaysRead : DiskBytes → Plan → Told → Told → Status → List ℕ → Type 0
-SaysRead DiskReads plan before after status.Done text = TellsBytes DiskReads plan before after status.Done text
-SaysRead DiskReads plan before after status.Unfinished text = TellsBytes DiskReads plan before after status.Unfinished text
-SaysRead DiskReads plan before after status.Script text = TellsBytes DiskReads plan before after status.Script text
-SaysRead DiskReads plan before after status.Limit text = TellsBytes DiskReads plan before after status.Limit text ⊎ (IsMoreThan 8388608 before.left × (text ≡ limit_text 8388608))
-SaysRead DiskReads plan before after status.DiskFault text = TellsBytes DiskReads plan before after status.DiskFault text
-SaysRead DiskReads plan before after status.Damaged text = TellsBytes DiskReads plan before after status.Damaged text
-SaysRead DiskReads plan before after status.SourceFault text = Rose before.faults after.faults × (text ≡ codes "source" ++ 10 ∷ [])
-SaysRead DiskReads plan before after status.Words text = ⊥
-SaysRead DiskReads plan before after status.SinkFault text = ⊥
-SaysRead DiskReads plan before after status.NoMemory text = ⊥
+-- a reply to a script that was read: what is true of it
+abbrev pub RepliesTo : DiskBytes → Plan → Script → Reply → Type 0
+RepliesTo DiskReads plan script (reply.Report finished text) = IsRunOf DiskReads form.Report plan script finished text
+RepliesTo DiskReads plan script (reply.Summary finished text) = IsRunOf DiskReads form.Summary plan script finished text
+RepliesTo DiskReads plan script reply.Accepted = IsCheckOf plan script
+RepliesTo DiskReads plan script (reply.Refused r) = IsRefusalOf plan script r
+RepliesTo DiskReads plan script (reply.Limit limit) = IsOverLimit script limit
+RepliesTo DiskReads plan script (reply.DiskFault repo) = Unit {0}
+RepliesTo DiskReads plan script (reply.Damaged repo disk place) = Unit {0}
+RepliesTo DiskReads plan script reply.Words = ⊥
+RepliesTo DiskReads plan script reply.SourceFault = ⊥
 
--- What is told of the generated script of a number: what is told of its bytes. The source is as it was.
-abbrev pub SaysGenerated : DiskBytes → ℕ → Plan → Told → Told → Status → List ℕ → Type 0
-SaysGenerated DiskReads n plan before after s text = (after ≡ before) × Tells DiskReads plan (script_text n plan.repos) s text
+-- ---- what is said, reply by reply
 
--- by the command: `check`, `play` and `run` read the source, `gen` doesn't
-abbrev pub SaysFor : DiskBytes → Command → Plan → Told → Told → Status → List ℕ → Type 0
-SaysFor DiskReads Check plan before after s text = SaysRead DiskReads plan before after s text
-SaysFor DiskReads Play plan before after s text = SaysRead DiskReads plan before after s text
-SaysFor DiskReads Run plan before after s text = SaysRead DiskReads plan before after s text
-SaysFor DiskReads (Gen n) plan before after s text = SaysGenerated DiskReads n plan before after s text
+-- the text is that of a run of the script, told in this form
+abbrev pub SaysRun : DiskBytes → Form → (Plan → Type 0) → Told → Told → Bool → List ℕ → Type 0
+SaysRun DiskReads f Like before after finished text = ByPlan Like (λ plan. OfScript plan before after (λ script. IsRunOf DiskReads f plan script finished text))
 
--- what is true where the program ends with a status and has this text to write, by a plan
-abbrev pub SaysOf : DiskBytes → Plan → Told → Told → Status → List ℕ → Type 0
-SaysOf DiskReads plan before after s text = SaysFor DiskReads plan.command plan before after s text
+-- the script breaks no rule
+abbrev pub SaysAccepted : (Plan → Type 0) → Told → Told → Type 0
+SaysAccepted Like before after = ByPlan Like (λ plan. OfScript plan before after (λ script. IsCheckOf plan script))
 
--- the words are a plan for so many repositories
-pub record IsPlan (words : List (List ℕ)) (count : ℕ) (plan : Plan) : Type 0 where
-  pub words_are : plan_of words ≡ Some plan
-  pub repos_are : plan.repos ≡ count
+-- the bytes are no script, or the script is refused
+abbrev pub SaysRefused : (Plan → Type 0) → Told → Told → Refusal → Type 0
+SaysRefused Like before after r = ByPlan Like (λ plan. OfBytes plan before after (λ bytes. IsRefusedText bytes r) ⊎ OfScript plan before after (λ script. IsRefusalOf plan script r))
 
--- the words are no plan, or one for another number of repositories
-abbrev pub IsNoPlan : List (List ℕ) → ℕ → Type 0
-IsNoPlan words count = (plan : Plan) → IsPlan words count plan → ⊥
+-- the script passes this limit, or the store does, or the source
+abbrev pub SaysLimit : (Plan → Type 0) → Told → Told → ℕ → Type 0
+SaysLimit Like before after limit = ByPlan Like (λ plan. OfScript plan before after (λ script. IsOverLimit script limit) ⊎ IsTooLong plan.command before limit)
 
--- What is true where the program ends with a status and has this text to write. Where the words are no plan for as many
--- repositories as there are, the source is as it was; and a fault of the source is one that was counted.
-abbrev pub Says : DiskBytes → List (List ℕ) → ℕ → Told → Told → Status → List ℕ → Type 0
-Says DiskReads words count before after s text =
-    ((plan : Plan) × (IsPlan words count plan × SaysOf DiskReads plan before after s text))
-    ⊎ ((s ≡ status.Words) × (IsNoPlan words count × ((after ≡ before) × (text ≡ codes "words" ++ 10 ∷ []))))
+-- a disk of a repository failed while the store was opened; the bytes are a script
+abbrev pub SaysDisk : (Plan → Type 0) → Told → Told → ℕ → Type 0
+SaysDisk Like before after repo = ByPlan Like (λ plan. OfScript plan before after (λ script. Unit {0}))
 
--- The same by a plan, which may be one for another number of repositories than there are.
-abbrev pub SaysBy : DiskBytes → Plan → ℕ → Told → Told → Status → List ℕ → Type 0
-SaysBy DiskReads plan count before after s text =
-    ((plan.repos ≡ count) × SaysOf DiskReads plan before after s text)
-    ⊎ ((s ≡ status.Words) × (((plan.repos ≡ count) → ⊥) × ((after ≡ before) × (text ≡ codes "words" ++ 10 ∷ []))))
+-- a disk of a repository has bytes that are no store's; the bytes are a script
+abbrev pub SaysDamaged : (Plan → Type 0) → Told → Told → ℕ → ℕ → ℕ → Type 0
+SaysDamaged Like before after repo disk place = ByPlan Like (λ plan. OfScript plan before after (λ script. Unit {0}))
 
--- What the sink took, where this is said: the text of the status; where the sink failed, a front of some status's text; where
--- memory ran out, nothing.
-abbrev pub Wrote : (Status → List ℕ → Type 0) → Option (List ℕ) → Option (List ℕ) → Status → Type 0
-Wrote Said had taken status.SinkFault = (s : Status) × ((text : List ℕ) × (Said s text × PutFront had text taken))
-Wrote Said had taken status.NoMemory = taken ≡ had
-Wrote Said had taken status.Done = (text : List ℕ) × (Said status.Done text × Put had text taken)
-Wrote Said had taken status.Unfinished = (text : List ℕ) × (Said status.Unfinished text × Put had text taken)
-Wrote Said had taken status.Words = (text : List ℕ) × (Said status.Words text × Put had text taken)
-Wrote Said had taken status.Script = (text : List ℕ) × (Said status.Script text × Put had text taken)
-Wrote Said had taken status.SourceFault = (text : List ℕ) × (Said status.SourceFault text × Put had text taken)
-Wrote Said had taken status.Limit = (text : List ℕ) × (Said status.Limit text × Put had text taken)
-Wrote Said had taken status.DiskFault = (text : List ℕ) × (Said status.DiskFault text × Put had text taken)
-Wrote Said had taken status.Damaged = (text : List ℕ) × (Said status.Damaged text × Put had text taken)
+-- there is no such plan; the source is as it was
+abbrev pub SaysWords : Type 0 → Told → Told → Type 0
+SaysWords NoPlan before after = NoPlan × (after ≡ before)
+
+-- the command reads the source, which failed, and counted that
+abbrev pub SaysSource : (Plan → Type 0) → Told → Told → Type 0
+SaysSource Like before after = ByPlan Like (λ plan. Reads plan.command × Rose before.faults after.faults)
+
+-- What is true where the program gives a reply, where there is a plan like this, or none.
+abbrev pub Says : DiskBytes → (Plan → Type 0) → Type 0 → Told → Told → Reply → Type 0
+Says DiskReads Like NoPlan before after (reply.Report finished text) = SaysRun DiskReads form.Report Like before after finished text
+Says DiskReads Like NoPlan before after (reply.Summary finished text) = SaysRun DiskReads form.Summary Like before after finished text
+Says DiskReads Like NoPlan before after reply.Accepted = SaysAccepted Like before after
+Says DiskReads Like NoPlan before after (reply.Refused r) = SaysRefused Like before after r
+Says DiskReads Like NoPlan before after (reply.Limit limit) = SaysLimit Like before after limit
+Says DiskReads Like NoPlan before after (reply.DiskFault repo) = SaysDisk Like before after repo
+Says DiskReads Like NoPlan before after (reply.Damaged repo disk place) = SaysDamaged Like before after repo disk place
+Says DiskReads Like NoPlan before after reply.Words = SaysWords NoPlan before after
+Says DiskReads Like NoPlan before after reply.SourceFault = SaysSource Like before after

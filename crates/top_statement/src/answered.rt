@@ -10,12 +10,19 @@ use thor_value::NoMemory;
 use top_reply::{Reply, Status};
 use top_words::Plan;
 
+/// The parts of a store, as they are handed in and come back.
+#[derive(Drop)]
+pub struct StoreParts<P> {
+    /// Those of its repositories, in their order.
+    pub repositories: Vec<P>,
+}
+
 /// What the program has to write, and what is left of the run.
 #[derive(Drop)]
 pub struct Answered<P> {
     /// What it has to write, where memory was there.
     pub reply: Result<Reply, NoMemory>,
-    /// The parts, in their order.
+    /// The parts of the repositories, in their order.
     pub parts: Vec<P>,
     /// What happened at each repository; nothing where no run was made.
     pub traces: Traces,
@@ -25,8 +32,10 @@ pub struct Answered<P> {
 #[derive(Drop)]
 pub struct Outcome<P> {
     pub status: Status,
-    /// The parts that were handed in, in their order.
-    pub parts: Vec<P>,
+    /// What it had to write, where memory was there. Its text was written whole, but where the sink failed.
+    pub reply: Result<Reply, NoMemory>,
+    /// The parts that were handed in.
+    pub parts: StoreParts<P>,
     /// What happened at each repository; nothing where no run was made.
     pub traces: Traces,
 }

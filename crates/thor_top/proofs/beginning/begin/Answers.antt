@@ -1,25 +1,37 @@
-use Rattle.top_reply.specs.declared.reply.Reply.{Reply}
-use Rattle.top_statement.specs.Top.{SaysBy, TellsOf, Told}
 use Rattle.std.proofs.Common.{IfOk, Result, arith, refl, subst, sym, vec_len, ◌≡◌}
 use Rattle.store_opening.specs.Reading.{ReadAll}
-use Rattle.thor_top.proofs.StageLaws.{err_map, foretells_map, none_by, ok_map, says_by, says_map}
-use Rattle.thor_top.specs.Stages.{Foretells, SaysNoScriptFor}
+use Rattle.thor_top.proofs.StageLaws.{foretells_map}
+use Rattle.thor_top.specs.Stages.{Foretells}
 use Rattle.thor_value.specs.declared.memory.NoMemory.{NoMemory}
+use Rattle.top_judging.proofs.StageLaws.{err_map, none_says, ok_map, script_says}
+use Rattle.top_judging.specs.Stages.{RepliesUnreadFor}
+use Rattle.top_reply.specs.declared.reply.Reply.{Reply}
+use Rattle.top_statement.specs.Top.{IsForOthers, IsHanded, RepliesTo, Says, Told, made_by, told_by}
 use Rattle.thor_top.proofs.beginning.begin.Goals as goal
+
+pub returns-then-not-are_parts_of-clause-reply : goal.returns-then-not-are_parts_of-clause-reply
+returns-then-not-are_parts_of-clause-reply g c =
+    let D = ReadAll g.P.Parts.disks c.args.parts.items in
+    let plan = c.args.plan.now in
+    let count = vec_len c.args.parts in
+    let before : Told = told_by g.S.Source.left g.S.Source.faults c.args.source.now in
+    let other : IsForOthers plan count = λ e. c.if-not-are_parts_of.ensures.other refl (omega (arith, e, c.as_slice.ensures.len)) in
+    subst (λ (q : Result Reply NoMemory). IfOk q (Says D (IsHanded plan count) (IsForOthers plan count) before before)) (sym c.untouched.ensures.reply) (other, refl)
 
 pub returns-in-Ok-clause-foretells : goal.returns-in-Ok-clause-foretells
 returns-in-Ok-clause-foretells g c =
     let D = ReadAll g.P.Parts.disks c.args.parts.items in
     let plan = c.args.plan.now in
     let count = vec_len c.args.parts in
-    let before : Told = record { left = g.S.Source.left c.args.source.now; faults = g.S.Source.faults c.args.source.now } in
-    let after : Told = record { left = g.S.Source.left c.script_of.new.source; faults = g.S.Source.faults c.script_of.new.source } in
+    let before : Told = told_by g.S.Source.left g.S.Source.faults c.args.source.now in
+    let after : Told = told_by g.S.Source.left g.S.Source.faults c.script_of.new.source in
     let same = c.if-not-are_parts_of.ensures.same refl in
     let repos : plan.repos ≡ count = omega (arith, same, c.as_slice.ensures.len) in
-    let tells = TellsOf D plan c.in-Ok.script in
-    let says = SaysBy D plan count before after in
-    ok_map c.begin_script.result (λ run. Foretells tells run.expected) (λ run. Foretells says run.expected)
-    (λ run. foretells_map tells says run.expected (says_by D plan count before after c.in-Ok.script repos c.in-Ok.ensures.script))
+    let handed : IsHanded plan count plan = record { same = refl; repos_are = repos } in
+    let replied = RepliesTo D plan c.in-Ok.script in
+    let says = Says D (IsHanded plan count) (IsForOthers plan count) before after in
+    ok_map c.begin_script.result (λ run. Foretells replied run.expected) (λ run. Foretells says run.expected)
+    (λ run. foretells_map replied says run.expected (script_says D (IsHanded plan count) (IsForOthers plan count) plan handed before after c.in-Ok.script c.in-Ok.ensures.script))
     c.begin_script.ensures.foretells
 
 pub returns-in-Ok-clause-reply : goal.returns-in-Ok-clause-reply
@@ -27,14 +39,15 @@ returns-in-Ok-clause-reply g c =
     let D = ReadAll g.P.Parts.disks c.args.parts.items in
     let plan = c.args.plan.now in
     let count = vec_len c.args.parts in
-    let before : Told = record { left = g.S.Source.left c.args.source.now; faults = g.S.Source.faults c.args.source.now } in
-    let after : Told = record { left = g.S.Source.left c.script_of.new.source; faults = g.S.Source.faults c.script_of.new.source } in
+    let before : Told = told_by g.S.Source.left g.S.Source.faults c.args.source.now in
+    let after : Told = told_by g.S.Source.left g.S.Source.faults c.script_of.new.source in
     let same = c.if-not-are_parts_of.ensures.same refl in
     let repos : plan.repos ≡ count = omega (arith, same, c.as_slice.ensures.len) in
-    let tells = TellsOf D plan c.in-Ok.script in
-    let says = SaysBy D plan count before after in
-    err_map c.begin_script.result (λ a. IfOk a.reply (λ r. tells r.status r.text)) (λ a. IfOk a.reply (λ r. says r.status r.text))
-    (λ a. says_map a.reply tells says (says_by D plan count before after c.in-Ok.script repos c.in-Ok.ensures.script))
+    let handed : IsHanded plan count plan = record { same = refl; repos_are = repos } in
+    let replied = RepliesTo D plan c.in-Ok.script in
+    let says = Says D (IsHanded plan count) (IsForOthers plan count) before after in
+    err_map c.begin_script.result (λ a. IfOk a.reply replied) (λ a. IfOk a.reply says)
+    (λ a. ok_map a.reply replied says (script_says D (IsHanded plan count) (IsForOthers plan count) plan handed before after c.in-Ok.script c.in-Ok.ensures.script))
     c.begin_script.ensures.reply
 
 pub returns-in-Err-clause-reply : goal.returns-in-Err-clause-reply
@@ -42,10 +55,11 @@ returns-in-Err-clause-reply g c =
     let D = ReadAll g.P.Parts.disks c.args.parts.items in
     let plan = c.args.plan.now in
     let count = vec_len c.args.parts in
-    let before : Told = record { left = g.S.Source.left c.args.source.now; faults = g.S.Source.faults c.args.source.now } in
-    let after : Told = record { left = g.S.Source.left c.script_of.new.source; faults = g.S.Source.faults c.script_of.new.source } in
+    let before : Told = told_by g.S.Source.left g.S.Source.faults c.args.source.now in
+    let after : Told = told_by g.S.Source.left g.S.Source.faults c.script_of.new.source in
     let same = c.if-not-are_parts_of.ensures.same refl in
     let repos : plan.repos ≡ count = omega (arith, same, c.as_slice.ensures.len) in
-    let says = SaysBy D plan count before after in
-    subst (λ (q : Result Reply NoMemory). IfOk q (λ r. says r.status r.text)) (sym c.untouched-in-Err.ensures.reply)
-    (says_map c.in-Err.reply (SaysNoScriptFor plan.command plan.repos before after) says (none_by D plan count before after repos) c.in-Err.ensures.reply)
+    let handed : IsHanded plan count plan = record { same = refl; repos_are = repos } in
+    let says = Says D (IsHanded plan count) (IsForOthers plan count) before after in
+    subst (λ (q : Result Reply NoMemory). IfOk q says) (sym c.untouched-in-Err.ensures.reply)
+    (ok_map c.in-Err.reply (RepliesUnreadFor (made_by plan.command) plan.repos before after) says (none_says D (IsHanded plan count) (IsForOthers plan count) plan handed before after) c.in-Err.ensures.reply)

@@ -1,40 +1,40 @@
-use Rattle.top_reply.specs.declared.form.Form.TheVariants as form
-use Rattle.top_statement.specs.Reports.{TellsRun}
-use Rattle.top_statement.specs.Top.{TellsOf}
+use Rattle.std.proofs.Common.{IfOk}
 use Rattle.store_opening.specs.Reading.{ReadAll}
-use Rattle.thor_top.proofs.StageLaws.{foretells_map, gen_tells, ok_map, play_tells, threads_tell}
-use Rattle.thor_top.specs.Stages.{Foretells}
+use Rattle.thor_top.proofs.StageLaws.{foretells_map, no_form, ok_always, run_replies, unsettled_writes}
+use Rattle.thor_top.specs.Stages.{Foretells, IsPlayed, RepliesRun}
+use Rattle.top_judging.proofs.StageLaws.{err_map, ok_map, unsettled_replies}
+use Rattle.top_judging.specs.Stages.{RepliesUnsettled}
+use Rattle.top_statement.specs.Top.{RepliesTo}
 use Rattle.thor_top.proofs.beginning.begin_judged.Goals as goal
 
-pub returns-in-Check-clause-kept : goal.returns-in-Check-clause-kept
-returns-in-Check-clause-kept g c = λ given has writes. c.checked-answered.ensures.same given has
-
-pub returns-in-Play-clause-foretells : goal.returns-in-Play-clause-foretells
-returns-in-Play-clause-foretells g c = λ given stored.
+pub returns-in-Some-clause-foretells : goal.returns-in-Some-clause-foretells
+returns-in-Some-clause-foretells g c = λ given stored.
     let D = ReadAll g.P.Parts.disks given in
     let plan = c.args.plan.now in
-    let tells = TellsRun D form.Report plan.repos c.args.script in
-    let told = TellsOf D plan c.args.script in
-    ok_map c.open_run.result (λ run. Foretells tells run.expected) (λ run. Foretells told run.expected)
-    (λ run. foretells_map tells told run.expected (play_tells D plan c.args.script c.in-Play.is c.requires.within))
+    let form = c.in-Some.form in
+    let run_told = RepliesRun D form plan.repos c.args.script in
+    let replied = RepliesTo D plan c.args.script in
+    ok_map c.open_run.result (λ run. Foretells run_told run.expected) (λ run. Foretells replied run.expected)
+    (λ run. foretells_map run_told replied run.expected (run_replies D plan c.args.script form c.in-Some.ensures c.requires.within))
     (c.open_run.ensures.foretells given stored)
 
-pub returns-in-Run-clause-foretells : goal.returns-in-Run-clause-foretells
-returns-in-Run-clause-foretells g c = λ given stored.
-    let D = ReadAll g.P.Parts.disks given in
-    let plan = c.args.plan.now in
-    let tells = TellsRun D form.Report plan.repos c.args.script in
-    let told = TellsOf D plan c.args.script in
-    ok_map c.open_run-in-Run.result (λ run. Foretells tells run.expected) (λ run. Foretells told run.expected)
-    (λ run. foretells_map tells told run.expected (threads_tell D plan c.args.script c.in-Run.is c.requires.within))
-    (c.open_run-in-Run.ensures.foretells given stored)
+pub returns-in-Some-clause-played : goal.returns-in-Some-clause-played
+returns-in-Some-clause-played g c = ok_always c.open_run.result (IsPlayed c.args.plan.now.command) (c.in-Some.form, c.in-Some.ensures)
 
-pub returns-in-Gen-clause-foretells : goal.returns-in-Gen-clause-foretells
-returns-in-Gen-clause-foretells g c = λ given stored.
+pub returns-in-Some-clause-reply : goal.returns-in-Some-clause-reply
+returns-in-Some-clause-reply g c = λ given.
     let D = ReadAll g.P.Parts.disks given in
     let plan = c.args.plan.now in
-    let tells = TellsRun D form.Summary plan.repos c.args.script in
-    let told = TellsOf D plan c.args.script in
-    ok_map c.open_run-in-Gen.result (λ run. Foretells tells run.expected) (λ run. Foretells told run.expected)
-    (λ run. foretells_map tells told run.expected (gen_tells D plan c.in-Gen.n c.args.script c.in-Gen.is c.requires.within))
-    (c.open_run-in-Gen.ensures.foretells given stored)
+    err_map c.open_run.result (λ a. IfOk a.reply RepliesUnsettled) (λ a. IfOk a.reply (RepliesTo D plan c.args.script))
+    (λ a. ok_map a.reply RepliesUnsettled (RepliesTo D plan c.args.script) (unsettled_replies D plan c.args.script)) c.open_run.ensures.reply
+
+pub returns-in-Some-clause-kept : goal.returns-in-Some-clause-kept
+returns-in-Some-clause-kept g c = λ given has.
+    err_map c.open_run.result (λ a. IfOk a.reply RepliesUnsettled) _
+    (λ a failed. λ writes. absurd (unsettled_writes c.args.plan.now.command a.reply (c.in-Some.form, c.in-Some.ensures) failed writes)) c.open_run.ensures.reply
+
+pub checked-answered-requires-clause-command : goal.checked-answered-requires-clause-command
+checked-answered-requires-clause-command g c = no_form c.args.plan.now.command c.in-None.ensures
+
+pub returns-in-None-clause-kept : goal.returns-in-None-clause-kept
+returns-in-None-clause-kept g c = λ given has writes. c.checked-answered.ensures.same given has

@@ -1,16 +1,16 @@
-use Rattle.top_statement.specs.Reports.{TellsRun}
 use Rattle.std.proofs.Common.{subst, sym, ◌≡◌}
 use Rattle.store_opening.specs.Reading.{ReadAll}
-use Rattle.thor_top.proofs.StageLaws.{foretells_run, of_disks, ok_map}
-use Rattle.thor_top.specs.Stages.{Foretells}
+use Rattle.thor_top.proofs.StageLaws.{foretells_run, of_disks}
+use Rattle.thor_top.specs.Stages.{Foretells, RepliesRun}
 use Rattle.thor_top.specs.declared.expected.Expected.{Expected}
+use Rattle.top_judging.proofs.StageLaws.{ok_map}
 use Rattle.thor_top.proofs.opening.open_run.Goals as goal
 
 pub returns-in-Ok-clause-foretells : goal.returns-in-Ok-clause-foretells
 returns-in-Ok-clause-foretells g c = λ given stored.
     let D = ReadAll g.P.Parts.disks given in
     let e : Expected = record { form = c.args.form; script = c.args.script; opened = c.in-Ok.opened } in
-    let tells = TellsRun D c.args.form c.args.plan.now.repos c.args.script in
+    let tells = RepliesRun D c.args.form c.args.plan.now.repos c.args.script in
     let disks = of_disks D c.args.script.setup c.args.judged.base c.args.judged.found.store c.in-Ok.opened.store stored c.in-Ok.ensures.opened in
     ok_map c.open.result (λ o. o.expected ≡ e) (λ o. Foretells tells o.expected)
     (λ o is. subst (λ (x : Expected). Foretells tells x) (sym is)

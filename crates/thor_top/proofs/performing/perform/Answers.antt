@@ -1,35 +1,15 @@
-use Rattle.thor_top.proofs.PromiseLaws as laws
+use Rattle.thor_top.proofs.ReplyLaws.{check_writes, writes_nothing}
+use Rattle.top_statement.proofs.WrittenLaws.{refuses_of, said_of}
 use Rattle.thor_top.proofs.performing.perform.Goals as goal
 
-pub returns-clause-report : goal.returns-clause-report
-returns-clause-report g c = laws.report _ c.args.plan _ _ _ _ _ c.perform_in_turn.result.status c.perform_in_turn.ensures.wrote
+pub returns-clause-says : goal.returns-clause-says
+returns-clause-says g c = said_of c.answer_in_turn-answered.result.reply c.write_answer.result.reply _ c.write_answer.ensures.reply c.answer_in_turn-answered.ensures.reply
 
-pub returns-clause-summary : goal.returns-clause-summary
-returns-clause-summary g c = laws.summary _ c.args.plan _ _ _ _ _ c.perform_in_turn.result.status c.perform_in_turn.ensures.wrote
+pub returns-clause-refused : goal.returns-clause-refused
+returns-clause-refused g c = λ refuses. rw c.write_answer.ensures.parts
+    (c.answer_in_turn-answered.ensures.kept (writes_nothing c.args.plan.command c.answer_in_turn-answered.result.reply
+    (refuses_of c.answer_in_turn-answered.result.reply c.write_answer.result.reply c.write_answer.ensures.reply refuses)))
 
-pub returns-clause-ok : goal.returns-clause-ok
-returns-clause-ok g c = laws.found _ c.args.plan _ _ _ _ _ c.perform_in_turn.result.status c.perform_in_turn.ensures.wrote
-
-pub returns-clause-rule : goal.returns-clause-rule
-returns-clause-rule g c = laws.rule _ c.args.plan _ _ _ _ _ c.perform_in_turn.result.status c.perform_in_turn.ensures.wrote
-
-pub returns-clause-limit : goal.returns-clause-limit
-returns-clause-limit g c = laws.limit _ c.args.plan _ _ _ _ _ c.perform_in_turn.result.status c.perform_in_turn.ensures.wrote
-
-pub returns-clause-disk : goal.returns-clause-disk
-returns-clause-disk g c = laws.disk _ c.args.plan _ _ _ _ _ c.perform_in_turn.result.status c.perform_in_turn.ensures.wrote
-
-pub returns-clause-damage : goal.returns-clause-damage
-returns-clause-damage g c = laws.damage _ c.args.plan _ _ _ _ _ c.perform_in_turn.result.status c.perform_in_turn.ensures.wrote
-
-pub returns-clause-words : goal.returns-clause-words
-returns-clause-words g c = laws.wrong_parts _ c.args.plan _ _ _ _ _ c.perform_in_turn.result.status c.perform_in_turn.ensures.wrote
-
-pub returns-clause-source : goal.returns-clause-source
-returns-clause-source g c = laws.source _ c.args.plan _ _ _ _ _ c.perform_in_turn.result.status c.perform_in_turn.ensures.wrote
-
-pub returns-clause-source_fault : goal.returns-clause-source_fault
-returns-clause-source_fault g c = laws.source_fault _ c.args.plan _ _ _ _ _ c.perform_in_turn.result.status c.perform_in_turn.ensures.wrote
-
-pub returns-clause-front : goal.returns-clause-front
-returns-clause-front g c = laws.front _ _ _ c.perform_in_turn.result.status c.perform_in_turn.ensures.wrote
+pub returns-clause-checked : goal.returns-clause-checked
+returns-clause-checked g c = λ check. rw c.write_answer.ensures.parts
+    (c.answer_in_turn-answered.ensures.kept (check_writes c.args.plan.command c.answer_in_turn-answered.result.reply check))

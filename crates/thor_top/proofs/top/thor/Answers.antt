@@ -1,39 +1,38 @@
-use Rattle.thor_top.proofs.PromiseLaws as laws
-use Rattle.thor_top.proofs.WordsLaws as words
+use Rattle.thor_top.proofs.ReplyLaws.{gives}
+use Rattle.top_reply.specs.declared.reply.Reply.TheVariants as reply
+use Rattle.top_statement.proofs.WrittenLaws.{refuses_of}
 use Rattle.thor_top.proofs.top.thor.Goals as goal
 
-pub returns-clause-planned : goal.returns-clause-planned
-returns-clause-planned g c = words.planned _ _ _ _ _ _ _ c.perform_words.result.status c.perform_words.ensures.wrote
-
 pub returns-clause-report : goal.returns-clause-report
-returns-clause-report g c = λ plan h. laws.report _ plan _ _ _ _ _ c.perform_words.result.status (words.by_plan _ _ _ _ _ _ _ c.perform_words.result.status c.perform_words.ensures.wrote plan h)
+returns-clause-report g c = λ finished text. gives c.answer-answered.result.reply c.write_answer.result.reply (reply.Report finished text) _ c.write_answer.ensures.reply c.answer-answered.ensures.reply
 
 pub returns-clause-summary : goal.returns-clause-summary
-returns-clause-summary g c = λ plan n h. laws.summary _ plan _ _ _ _ _ c.perform_words.result.status (words.by_plan _ _ _ _ _ _ _ c.perform_words.result.status c.perform_words.ensures.wrote plan h) n
+returns-clause-summary g c = λ finished text. gives c.answer-answered.result.reply c.write_answer.result.reply (reply.Summary finished text) _ c.write_answer.ensures.reply c.answer-answered.ensures.reply
 
 pub returns-clause-ok : goal.returns-clause-ok
-returns-clause-ok g c = λ plan h. laws.found _ plan _ _ _ _ _ c.perform_words.result.status (words.by_plan _ _ _ _ _ _ _ c.perform_words.result.status c.perform_words.ensures.wrote plan h)
+returns-clause-ok g c = gives c.answer-answered.result.reply c.write_answer.result.reply reply.Accepted _ c.write_answer.ensures.reply c.answer-answered.ensures.reply
 
 pub returns-clause-rule : goal.returns-clause-rule
-returns-clause-rule g c = λ plan h. laws.rule _ plan _ _ _ _ _ c.perform_words.result.status (words.by_plan _ _ _ _ _ _ _ c.perform_words.result.status c.perform_words.ensures.wrote plan h)
+returns-clause-rule g c = λ refusal. gives c.answer-answered.result.reply c.write_answer.result.reply (reply.Refused refusal) _ c.write_answer.ensures.reply c.answer-answered.ensures.reply
 
 pub returns-clause-limit : goal.returns-clause-limit
-returns-clause-limit g c = λ plan h. laws.limit _ plan _ _ _ _ _ c.perform_words.result.status (words.by_plan _ _ _ _ _ _ _ c.perform_words.result.status c.perform_words.ensures.wrote plan h)
+returns-clause-limit g c = λ limit. gives c.answer-answered.result.reply c.write_answer.result.reply (reply.Limit limit) _ c.write_answer.ensures.reply c.answer-answered.ensures.reply
 
 pub returns-clause-disk : goal.returns-clause-disk
-returns-clause-disk g c = λ plan h. laws.disk _ plan _ _ _ _ _ c.perform_words.result.status (words.by_plan _ _ _ _ _ _ _ c.perform_words.result.status c.perform_words.ensures.wrote plan h)
+returns-clause-disk g c = λ repo. gives c.answer-answered.result.reply c.write_answer.result.reply (reply.DiskFault repo) _ c.write_answer.ensures.reply c.answer-answered.ensures.reply
 
 pub returns-clause-damage : goal.returns-clause-damage
-returns-clause-damage g c = λ plan h. laws.damage _ plan _ _ _ _ _ c.perform_words.result.status (words.by_plan _ _ _ _ _ _ _ c.perform_words.result.status c.perform_words.ensures.wrote plan h)
+returns-clause-damage g c = λ repo disk place. gives c.answer-answered.result.reply c.write_answer.result.reply (reply.Damaged repo disk place) _ c.write_answer.ensures.reply c.answer-answered.ensures.reply
 
 pub returns-clause-words : goal.returns-clause-words
-returns-clause-words g c = words.wrong_words _ _ _ _ _ _ _ c.perform_words.result.status c.perform_words.ensures.wrote
+returns-clause-words g c = gives c.answer-answered.result.reply c.write_answer.result.reply reply.Words _ c.write_answer.ensures.reply c.answer-answered.ensures.reply
 
 pub returns-clause-source : goal.returns-clause-source
-returns-clause-source g c = words.source _ _ _ _ _ _ _ c.perform_words.result.status c.perform_words.ensures.wrote
+returns-clause-source g c = gives c.answer-answered.result.reply c.write_answer.result.reply reply.SourceFault _ c.write_answer.ensures.reply c.answer-answered.ensures.reply
 
-pub returns-clause-source_fault : goal.returns-clause-source_fault
-returns-clause-source_fault g c = words.source_fault _ _ _ _ _ _ _ c.perform_words.result.status c.perform_words.ensures.wrote
+pub returns-clause-refused : goal.returns-clause-refused
+returns-clause-refused g c = λ refuses. rw c.write_answer.ensures.parts
+    (c.answer-answered.ensures.kept (refuses_of c.answer-answered.result.reply c.write_answer.result.reply c.write_answer.ensures.reply refuses))
 
-pub returns-clause-front : goal.returns-clause-front
-returns-clause-front g c = laws.front _ _ _ c.perform_words.result.status c.perform_words.ensures.wrote
+pub returns-clause-checked : goal.returns-clause-checked
+returns-clause-checked g c = λ p is check. rw c.write_answer.ensures.parts (c.answer-answered.ensures.checked p is check)

@@ -1,0 +1,36 @@
+use Rattle.std.proofs.Common.{Err, IfOk, Result, refl, subst, sym, vec_len}
+use Rattle.store_opening.specs.Reading.{ReadAll}
+use Rattle.thor_top.proofs.ReplyLaws.{check_writes, no_words, one_check, words_say, writes_nothing}
+use Rattle.thor_value.specs.declared.memory.NoMemory.{NoMemory}
+use Rattle.top_judging.proofs.StageLaws.{ok_map}
+use Rattle.top_reply.specs.declared.reply.Reply.{Reply}
+use Rattle.top_statement.specs.Top.{IsForOthers, IsHanded, IsNoPlan, IsPlan, Says, Told, told_by}
+use Rattle.top_words.specs.Words.{Gives, plan_of}
+use Rattle.top_words.specs.declared.command.WordsFault.{WordsFault}
+use Rattle.thor_top.proofs.answering.answer.Goals as goal
+
+pub returns-in-Ok-clause-reply : goal.returns-in-Ok-clause-reply
+returns-in-Ok-clause-reply g c =
+    let D = ReadAll g.P.Parts.disks c.args.parts.items in
+    let words = c.args.words.now in
+    let plan = c.in-Ok.plan in
+    let count = vec_len c.args.parts in
+    let before : Told = told_by g.S.Source.left g.S.Source.faults c.args.source.now in
+    let after : Told = told_by g.S.Source.left g.S.Source.faults c.answer_plan.new.source in
+    ok_map c.answer_plan.result.reply (Says D (IsHanded plan count) (IsForOthers plan count) before after) (Says D (IsPlan words count) (IsNoPlan words count) before after)
+    (words_say D words count plan before after c.in-Ok.ensures) c.answer_plan.ensures.reply
+
+pub returns-in-Ok-clause-kept : goal.returns-in-Ok-clause-kept
+returns-in-Ok-clause-kept g c = λ refuses. c.answer_plan.ensures.kept (writes_nothing c.in-Ok.plan.command c.answer_plan.result.reply refuses)
+
+pub returns-in-Ok-clause-checked : goal.returns-in-Ok-clause-checked
+returns-in-Ok-clause-checked g c = λ p is check. c.answer_plan.ensures.kept (check_writes c.in-Ok.plan.command c.answer_plan.result.reply (one_check c.args.words.now c.in-Ok.plan p c.in-Ok.ensures is check))
+
+pub returns-in-Err-Words-clause-reply : goal.returns-in-Err-Words-clause-reply
+returns-in-Err-Words-clause-reply g c =
+    let D = ReadAll g.P.Parts.disks c.args.parts.items in
+    let words = c.args.words.now in
+    let count = vec_len c.args.parts in
+    let before : Told = told_by g.S.Source.left g.S.Source.faults c.args.source.now in
+    let none = subst (λ (f : WordsFault). Gives (plan_of words) (Err f)) c.in-Err-Words.field-0-is c.in-Err-Words.ensures in
+    subst (λ (q : Result Reply NoMemory). IfOk q (Says D (IsPlan words count) (IsNoPlan words count) before before)) (sym c.untouched.ensures.reply) (no_words words count none, refl)

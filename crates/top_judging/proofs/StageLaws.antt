@@ -1,0 +1,135 @@
+-- What is replied at one stage is replied at the next.
+use Rattle.class_defs.specs.declared.declarations.Declarations.{Declarations}
+use Rattle.class_defs.specs.declared.store.Plain.{Plain}
+use Rattle.class_defs.specs.declared.store.Schemas.{Schemas}
+use Rattle.script_parse.specs.Script.{HasFew, IsWritten}
+use Rattle.script_parse.specs.declared.script.Script.{Script}
+use Rattle.std.proofs.Common.{◌≡◌, ◌≤◌, Err, IfOk, List, Ok, Option, Result, Some, None, inl, inr, length, refl, subst, sym, ℕ}
+use Rattle.std.proofs.lemmas.Option.{same_Some}
+use Rattle.std.specs.Prelude.{IfErr, IfSome}
+use Rattle.script_bank.specs.Bank.{script_text}
+use Rattle.store_opening.specs.Reading.{IsOpened, IsOpenedIn, schemas_in}
+use Rattle.store_opening.specs.declared.found.Store.TheVariants.{Fresh, Open}
+use Rattle.store_opening.specs.declared.found.Store.{Store}
+use Rattle.thor_value.specs.declared.memory.NoMemory.{NoMemory}
+use Rattle.top_judging.specs.Stages.{IsOpenedAs, IsRead, IsReadFrom, IsScriptFor, RepliesOver, RepliesText, RepliesUnjudged, RepliesUnopened, RepliesUnread, RepliesUnreadFor, RepliesUnsettled}
+use Rattle.top_reply.specs.declared.reply.Reply.{Reply}
+use Rattle.top_reply.specs.declared.reply.Reply.TheVariants as reply
+use Rattle.top_statement.specs.Opening.{DiskBytes}
+use Rattle.top_statement.specs.Top.{HasBytes, Reads, RepliesTo, Says, Told, WasRead, made_by}
+use Rattle.top_words.specs.declared.command.Plan.{Plan}
+
+-- ---- replies
+
+pub ok_map : {A E : Type 0} (r : Result A E) (P Q : A → Type 0) → ((a : A) → P a → Q a) → IfOk r P → IfOk r Q
+ok_map (Ok a) P Q f p = f a p
+ok_map (Err e) P Q f p = tt
+
+pub err_map : {A E : Type 0} (r : Result A E) (P Q : E → Type 0) → ((e : E) → P e → Q e) → IfErr r P → IfErr r Q
+err_map (Ok a) P Q f p = tt
+err_map (Err e) P Q f p = f e p
+
+-- this is replied, and so that
+pub err_reply_map : {A : Type 0} (r : Result A (Result Reply NoMemory)) (P Q : Reply → Type 0) → ((w : Reply) → P w → Q w)
+    → IfErr r (λ q. IfOk q P) → IfErr r (λ q. IfOk q Q)
+err_reply_map (Ok a) P Q f p = tt
+err_reply_map (Err q) P Q f p = ok_map q P Q f p
+
+-- ---- the script
+
+pub read_within : {E : Type 0} (bytes : List ℕ) (script : Script) (r : Result Script E) → IsWritten bytes script → HasFew script.setup
+    → IfOk r (λ within. within ≡ script) → IfOk r (λ within. length within.clients ≤ 64) → IfOk r (λ within. length within.events ≤ 1000000) → IfOk r (IsRead bytes)
+read_within bytes script (Ok within) written few is clients events = record {
+  written = subst (λ (w : Script). IsWritten bytes w) (sym is) written;
+  few = subst (λ (w : Script). HasFew w.setup) (sym is) few;
+  clients = clients;
+  events = events;
+}
+read_within bytes script (Err e) written few is clients events = tt
+
+pub over_is_none : (bytes : List ℕ) (script : Script) → IsWritten bytes script → (r : Reply) → RepliesOver script r → RepliesText bytes r
+over_is_none bytes script written r over = inr (script, (written, over))
+
+pub read_from : {E : Type 0} (before after : Told) (bytes slice : List ℕ) (r : Result Script E) → WasRead before.left after.left bytes → slice ≡ bytes → IfOk r (IsRead slice) → IfOk r (IsReadFrom before after)
+read_from before after bytes slice (Ok script) was same read = record { bytes = bytes; was = was; read = subst (λ (b : List ℕ). IsRead b script) same read }
+read_from before after bytes slice (Err e) was same read = tt
+
+pub unread : (before after : Told) (bytes slice : List ℕ) → WasRead before.left after.left bytes → slice ≡ bytes → (r : Reply) → RepliesText slice r → RepliesUnread before after r
+unread before after bytes slice was same r none = inl (bytes, (was, subst (λ (b : List ℕ). RepliesText b r) same none))
+
+-- what is true of an old slice is true of the text that it is
+pub read_same : {E : Type 0} (slice bytes : List ℕ) (r : Result Script E) → slice ≡ bytes → IfOk r (IsRead slice) → IfOk r (IsRead bytes)
+read_same slice bytes r same = subst (λ (b : List ℕ). IfOk r (IsRead b)) same
+
+pub none_same : {A : Type 0} (slice bytes : List ℕ) (r : Result A (Result Reply NoMemory)) → slice ≡ bytes
+    → IfErr r (λ q. IfOk q (RepliesText slice)) → IfErr r (λ q. IfOk q (RepliesText bytes))
+none_same slice bytes r same = subst (λ (b : List ℕ). IfErr r (λ q. IfOk q (RepliesText b))) same
+
+-- ---- the store
+
+-- what is opened of a store that was found is the one for which the disks stand
+pub opened_at : (images : List (ℕ → List ℕ)) (store : Store) (base : Schemas) (opened : Plain) → schemas_in store ≡ Some base → IsOpenedIn images store (Some opened) → IsOpened images base opened
+opened_at images Fresh base opened is at = absurd at
+opened_at images (Open s) base opened is at = subst (λ (b : Schemas). IsOpened images b opened) (same_Some s.schemas base is) at
+
+pub stored_as : {E : Type 0} (images : List (ℕ → List ℕ)) (setup : Option Declarations) (base : Schemas) (r : Result (Option Plain) E) → setup ≡ None
+    → IfOk r (λ store. IfSome store (IsOpened images base)) → IfOk r (λ store. IfSome store (IsOpenedAs images setup base))
+stored_as images setup base (Ok (Some store)) is h = subst (λ (s : Option Declarations). IsOpenedAs images s base store) (sym is) h
+stored_as images setup base (Ok None) is h = tt
+stored_as images setup base (Err e) is h = tt
+
+-- ---- what is replied to the script
+
+module _ (D : DiskBytes) (plan : Plan) (script : Script) where
+  over_replies : (r : Reply) → RepliesOver script r → RepliesTo D plan script r
+  over_replies r over = subst (λ (w : Reply). RepliesTo D plan script w) (sym over.1.0) over.1.1
+
+  pub unjudged_replies : (r : Reply) → RepliesUnjudged plan script r → RepliesTo D plan script r
+  unjudged_replies r (inl over) = over_replies r over
+  unjudged_replies r (inr refused) = subst (λ (w : Reply). RepliesTo D plan script w) (sym refused.1.0) refused.1.1
+
+  pub unopened_replies : (r : Reply) → RepliesUnopened r → RepliesTo D plan script r
+  unopened_replies r (inl failed) = subst (λ (w : Reply). RepliesTo D plan script w) (sym failed.1) tt
+  unopened_replies r (inr damaged) = subst (λ (w : Reply). RepliesTo D plan script w) (sym damaged.1.1.1) tt
+
+  pub unsettled_replies : (r : Reply) → RepliesUnsettled r → RepliesTo D plan script r
+  unsettled_replies r failed = subst (λ (w : Reply). RepliesTo D plan script w) (sym failed.1) tt
+
+-- ---- what is said by a plan
+
+module _ (D : DiskBytes) (Like : Plan → Type 0) (NoPlan : Type 0) (plan : Plan) (is : Like plan) (before after : Told) where
+  -- its script was read, and this is replied to it
+  replied : (script : Script) (bytes : List ℕ) → HasBytes (made_by plan.command) plan.repos before after bytes → IsWritten bytes script → (r : Reply) → RepliesTo D plan script r → Says D Like NoPlan before after r
+  replied script bytes has written (reply.Report finished text) says = record { plan = plan; is = is; says = record { script = script; bytes = bytes; has = has; written = written; says = says } }
+  replied script bytes has written (reply.Summary finished text) says = record { plan = plan; is = is; says = record { script = script; bytes = bytes; has = has; written = written; says = says } }
+  replied script bytes has written reply.Accepted says = record { plan = plan; is = is; says = record { script = script; bytes = bytes; has = has; written = written; says = says } }
+  replied script bytes has written (reply.Refused refusal) says = record { plan = plan; is = is; says = inr (record { script = script; bytes = bytes; has = has; written = written; says = says }) }
+  replied script bytes has written (reply.Limit limit) says = record { plan = plan; is = is; says = inl (record { script = script; bytes = bytes; has = has; written = written; says = says }) }
+  replied script bytes has written (reply.DiskFault repo) says = record { plan = plan; is = is; says = record { script = script; bytes = bytes; has = has; written = written; says = says } }
+  replied script bytes has written (reply.Damaged repo disk place) says = record { plan = plan; is = is; says = record { script = script; bytes = bytes; has = has; written = written; says = says } }
+  replied script bytes has written reply.Words says = absurd says
+  replied script bytes has written reply.SourceFault says = absurd says
+
+  has_script : (m : Option ℕ) (script : Script) → IsScriptFor m plan.repos before after script → (bytes : List ℕ) × (HasBytes m plan.repos before after bytes × IsWritten bytes script)
+  has_script None script from = (from.bytes, (from.was, from.read.written))
+  has_script (Some n) script from = (script_text n plan.repos, ((from.0, refl), from.1.written))
+
+  pub script_says : (script : Script) → IsScriptFor (made_by plan.command) plan.repos before after script → (r : Reply) → RepliesTo D plan script r → Says D Like NoPlan before after r
+  script_says script from r says = let had = has_script (made_by plan.command) script from in replied script had.0 had.1.0 had.1.1 r says
+
+  -- it has no script, and this is replied
+  text_says : (bytes : List ℕ) → HasBytes (made_by plan.command) plan.repos before after bytes → (r : Reply) → RepliesText bytes r → Says D Like NoPlan before after r
+  text_says bytes has r (inl none) = subst (λ (w : Reply). Says D Like NoPlan before after w) (sym none.1.0) (record { plan = plan; is = is; says = inl (record { bytes = bytes; has = has; says = none.1.1 }) })
+  text_says bytes has r (inr over) = replied over.0 bytes has over.1.0 r (over_replies D plan over.0 r over.1.1)
+
+  unread_says : Reads plan.command → (r : Reply) → RepliesUnread before after r → Says D Like NoPlan before after r
+  unread_says reads r (inl none) = text_says none.0 (subst (λ (m : Option ℕ). HasBytes m plan.repos before after none.0) (sym reads) none.1.0) r none.1.1
+  unread_says reads r (inr (inl long)) = subst (λ (w : Reply). Says D Like NoPlan before after w) (sym long.0) (record { plan = plan; is = is; says = inr (reads, (long.1, refl)) })
+  unread_says reads r (inr (inr failed)) = subst (λ (w : Reply). Says D Like NoPlan before after w) (sym failed.0) (record { plan = plan; is = is; says = (reads, failed.1) })
+
+  none_says_at : (m : Option ℕ) → made_by plan.command ≡ m → (r : Reply) → RepliesUnreadFor m plan.repos before after r → Says D Like NoPlan before after r
+  none_says_at None made r none = unread_says made r none
+  none_says_at (Some n) made r none = text_says (script_text n plan.repos) (subst (λ (m : Option ℕ). HasBytes m plan.repos before after (script_text n plan.repos)) (sym made) (none.0, refl)) r none.1
+
+  pub none_says : (r : Reply) → RepliesUnreadFor (made_by plan.command) plan.repos before after r → Says D Like NoPlan before after r
+  none_says r none = none_says_at (made_by plan.command) refl r none

@@ -1,0 +1,25 @@
+use Rattle.std.proofs.Common.{IfOk, Result, subst, sym}
+use Rattle.store_opening.specs.Reading.{ReadAll}
+use Rattle.thor_value.specs.declared.memory.NoMemory.{NoMemory}
+use Rattle.top_judging.proofs.StageLaws.{err_map, ok_map, unjudged_replies, unopened_replies}
+use Rattle.top_judging.specs.Stages.{RepliesUnjudged, RepliesUnopened}
+use Rattle.top_reply.specs.declared.reply.Reply.{Reply}
+use Rattle.top_statement.specs.Top.{RepliesTo}
+use Rattle.top_judging.proofs.finding.find.Goals as goal
+
+pub returns-in-Ok-clause-reply : goal.returns-in-Ok-clause-reply
+returns-in-Ok-clause-reply g c =
+    let D = ReadAll g.P.Parts.disks c.args.parts.items in
+    let plan = c.args.plan.now in
+    let script = c.args.script.now in
+    err_map c.judged_on.result (λ a. IfOk a.reply (RepliesUnjudged plan script)) (λ a. IfOk a.reply (RepliesTo D plan script))
+    (λ a. ok_map a.reply (RepliesUnjudged plan script) (RepliesTo D plan script) (unjudged_replies D plan script))
+    c.judged_on.ensures.reply
+
+pub returns-in-Err-clause-reply : goal.returns-in-Err-clause-reply
+returns-in-Err-clause-reply g c =
+    let D = ReadAll g.P.Parts.disks c.args.parts.items in
+    let plan = c.args.plan.now in
+    let script = c.args.script.now in
+    subst (λ (q : Result Reply NoMemory). IfOk q (RepliesTo D plan script)) (sym c.unplayed.ensures.reply)
+    (ok_map c.unopened.result RepliesUnopened (RepliesTo D plan script) (unopened_replies D plan script) c.unopened.ensures)

@@ -1,0 +1,98 @@
+-- What a plan comes to before its run, stage by stage (this project's): its script, and a store on which the script breaks no
+-- rule. Where it doesn't come to that, what is replied.
+use Rattle.class_defs.specs.declared.declarations.Declarations.{Declarations}
+use Rattle.class_defs.specs.declared.store.Plain.{Plain}
+use Rattle.class_defs.specs.declared.store.Schemas.{Schemas}
+use Rattle.outside.specs.Faults.{Rose}
+use Rattle.outside.specs.Streams.{IsMoreThan}
+use Rattle.script_bank.specs.Bank.{script_text}
+use Rattle.script_parse.specs.Script.{HasFew, IsRefusedText, IsWritten}
+use Rattle.script_parse.specs.declared.refusal.Refusal.{Refusal}
+use Rattle.script_parse.specs.declared.script.Script.{Script}
+use Rattle.serial_model.specs.Replays.{AreMade}
+use Rattle.std.specs.Prelude.{◌≡◌, ◌⊎◌, ◌≤◌, ℕ, List, Option, Some, None, length}
+use Rattle.store_opening.specs.Reading.{IsOpened, IsStoredIn, schemas_in}
+use Rattle.store_opening.specs.declared.found.Store.{Store}
+use Rattle.top_reply.specs.declared.reply.Reply.{Reply}
+use Rattle.top_reply.specs.declared.reply.Reply.TheVariants as reply
+use Rattle.top_statement.specs.Opening.{DiskBytes, IsAccepted}
+use Rattle.top_statement.specs.Top.{IsOverLimit, IsRefusalOf, IsWithinLimits, Told, WasRead}
+use Rattle.top_words.specs.declared.command.Plan.{Plan}
+
+-- ---- the script
+
+-- these bytes are this script, and it has no more clients and events than a script may have
+pub record IsRead (bytes : List ℕ) (script : Script) : Type 0 where
+  pub written : IsWritten bytes script
+  pub few : HasFew script.setup
+  pub clients : length script.clients ≤ 64
+  pub events : length script.events ≤ 1000000
+
+-- what is replied to a script that passes a limit
+abbrev pub RepliesOver : Script → Reply → Type 0
+RepliesOver script r = (limit : ℕ) × ((r ≡ reply.Limit limit) × IsOverLimit script limit)
+
+-- what is replied to bytes that are no script, and to those of one that passes a limit
+abbrev pub RepliesText : List ℕ → Reply → Type 0
+RepliesText bytes r =
+    ((refusal : Refusal) × ((r ≡ reply.Refused refusal) × IsRefusedText bytes refusal))
+    ⊎ ((script : Script) × (IsWritten bytes script × RepliesOver script r))
+
+-- the source was read to its end, and gave this script
+pub record IsReadFrom (before after : Told) (script : Script) : Type 0 where
+  pub bytes : List ℕ
+  pub was : WasRead before.left after.left bytes
+  pub read : IsRead bytes script
+
+-- what is replied where the source gave none
+abbrev pub RepliesUnread : Told → Told → Reply → Type 0
+RepliesUnread before after r =
+    ((bytes : List ℕ) × (WasRead before.left after.left bytes × RepliesText bytes r))
+    ⊎ (((r ≡ reply.Limit 8388608) × IsMoreThan 8388608 before.left)
+    ⊎ ((r ≡ reply.SourceFault) × Rose before.faults after.faults))
+
+-- the script of the source, or the generated one of this number
+abbrev pub IsScriptFor : Option ℕ → ℕ → Told → Told → Script → Type 0
+IsScriptFor None repos before after script = IsReadFrom before after script
+IsScriptFor (Some n) repos before after script = (after ≡ before) × IsRead (script_text n repos) script
+
+abbrev pub RepliesUnreadFor : Option ℕ → ℕ → Told → Told → Reply → Type 0
+RepliesUnreadFor None repos before after r = RepliesUnread before after r
+RepliesUnreadFor (Some n) repos before after r = (after ≡ before) × RepliesText (script_text n repos) r
+
+-- ---- the store
+
+-- the schemas are those of the store that was found, where the script has no setup
+abbrev pub HasSchemas : Option Declarations → Store → Schemas → Type 0
+HasSchemas (Some setup) store base = Unit {0}
+HasSchemas None store base = schemas_in store ≡ Some base
+
+-- a script that breaks no rule on the store that was found, with these schemas
+pub record IsJudged (plan : Plan) (script : Script) (store : Store) (base : Schemas) : Type 0 where
+  pub accepted : IsAccepted plan.repos script base
+  pub made : AreMade base
+  pub within : IsWithinLimits script
+  pub schemas : HasSchemas script.setup store base
+
+-- what is replied to a script that passes a limit of the store, or is refused on it
+abbrev pub RepliesUnjudged : Plan → Script → Reply → Type 0
+RepliesUnjudged plan script r =
+    RepliesOver script r
+    ⊎ ((refusal : Refusal) × ((r ≡ reply.Refused refusal) × IsRefusalOf plan script refusal))
+
+-- what is replied where a store couldn't be read
+abbrev pub RepliesUnopened : Reply → Type 0
+RepliesUnopened r = ((repo : ℕ) × (r ≡ reply.DiskFault repo)) ⊎ ((repo disk place : ℕ) × (r ≡ reply.Damaged repo disk place))
+
+-- what is replied where one was read and couldn't be opened then: a disk failed
+abbrev pub RepliesUnsettled : Reply → Type 0
+RepliesUnsettled r = (repo : ℕ) × (r ≡ reply.DiskFault repo)
+
+-- what was found is what the disks hold
+pub record IsStoredBy (DiskReads : DiskBytes) (store : Store) : Type 0 where
+  pub each : (images : List (ℕ → List ℕ)) → DiskReads images → IsStoredIn images store
+
+-- where the script has no setup, the opened store is the one for which the disks stand
+abbrev pub IsOpenedAs : List (ℕ → List ℕ) → Option Declarations → Schemas → Plain → Type 0
+IsOpenedAs images (Some setup) base store = Unit {0}
+IsOpenedAs images None base store = IsOpened images base store
