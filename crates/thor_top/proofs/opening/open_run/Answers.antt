@@ -17,7 +17,7 @@ returns-in-Ok-clause-foretells g c = λ given stored.
     let tells = tells_by (running_of c.args.plan.now.command) in
     let disks = of_disks D c.args.script.setup c.args.judged.base c.args.judged.found.store c.in-Ok.opened.store stored c.in-Ok.ensures.opened in
     let foretold : Foretells tells e = subst (λ (running : Running). Foretells (tells_by running) e) c.running_of.ensures
-        (foretells_run D c.args.plan.now.repos c.args.judged.base e c.requires.accepted c.in-Ok.ensures.schemas c.in-Ok.ensures.store disks c.in-Ok.ensures.sorted) in
+    (foretells_run D c.args.plan.now.repos c.args.judged.base e c.requires.accepted c.in-Ok.ensures.schemas c.in-Ok.ensures.store disks c.in-Ok.ensures.sorted) in
     ok_map c.open.result (λ o. o.expected ≡ e) (λ o. Foretells tells o.expected)
     (λ o is. subst (λ (x : Expected). Foretells tells x) (sym is) foretold)
     c.open.ensures.expected
