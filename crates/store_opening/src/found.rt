@@ -377,7 +377,6 @@ fn is_fresh<P: Parts>(place: &Closed<P>) -> bool
 }
 
 /// Whether repository 0 is fresh.
-#[tactic(auto, using(crate::proofs::Freshness::fresh_first, crate::proofs::Freshness::fresh_none))]
 fn begins_fresh<P: Parts>(places: &[Closed<P>]) -> bool
     ensures { result ≡ true → (parts : List P) (images : List (ℕ → List ℕ)) → AreSeated P.disks parts places.now → ReadAll P.disks parts images → IsFreshIn images }
 {
