@@ -1,8 +1,8 @@
 -- A run of small steps comes to what is left at first, and ends.
-use Rattle.std.proofs.Common.{◌≡◌, ℕ, zero, suc, ◌+◌, ◌-◌, ◌*◌, ◌<◌, ◌≤◌, List, [], ◌∷◌, Result, Ok, Err, refl, ap, sym, ◌∙◌, subst, arith}
+use Rattle.std.proofs.Common.{◌≡◌, ℕ, suc, ◌+◌, ◌-◌, ◌<◌, ◌≤◌, List, [], ◌∷◌, Result, Ok, Err, refl, ap, sym, ◌∙◌, subst, arith}
 use Rattle.thor_value.specs.declared.values.Value.{Value}
 use Rattle.class_defs.specs.Run.{meaning}
-use Rattle.class_defs.specs.Steps.{World, Action, after, ◌>>=◌, pure, step}
+use Rattle.class_defs.specs.Steps.{World, Action, after, pure, step}
 use Rattle.class_defs.specs.declared.expressions.Expr.{Expr}
 use Rattle.class_defs.specs.declared.machine.Flow.{Flow}
 use Rattle.class_defs.specs.declared.machine.Flow.TheVariants.{Returned}
@@ -13,7 +13,6 @@ use Rattle.class_defs.specs.declared.statements.Stmt.{Stmt}
 use Rattle.class_defs.specs.declared.types.ExprType.{ExprType}
 use Rattle.method_eval.specs.Does.{Does}
 use Rattle.lang_bounded_eval.specs.SmallSteps.{Leaves, Moves, frame_of, frames, left_of, moved_to}
-use Rattle.lang_bounded_eval.specs.declared.frames.Moved.{Moved}
 use Rattle.lang_bounded_eval.specs.declared.frames.Moved.TheVariants.{To, Ended}
 use Rattle.lang_bounded_eval.specs.declared.frames.Next.{Next}
 use Rattle.lang_bounded_eval.specs.declared.frames.Next.TheVariants as next
@@ -89,7 +88,7 @@ pub tests_on : (r : Result Next Halt) (gs : List Waiting) (fs : List Frame) (n t
 tests_on r gs fs n t c b g m o u is some took h =
     let more : t ≡ suc (t - 1) = omega (arith, some) in
     let on_step : turned n (suc (t - 1)) c b flow.Next fs m ≡ resume_specs.next (doing.Evaluate n c) (frame.Test n (t - 1) c b ∷ fs) o =
-        ap (λ (p : Result (Unit {0}) Stop × Machine). after p.0 p.1 (λ v. resume_specs.next (doing.Evaluate n c) (frame.Test n (t - 1) c b ∷ fs))) took in
+    ap (λ (p : Result (Unit {0}) Stop × Machine). after p.0 p.1 (λ v. resume_specs.next (doing.Evaluate n c) (frame.Test n (t - 1) c b ∷ fs))) took in
     subst (λ (q : Result Left Stop × Machine). Moves r gs o q) (sym (ap (λ (k : Flow). turned n t c b k fs m) is ∙ ap (λ (k : ℕ). turned n k c b flow.Next fs m) more ∙ on_step)) h
 
 -- an argument is given to a call
