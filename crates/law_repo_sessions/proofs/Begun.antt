@@ -45,10 +45,13 @@ none_kept : (K : Kept) (s : ℕ) → IsAway (ended K) s
 none_kept K s = record { client = refl; notes = refl; pages = λ p. refl; invalid = λ x. refl; waits = refl }
 
 none_live : (K : Kept) (c s : ℕ) → (get (ended K).live c ≡ Some s) ↔ ((get (ended K).clients s ≡ Some c) ⊎ (get (ended K).retired s ≡ Some c))
-none_live K c s = (λ e. cc, λ h. elim h [
-  | inl e ↦ cc
-  | inr e ↦ cc
-])
+none_live K c s = (
+  λ e. cc,
+  λ h. elim h [
+    | inl e ↦ cc
+    | inr e ↦ cc
+  ],
+)
 
 none_opened : (K : Kept) (s page : ℕ) → has_page (ended K).sets s page ≡ true → has (ended K).sets.invalid s ≡ true
 none_opened K s page h = cc
