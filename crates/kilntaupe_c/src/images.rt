@@ -60,12 +60,18 @@ fn first_repository(alloc: Global, image: &[u8]) -> Result<(MemParts<TickClock>,
     Ok((parts, rest))
 }
 
+/// Puts a repository's disks behind others.
+fn put(disks: &mut Disks, parts: MemParts<TickClock>) -> Result<(), NoMemory> {
+    disks.push(parts)?;
+    Ok(())
+}
+
 /// The disks of so many new repositories.
 pub(crate) fn new_disks(alloc: Global, repos: u8) -> Result<Disks, Unread> {
     let mut disks = Vec::new(alloc);
     for _ in 0..repos {
         let (parts, _) = first_repository(alloc, NEW.as_slice())?;
-        disks.push(parts)?;
+        put(&mut disks, parts)?;
     }
     Ok(disks)
 }
@@ -79,7 +85,7 @@ pub(crate) fn read_image(alloc: Global, image: &[u8], repos: u8) -> Result<Disks
     let mut rest = image;
     for _ in 0..repos {
         let (parts, others) = first_repository(alloc, rest)?;
-        disks.push(parts)?;
+        put(&mut disks, parts)?;
         rest = others;
     }
     if rest.is_empty() {
