@@ -1,0 +1,4 @@
+pub mod Told
+pub mod Standing
+pub mod Rightness
+pub mod Agreeing
