@@ -1,5 +1,5 @@
 -- What stands of an item, and what a history has of it.
-use Rattle.std.proofs.Common.{◌≡◌, ◌<◌, ◌≤◌, ◌+◌, ◌*◌, ◌-◌, ℕ, zero, suc, Bool, true, false, cond, List, [], ◌∷◌, length, drop, get_or, Option, None, Some, refl, ap, sym, ◌∙◌, subst, arith, ◌==◌, ◌&&◌}
+use Rattle.std.proofs.Common.{◌≡◌, ◌<◌, ◌≤◌, ◌+◌, ◌-◌, ℕ, suc, Bool, true, false, cond, List, [], ◌∷◌, length, drop, get_or, Option, None, Some, refl, ap, sym, ◌∙◌, subst, arith, ◌==◌, ◌&&◌}
 use Rattle.std.proofs.lemmas.Bool.Decides.{nat_tests}
 use Rattle.std.proofs.lemmas.Cmp.{nat_cmp_total}
 use Rattle.std.proofs.lemmas.List.{drop_more}
@@ -199,26 +199,32 @@ step : (d : Did) (ds : List Did) (who : Who) (n : ℕ) (b : Bool) → same_who d
 step d ds who n false e None has = one d ds who false e ∙ has
 step d ds who n false e (Some Twice) has = (has.0, (has.1.0, (has.1.1.0, one d ds who false e ∙ has.1.1.1)))
 step d ds who n false e (Some (Once place in_order)) has =
-    let at : place ≡ n + suc has.0 = let p : place ≡ n + 1 + has.0 = has.1 in omega (arith, p) in
-    (suc has.0, at, record {
-      did = has.2.did;
-      stands = has.2.stands;
-      is_of = has.2.is_of;
-      only = one d ds who false e ∙ has.2.only;
-      order = λ t. (λ same. absurd (who_differs d.who who e same), has.2.order t);
-      no_order = λ f h. has.2.no_order f h.1;
-    })
+    let at : place ≡ n + suc has.0 = let p : place ≡ n + 1 + has.0 = has.1 in omega (arith, p) in (
+      suc has.0,
+      at,
+      record {
+        did = has.2.did;
+        stands = has.2.stands;
+        is_of = has.2.is_of;
+        only = one d ds who false e ∙ has.2.only;
+        order = λ t. (λ same. absurd (who_differs d.who who e same), has.2.order t);
+        no_order = λ f h. has.2.no_order f h.1;
+      },
+    )
 step d ds who n true e None has =
     let same : d.who ≡ who = who_is d.who who e in
-    let at : n ≡ n + 0 = omega (arith) in
-    (0, at, record {
-      did = d;
-      stands = refl;
-      is_of = same;
-      only = one d ds who true e ∙ ap (λ xs. d ∷ xs) has;
-      order = λ t. (λ _. later_all ds d.who.client d.who.index t, none_in_order ds who has);
-      no_order = λ f h. let bad : true ≡ false = sym (all_later ds d.who.client d.who.index (h.0 same)) ∙ f in cc;
-    })
+    let at : n ≡ n + 0 = omega (arith) in (
+      0,
+      at,
+      record {
+        did = d;
+        stands = refl;
+        is_of = same;
+        only = one d ds who true e ∙ ap (λ xs. d ∷ xs) has;
+        order = λ t. (λ _. later_all ds d.who.client d.who.index t, none_in_order ds who has);
+        no_order = λ f h. let bad : true ≡ false = sym (all_later ds d.who.client d.who.index (h.0 same)) ∙ f in cc;
+      },
+    )
 step d ds who n true e (Some (Once place in_order)) has = (d, (has.2.did, ([], one d ds who true e ∙ ap (λ xs. d ∷ xs) has.2.only)))
 step d ds who n true e (Some Twice) has = (d, (has.0, (has.1.0 ∷ has.1.1.0, one d ds who true e ∙ ap (λ xs. d ∷ xs) has.1.1.1)))
 

@@ -1,6 +1,6 @@
 -- Lines of items that are right, line by line and client by client.
-use Rattle.std.proofs.Common.{◌≡◌, ◌<◌, ◌≤◌, ◌+◌, ◌-◌, ℕ, zero, suc, Bool, true, false, List, [], ◌∷◌, ◌++◌, length, take, drop, get_or, Option, None, Some, Err, refl, ap, sym, ◌∙◌, subst, arith, inl, inr, ◌⊎◌}
-use Rattle.std.proofs.lemmas.List.{drop_more, length-append, length-drop, length-take-le, take-append-drop, take_all, take_more}
+use Rattle.std.proofs.Common.{◌≡◌, ◌<◌, ◌≤◌, ◌+◌, ◌-◌, ℕ, zero, suc, Bool, true, false, List, [], ◌∷◌, ◌++◌, length, take, drop, get_or, Option, None, Some, Err, refl, ap, sym, ◌∙◌, subst, arith, inl, inr}
+use Rattle.std.proofs.lemmas.List.{drop_more, length-drop, length-take-le, take-append-drop, take_all, take_more}
 use Rattle.std.proofs.lemmas.Option.{slice_get-get_or, slice_get_within, get_or_from_slice_get}
 use Rattle.std.proofs.Math.Seq.{take-add}
 use Rattle.std.specs.List.{AllByRecursion}
@@ -269,8 +269,7 @@ module _ (clients : List (List What)) (history : List Did) (standings : Map nat_
       let spot : place ≡ length (take place ended) + 0 = omega (arith, count) in
       let here : IsFirstWrong history (front ++ rest) (take place ended ++ e ∷ drop (place + 1) ended) place = wrong_behind history front rest (take place ended) (e ∷ drop (place + 1) ended) 0 place spot so_far not_right in
       let P : List Item → Type 0 = λ is. IsFirstWrong history is ended place in
-      let Q : List Ended → Type 0 = λ es. IsFirstWrong history (front ++ rest) es place in
-      (
+      let Q : List Ended → Type 0 = λ es. IsFirstWrong history (front ++ rest) es place in (
         (let l : length (items_from (client + 1) 1 items) ≡ length items = length_items (client + 1) 1 items in omega (arith, l, within)),
         subst P (sym (items_split place w within known.1)) (subst Q (sym (ended_split ended place e at)) here),
       )
@@ -285,17 +284,16 @@ module _ (clients : List (List What)) (history : List Did) (standings : Map nat_
       let past : length ended ≤ place = none_past ended place at in
       let all : take place ended ≡ ended = take_all place ended past in
       let count : length ended ≡ place =
-          let l : length (take place items) ≡ place = length-take-le place items (omega (arith, within)) in
-          let m : length front ≡ length (take place items) = length_items (client + 1) 1 (take place items) in
-          let k : length (take place ended) ≡ length front = right_length history front (take place ended) so_far in
-          let j : length (take place ended) ≡ length ended = ap length all in
-          omega (arith, l, m, k, j) in
+      let l : length (take place items) ≡ place = length-take-le place items (omega (arith, within)) in
+      let m : length front ≡ length (take place items) = length_items (client + 1) 1 (take place items) in
+      let k : length (take place ended) ≡ length front = right_length history front (take place ended) so_far in
+      let j : length (take place ended) ≡ length ended = ap length all in
+      omega (arith, l, m, k, j) in
       let spot : place ≡ length (take place ended) + 0 = let j : length (take place ended) ≡ length ended = ap length all in omega (arith, count, j) in
       let here : IsFirstWrong history (front ++ rest) (take place ended ++ []) place = wrong_behind history front rest (take place ended) [] 0 place spot so_far refl in
       let whole : take place ended ++ [] ≡ ended = append_nothing (take place ended) ∙ all in
       let P : List Item → Type 0 = λ is. IsFirstWrong history is ended place in
-      let Q : List Ended → Type 0 = λ es. IsFirstWrong history (front ++ rest) es place in
-      (
+      let Q : List Ended → Type 0 = λ es. IsFirstWrong history (front ++ rest) es place in (
         (let l : length (items_from (client + 1) 1 items) ≡ length items = length_items (client + 1) 1 items in omega (arith, l, within)),
         subst P (sym (items_split place w within known.1)) (subst Q whole here),
       )
@@ -366,8 +364,7 @@ module _ (clients : List (List What)) (history : List Did) (ended : List Ended) 
       let some : length own ≤ length (drop used ended) = short (length theirs) (drop used ended) in
       let P : List Item → Type 0 = λ is. AreRight history is (take (used + length theirs) ended) in
       let Q : List Ended → Type 0 = λ es. AreRight history (client_items_from 1 (take client clients) ++ items_from (client + 1) 1 theirs) es in
-      let low : used ≤ length ended = so_far.0 in
-      (
+      let low : used ≤ length ended = so_far.0 in (
         omega (arith, count, left, some, low),
         subst P (sym clients_are) (subst Q (sym (take-add used (length theirs) ended)) (right_behind history (client_items_from 1 (take client clients)) (items_from (client + 1) 1 theirs) (take used ended) own so_far.1 mine)),
       )

@@ -1,6 +1,6 @@
 //! The audit of a report.
 
-ghost use Rattle.std.specs.Prelude.{◌≡◌, ◌+◌, List, Ok, Err};
+ghost use Rattle.std.specs.Prelude.{◌+◌, List, Ok, Err};
 ghost use Rattle.audit_check.specs.Agreement.{Audits};
 ghost use Rattle.audit_check.specs.Items.{AreRightAll};
 ghost use Rattle.audit_check.specs.Lines.{FaultIs, IsLegalOr, IsTold};

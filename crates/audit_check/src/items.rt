@@ -17,8 +17,10 @@ use serial_model::{Did, Ended, ItemOutcome, What};
 use thor_value::{Answer, Fault, Ints, Who};
 use top_history_check::Items;
 
-/// The most clients and the most items of a client that have numbers.
+/// The most clients that have numbers.
 const CLIENTS: usize = 255;
+
+/// The most items of a client that have numbers.
 const ITEMS: usize = 4_294_967_294;
 
 fn is_ints(answer: &Answer, ints: &Ints) -> bool

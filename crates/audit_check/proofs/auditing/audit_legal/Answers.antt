@@ -1,4 +1,4 @@
-use Rattle.std.proofs.Common.{refl, subst, ap, ◌≡◌, ◌+◌}
+use Rattle.std.proofs.Common.{subst, ◌+◌}
 use Rattle.audit_check.specs.Lines.{FaultIs}
 use Rattle.audit_check.specs.declared.disagreement.Disagreement.TheVariants as line
 use Rattle.audit_check.proofs.Agreeing.{answered, unnamed}

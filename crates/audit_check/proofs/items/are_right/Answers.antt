@@ -3,7 +3,7 @@ use Rattle.serial_model.specs.Outcomes.{client_items_from, items_from, all_items
 use Rattle.serial_model.specs.declared.entries.What.{What}
 use Rattle.serial_model.specs.declared.outcomes.Ended.{Ended}
 use Rattle.audit_check.specs.Items.{AreRight, AreRightOr, items_at}
-use Rattle.audit_check.proofs.Rightness.{all_right, item_fault, more_wrong, one_client, wrong_client}
+use Rattle.audit_check.proofs.Rightness.{item_fault, more_wrong, one_client, wrong_client}
 use Rattle.audit_check.proofs.items.are_right.Goals as goal
 
 pub returns-in-Some : goal.returns-in-Some
