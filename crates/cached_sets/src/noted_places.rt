@@ -61,6 +61,16 @@ impl NotedPlaces {
         Ok(())
     }
 
+    /// How many places a session has.
+    pub fn len(&self, session: u32) -> usize
+        ensures { result ≡ length (places_of self.now session) }
+    {
+        match self.queues.get(&session) {
+            Some(queue) => queue.len(),
+            None => 0,
+        }
+    }
+
     /// Whether a session has more places than it may have.
     fn is_silent(&self, session: u32) -> bool
         ensures { result ≡ is_silent self.now session }

@@ -46,6 +46,13 @@ impl PlaceQueue {
         Ok(())
     }
 
+    /// How many places there are.
+    pub fn len(&self) -> usize
+        ensures { result ≡ length self.now }
+    {
+        self.places.len()
+    }
+
     /// Whether there are more places than a session may have.
     pub fn is_over(&self) -> bool
         ensures { result ≡ nat_lt most_noted (length self.now) }

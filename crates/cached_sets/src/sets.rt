@@ -162,6 +162,13 @@ impl Sets {
         self.noted.note(session, place)
     }
 
+    /// Of how many commits a session was told that its client hasn't acknowledged.
+    pub fn unacknowledged(&self, session: u32) -> usize
+        ensures { result ≡ length (places_of self.now.noted session) }
+    {
+        self.noted.len(session)
+    }
+
     /// The client of a session knows what was written below a place: those objects leave its invalid
     /// set. It looks once at each object of that set, and at no other, and takes no memory. The places at which it was
     /// told of them go, too: `acknowledge_counted` says how many steps.

@@ -5,6 +5,7 @@ mod ask;
 mod checkpoint;
 mod commit_one;
 mod connect;
+mod counts;
 mod decide;
 mod draw;
 mod ending;

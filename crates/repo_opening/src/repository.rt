@@ -42,7 +42,8 @@ fn damaged(recovered: &Recovered, repo: u8) -> Unopened {
 
 /// Syncs the disks of a repository, and reads it. The answer is what was recovered, and the page behind the
 /// last one with objects; nothing where it is fresh. The objects of its pages are put into a map. `Damaged`, too,
-/// where its log says another repository or store size, or prepares what it keeps as decided.
+/// where its log prepares what it keeps as decided, and, once its pages are read, where its checkpoint says another
+/// repository or store size.
 #[tactic(auto, using(crate::proofs::Syncing::same_then, crate::proofs::Reading::same_on))]
 pub fn read_repository<P: Parts>(
     alloc: Global,
@@ -59,7 +60,7 @@ pub fn read_repository<P: Parts>(
     ensures reopens { (images : ℕ → List ℕ) → ReadsAs (P.disks parts.old) images → IfOk result (λ found. IfSome found (λ r. reopens images ≡ false)) }
 {
     sync(parts, repo)?;
-    let Some(recovered) = recover_one(alloc, parts, repo, repos, mob)? else {
+    let Some(recovered) = recover_one(alloc, parts, repo, mob)? else {
         return Ok(None);
     };
     let sides = recovered.state.objects().pages().sides();
@@ -70,7 +71,26 @@ pub fn read_repository<P: Parts>(
             return Err(fault);
         }
     };
-    Ok(Some((recovered, behind)))
+    let read = numbered(recovered, behind, repo, repos)?;
+    Ok(Some(read))
+}
+
+/// What was read of a repository, where its checkpoint says that it is this one of so many.
+fn numbered(
+    recovered: Recovered,
+    behind: u32,
+    repo: u8,
+    repos: u8,
+) -> Result<(Recovered, u32), Unopened>
+    ensures read { IfOk result (λ read. read ≡ (recovered, behind)) }
+    ensures number { IfOk result (λ read. recovered.state.repo ≡ repo) }
+{
+    if recovered.state.repo() != repo || recovered.state.repos() != repos {
+        let fault = damaged(&recovered, repo);
+        drop(recovered);
+        return Err(fault);
+    }
+    Ok((recovered, behind))
 }
 
 /// Recovers a repository from its disks, which are synced. Nothing is there where it is fresh. A log in which
@@ -79,12 +99,10 @@ fn recover_one<P: Parts>(
     alloc: Global,
     parts: &mut P,
     repo: u8,
-    repos: u8,
     mob: u32,
 ) -> Result<Option<Recovered>, Unopened>
     requires { AllSettled (P.disks parts.old) }
     ensures found { IfOk result (λ found. IfSome found (IsRecovered (P.disks parts.new))) }
-    ensures number { IfOk result (λ found. IfSome found (λ r. r.state.repo ≡ repo)) }
     ensures settled { AllSettled (P.disks parts.new) }
     ensures same { Same (P.disks parts.old) (P.disks parts.new) }
     ensures fresh { (images : ℕ → List ℕ) → ReadsAs (P.disks parts.old) images → result ≡ Ok None → IsFresh images }
@@ -95,7 +113,7 @@ fn recover_one<P: Parts>(
         Ok(None) => return Ok(None),
         Err(fault) => return Err(fault_of(repo, fault)),
     };
-    if recovered.state.repo() != repo || recovered.state.repos() != repos || recovered.reopens {
+    if recovered.reopens {
         let fault = damaged(&recovered, repo);
         drop(recovered);
         return Err(fault);

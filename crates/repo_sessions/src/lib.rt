@@ -2,6 +2,7 @@
 //! others have written since, and what waits for them.
 #![tactic(auto)]
 
+mod counts;
 mod sessions;
 mod telling;
 

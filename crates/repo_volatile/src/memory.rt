@@ -7,7 +7,7 @@ ghost use Rattle.session_outbox.specs.declared.message.Message.TheVariants.{Gran
 ghost use Rattle.page_format.specs.Pages.{page_bytes};
 ghost use Rattle.validation_queue.specs.Clashes.{clash};
 ghost use Rattle.validation_queue.specs.Names.{IsInOrder};
-ghost use Rattle.thor_value.specs.FiniteMap.{add, empty, has};
+ghost use Rattle.thor_value.specs.FiniteMap.{add, empty, has, len};
 ghost use Rattle.validation_queue.specs.Contents.{cleared};
 ghost use Rattle.repo_volatile.specs.Volatile.{Outlasts, begun, entered, is_upgrade_kind, knows, stands_at, transaction_of};
 
@@ -76,6 +76,13 @@ impl Memory {
         ensures { result ≡ self.now.queue.threshold }
     {
         self.queue.threshold()
+    }
+
+    /// How many transactions are in the queue.
+    pub fn queued(&self) -> usize
+        ensures { result ≡ len self.now.queue.members }
+    {
+        self.queue.len()
     }
 
     /// The sessions.

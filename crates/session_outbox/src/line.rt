@@ -1,6 +1,6 @@
 ghost use Rattle.session_outbox.specs.Messages.{first};
 ghost use Rattle.session_outbox.specs.declared.message.Message.{Message};
-ghost use Rattle.std.specs.Prelude.{OnErr, OnOk, [], drop, ◌++◌, ◌≡◌, ◌∷◌};
+ghost use Rattle.std.specs.Prelude.{OnErr, OnOk, [], drop, length, ◌++◌, ◌≡◌, ◌∷◌};
 
 use crate::message::Message;
 use std::alloc::Global;
@@ -40,6 +40,13 @@ impl Line {
     {
         self.messages.push_back(message)?;
         Ok(())
+    }
+
+    /// How many messages wait.
+    pub fn len(&self) -> usize
+        ensures { result ≡ length self.now }
+    {
+        self.messages.len()
     }
 
     /// Takes the oldest message, where one waits.

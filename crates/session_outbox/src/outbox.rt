@@ -1,6 +1,6 @@
 ghost use Rattle.session_outbox.specs.Messages.{first};
 ghost use Rattle.session_outbox.specs.Outbox.{push, take, waiting};
-ghost use Rattle.std.specs.Prelude.{Ok, OnErr, OnOk, ◌≡◌};
+ghost use Rattle.std.specs.Prelude.{Ok, OnErr, OnOk, length, ◌≡◌};
 ghost use Rattle.thor_value.specs.FiniteMap.{empty, remove};
 
 use crate::line::Line;
@@ -60,6 +60,16 @@ impl Outbox {
         match self.lines.get_mut(&session) {
             Some(line) => line.take(),
             None => None,
+        }
+    }
+
+    /// How many messages wait for a session.
+    pub fn len(&self, session: u32) -> usize
+        ensures { result ≡ length (waiting self.now session) }
+    {
+        match self.lines.get(&session) {
+            Some(line) => line.len(),
+            None => 0,
         }
     }
 

@@ -4,6 +4,7 @@ ghost use Rattle.class_defs.specs.Applied.{next_number};
 ghost use Rattle.std.specs.Prelude.{IfOk, ◌≡◌};
 ghost use Rattle.thor_value.specs.FiniteMap.{IsSorted};
 
+use crate::counts::Size;
 use crate::faults::Fault;
 use class_defs::{Declarations, Plain, Schema, Schemas, Setup, UpgradedSchemas};
 use cluster_core::{Plan, Start};
@@ -42,6 +43,21 @@ pub(crate) struct Play<'a> {
     pub begun: &'a Begun,
     pub events: &'a [Event],
     pub options: &'a Options,
+}
+
+impl Play<'_> {
+    /// How many clients and items the script has.
+    pub(crate) fn size(&self) -> Size {
+        let clients = self.begun.script.clients.as_slice();
+        let mut items = 0usize;
+        for client in clients {
+            items = items.saturating_add(client.as_slice().len());
+        }
+        Size {
+            clients: clients.len(),
+            items,
+        }
+    }
 }
 
 /// The schema of a setup that isn't too large.

@@ -18,8 +18,12 @@ pub enum Wrong {
     Store,
     /// A crash leaves another store than the one with which the repositories came back.
     Image,
+    /// A transform hasn't read all owners of its object.
+    Owners,
     /// A repository buffers more than it may.
     Buffer { repo: u8 },
+    /// A repository keeps more sessions, transactions or messages than it may.
+    Counts { repo: u8 },
 }
 
 /// What a script is judged to be.

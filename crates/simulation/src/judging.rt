@@ -8,9 +8,11 @@ use crate::faults::{Fault, Verdict, Wrong};
 use crate::histories::store_behind;
 use crate::images::judge_image;
 use crate::living::{Lived, live};
+use crate::owners::read_owners;
 use class_defs::Plain;
 use cluster_core::Start;
 use disk_trait::{MemParts, TickClock};
+use repo_trace::Traces;
 use schedule::Event;
 use serial_model::{Ended, ItemOutcome};
 use simulation_events::Coverage;
@@ -54,18 +56,39 @@ fn judge_life(
 ) -> Result<Come, Fault>
     requires { IsSorted store.now.objects }
 {
-    let Lived { disks, ends, lines } = lived;
+    let Lived {
+        disks,
+        ends,
+        lines,
+        traces,
+    } = lived;
     coverage.take_ends(ends.as_slice());
     let is_finished = are_finished(ends.as_slice());
-    let behind = store_behind(alloc, play.begun, store, ends, lines);
-    let (disks, store) = both(disks, behind)?;
+    let after = store_behind(alloc, play.begun, store, ends, lines);
+    let (traces, (disks, store)) = both(traces, both(disks, after))?;
+    let read = check_owners(alloc, play, traces, &store);
     let found = read_back(alloc, play, disks, &store);
     let (store, found) = both(store, found)?;
+    let ((store, found), ()) = both((store, found), read)?;
     Ok(Come {
         found,
         store,
         is_finished,
     })
+}
+
+/// Each transform to the epoch of the store that a life leaves has read the owners of its object.
+fn check_owners(
+    alloc: Global,
+    play: &Play<'_>,
+    traces: Traces,
+    store: &Plain,
+) -> Result<(), Fault> {
+    if read_owners(alloc, &traces, &play.begun.schemas, store)? {
+        Ok(())
+    } else {
+        Err(Fault::Wrong(Wrong::Owners))
+    }
 }
 
 /// What disks hold, where it is this store.

@@ -1,10 +1,12 @@
 //! A store is opened, and events happen at it.
 
 use crate::beginning::{Disks, Play, plan_of};
+use crate::counts::{Size, is_bounded};
 use crate::faults::{Fault, Wrong, unopened};
 use crate::watching::Watch;
 use cluster_core::{Cluster, Finished, Ran, Seat, Start};
 use disk_trait::{MemParts, TickClock};
+use repo_trace::Traces;
 use schedule::{Event, EventKind};
 use serial_model::Ends;
 use simulation_events::Coverage;
@@ -17,12 +19,13 @@ use top_history_check::Lines;
 /// Repositories in memory, with their clients.
 type Store = Cluster<MemParts<TickClock>>;
 
-/// What is left of a life: the disks, how the items ended, and what committed.
+/// What is left of a life: the disks, how the items ended, what committed, and what happened at each repository.
 #[derive(Drop)]
 pub(crate) struct Lived {
     pub disks: Disks,
     pub ends: Ends,
     pub lines: Lines,
+    pub traces: Traces,
 }
 
 /// Opens what was found, with the clients of the script.
@@ -146,8 +149,8 @@ fn end(
     }
 }
 
-/// What is wrong with a repository at the end: it is down, or it buffers too much.
-fn wrong_at(seat: &Seat<MemParts<TickClock>>, repo: u8, mob: u32) -> Option<Wrong> {
+/// What is wrong with a repository at the end: it is down, or it keeps more than it may.
+fn wrong_at(seat: &Seat<MemParts<TickClock>>, repo: u8, mob: u32, size: Size) -> Option<Wrong> {
     match seat {
         Seat::Open(found) => {
             if !found.is_up() {
@@ -156,16 +159,19 @@ fn wrong_at(seat: &Seat<MemParts<TickClock>>, repo: u8, mob: u32) -> Option<Wron
             if found.mob_bytes() > mob {
                 return Some(Wrong::Buffer { repo });
             }
+            if !is_bounded(found, size) {
+                return Some(Wrong::Counts { repo });
+            }
             None
         }
         _ => Some(Wrong::Down { repo }),
     }
 }
 
-fn wrong_in(seats: &[Seat<MemParts<TickClock>>], mob: u32) -> Option<Wrong> {
+fn wrong_in(seats: &[Seat<MemParts<TickClock>>], mob: u32, size: Size) -> Option<Wrong> {
     let mut repo = 0u8;
     for seat in seats {
-        if let Some(wrong) = wrong_at(seat, repo, mob) {
+        if let Some(wrong) = wrong_at(seat, repo, mob, size) {
             return Some(wrong);
         }
         repo = repo.saturating_add(1);
@@ -173,35 +179,33 @@ fn wrong_in(seats: &[Seat<MemParts<TickClock>>], mob: u32) -> Option<Wrong> {
     None
 }
 
-/// How the items of a run ended, and what committed.
-fn told_of(ran: Ran) -> (Ends, Lines) {
+/// What is left of a run, where it was told.
+fn lived_in(finished: Finished<MemParts<TickClock>>) -> Result<Lived, NoMemory> {
+    let Finished { parts, ran } = finished;
+    let (disks, ran) = both(parts, ran)?;
     let Ran {
         ends,
         lines,
         traces,
     } = ran;
-    drop(traces);
-    (ends, lines)
-}
-
-/// What is left of a run, where it was told.
-fn lived_in(finished: Finished<MemParts<TickClock>>) -> Result<Lived, NoMemory> {
-    let Finished { parts, ran } = finished;
-    let (disks, ran) = both(parts, ran)?;
-    let (ends, lines) = told_of(ran);
-    Ok(Lived { disks, ends, lines })
+    Ok(Lived {
+        disks,
+        ends,
+        lines,
+        traces,
+    })
 }
 
 /// Ends a life. What is wrong with its repositories stands beside it.
-fn close(store: Store, mob: u32) -> (Option<Wrong>, Finished<MemParts<TickClock>>) {
+fn close(store: Store, mob: u32, size: Size) -> (Option<Wrong>, Finished<MemParts<TickClock>>) {
     let (emptied, seats, clients) = store.emptied();
-    let wrong = wrong_in(&seats, mob);
+    let wrong = wrong_in(&seats, mob, size);
     (wrong, emptied.filled(seats, clients).finish())
 }
 
 /// Ends a life whose repositories are as they should be.
-fn finish(store: Store, options: &Options) -> Result<Lived, Fault> {
-    match close(store, options.mob) {
+fn finish(store: Store, play: &Play<'_>) -> Result<Lived, Fault> {
+    match close(store, play.options.mob, play.size()) {
         (None, finished) => Ok(lived_in(finished)?),
         (Some(wrong), finished) => {
             drop(finished);
@@ -238,7 +242,7 @@ pub(crate) fn live(
     let mut watch = watch;
     let ended = end(store, &mut watch, play.options, coverage);
     drop(watch);
-    finish(ended?, play.options)
+    finish(ended?, play)
 }
 
 /// Opens what was found, has the events happen, and lets it go as it stands then. The disks.

@@ -3,12 +3,14 @@
 #![tactic(auto)]
 
 mod beginning;
+mod counts;
 mod disks;
 mod faults;
 mod histories;
 mod images;
 mod judging;
 mod living;
+mod owners;
 mod running;
 mod same;
 mod telling;

@@ -20,7 +20,9 @@ fn word_of(wrong: Wrong) -> &'static str {
         Wrong::Opening => "the store can't be opened",
         Wrong::Store => "the disks hold another store than the history leaves",
         Wrong::Image => "a crash leaves another store than a restart finds",
+        Wrong::Owners => "a transform hasn't read the owners of its object",
         Wrong::Buffer { .. } => "a repository buffers too much",
+        Wrong::Counts { .. } => "a repository keeps too many sessions, transactions or messages",
     }
 }
 

@@ -60,7 +60,7 @@ module _ (b : Base) where
   ends T (M (the.Refused n q r)) s w x low began h = cc
 
   -- more news than may be left
-  too_many : (T : List Item) (s : ℕ) (w : Session) (o : Option ℕ) → b.silence ≡ o → is_silent o w ≡ true → IsGoneBy b T s w
+  too_many : (T : List Item) (s : ℕ) (w : Session) (o : Option ℕ) → b.silence ≡ o → is_silent o w ≡ true → IsGoneBy b T s (record w { stage = retired w.stage })
   too_many T s w None f e = cc
   too_many T s w (Some n) f e = BySilence n f (is_below n (unanswered w) e)
 
@@ -81,7 +81,7 @@ module _ (b : Base) where
       unlive false e = refl
 
       by : (t : Bool) → is_silent b.silence w ≡ t → session_lives (cond t (record w { stage = retired w.stage }) w) ≡ false → IsGoneBy b (T ++ i ∷ []) s (cond t (record w { stage = retired w.stage }) w)
-      by true e h = too_many (T ++ i ∷ []) s (record w { stage = retired w.stage }) b.silence refl e
+      by true e h = too_many (T ++ i ∷ []) s w b.silence refl e
       by false e h = ends T i s w x low began (unlive (lives_on v.client i) h)
 
   moves_on : (T : List Item) (i : Item) → exact b T → HasCause T → ItemIsExact b T i → (s : ℕ) (v : Session) → session b T s ≡ Some v

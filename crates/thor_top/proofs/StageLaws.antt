@@ -19,9 +19,10 @@ use Rattle.top_reply.specs.Reports.{IsReported}
 use Rattle.top_reply.specs.declared.form.Form.{Form}
 use Rattle.top_reply.specs.declared.form.Form.TheVariants as form
 use Rattle.top_reply.specs.declared.reply.Reply.{Reply}
+use Rattle.top_reply.specs.declared.running.Running.{Running}
 use Rattle.top_statement.specs.Kept.{Refuses, RefusesBy, WritesNothing}
 use Rattle.top_statement.specs.Opening.{DiskBytes, IsAccepted, IsOfDisks, IsStore}
-use Rattle.top_statement.specs.Top.{IsWithinLimits, RepliesTo, form_of}
+use Rattle.top_statement.specs.Top.{IsWithinLimits, RepliesTo, form_of, running_of}
 use Rattle.top_words.specs.declared.command.Command.{Command}
 use Rattle.top_words.specs.declared.command.Command.TheVariants.{Check, Gen, Play, Run}
 use Rattle.top_words.specs.declared.command.Plan.{Plan}
@@ -46,7 +47,7 @@ no_form Run is = absurd (let no : None ≡ Some form.Report = is in cc)
 no_form (Gen n) is = absurd (let no : None ≡ Some form.Summary = is in cc)
 
 -- a run that is told in the form of its command is replied to the script
-pub run_replies : (D : DiskBytes) (plan : Plan) (script : Script) (f : Form) → Some f ≡ form_of plan.command → IsWithinLimits script → (r : Reply) → RepliesRun D f plan.repos script r → RepliesTo D plan script r
+pub run_replies : (D : DiskBytes) (plan : Plan) (script : Script) (f : Form) → Some f ≡ form_of plan.command → IsWithinLimits script → (r : Reply) → RepliesRun D (running_of plan.command) f plan.repos script r → RepliesTo D plan script r
 run_replies D plan script form.Report is within r told = subst (λ (w : Reply). RepliesTo D plan script w) (sym told.1.1.0) (sym is, (within, told.1.1.1))
 run_replies D plan script form.Summary is within r told = subst (λ (w : Reply). RepliesTo D plan script w) (sym told.1.1.0) (sym is, (within, told.1.1.1))
 
@@ -56,9 +57,9 @@ run_refuses : (f : Form) (finished : Bool) (text : List ℕ) → Refuses (run_re
 run_refuses form.Report finished text refuses = refuses
 run_refuses form.Summary finished text refuses = refuses
 
-told_refuses : (f : Form) (schemas : Schemas) (store : Plain) (script : Script) (r : Result Reply NoMemory) → IfOk r (IsReported f schemas store script) → RefusesBy r → ⊥
-told_refuses f schemas store script (Ok w) told refuses = run_refuses f told.0 told.1.0 (subst (λ (v : Reply). Refuses v) told.1.1.0 refuses)
-told_refuses f schemas store script (Err e) told refuses = refuses
+told_refuses : (running : Running) (f : Form) (schemas : Schemas) (store : Plain) (script : Script) (r : Result Reply NoMemory) → IfOk r (IsReported running f schemas store script) → RefusesBy r → ⊥
+told_refuses running f schemas store script (Ok w) told refuses = run_refuses f told.0 told.1.0 (subst (λ (v : Reply). Refuses v) told.1.1.0 refuses)
+told_refuses running f schemas store script (Err e) told refuses = refuses
 
 unsettled_refuses : (r : Result Reply NoMemory) → IfOk r RepliesUnsettled → RefusesBy r → ⊥
 unsettled_refuses (Ok w) failed refuses = subst (λ (v : Reply). Refuses v) failed.1 refuses
@@ -68,8 +69,8 @@ no_refusal : (c : Command) (r : Result Reply NoMemory) → IsPlayed c → (Refus
 no_refusal c r played none (inl is) = let no : Some played.0 ≡ None = played.1 ∙ is in cc
 no_refusal c r played none (inr refuses) = none refuses
 
-pub told_writes : (c : Command) (f : Form) (schemas : Schemas) (store : Plain) (script : Script) (r : Result Reply NoMemory) → IsPlayed c → IfOk r (IsReported f schemas store script) → WritesNothing c r → ⊥
-told_writes c f schemas store script r played told = no_refusal c r played (told_refuses f schemas store script r told)
+pub told_writes : (c : Command) (running : Running) (f : Form) (schemas : Schemas) (store : Plain) (script : Script) (r : Result Reply NoMemory) → IsPlayed c → IfOk r (IsReported running f schemas store script) → WritesNothing c r → ⊥
+told_writes c running f schemas store script r played told = no_refusal c r played (told_refuses running f schemas store script r told)
 
 pub unsettled_writes : (c : Command) (r : Result Reply NoMemory) → IsPlayed c → IfOk r RepliesUnsettled → WritesNothing c r → ⊥
 unsettled_writes c r played failed = no_refusal c r played (unsettled_refuses r failed)
@@ -82,18 +83,18 @@ pub of_disks : (D : DiskBytes) (setup : Option Declarations) (base : Schemas) (s
 of_disks D (Some setup) base store opened stored is = tt
 of_disks D None base store opened stored is = λ images reads. is images (stored.each images reads)
 
-reported_run : (D : DiskBytes) (f : Form) (repos : ℕ) (script : Script) (base : Schemas) (store : Plain) → IsAccepted repos script base → IsStore script.setup base store → IsOfDisks D script.setup base store
-    → (r : Reply) → IsReported f (extended base (upgrades_of script.clients)) store script r → RepliesRun D f repos script r
-reported_run D f repos script base store accepted is disks r told =
+reported_run : (D : DiskBytes) (running : Running) (f : Form) (repos : ℕ) (script : Script) (base : Schemas) (store : Plain) → IsAccepted repos script base → IsStore script.setup base store → IsOfDisks D script.setup base store
+    → (r : Reply) → IsReported running f (extended base (upgrades_of script.clients)) store script r → RepliesRun D running f repos script r
+reported_run D running f repos script base store accepted is disks r told =
     (told.0, (told.1.0, (told.1.1.0, record { base = base; store = store; accepted = accepted; store_is = is; of_disks = disks; run = told.1.1.1 })))
 
 -- what is expected of a run on the opened store foretells what is replied of it
 pub foretells_run : (D : DiskBytes) (repos : ℕ) (base : Schemas) (e : Expected) → IsAccepted repos e.script base → e.opened.schemas ≡ extended base (upgrades_of e.script.clients)
-    → IsStore e.script.setup base e.opened.store → IsOfDisks D e.script.setup base e.opened.store → IsSorted e.opened.store.objects → Foretells (RepliesRun D e.form repos e.script) e
+    → IsStore e.script.setup base e.opened.store → IsOfDisks D e.script.setup base e.opened.store → IsSorted e.opened.store.objects → Foretells (RepliesRun D e.running e.form repos e.script) e
 foretells_run D repos base e accepted schemas is disks sorted = record {
   sorted = sorted;
-  says = λ r reported. reported_run D e.form repos e.script base e.opened.store accepted is disks r
-      (subst (λ (w : Schemas). IsReported e.form w e.opened.store e.script r) schemas reported);
+  says = λ r reported. reported_run D e.running e.form repos e.script base e.opened.store accepted is disks r
+      (subst (λ (w : Schemas). IsReported e.running e.form w e.opened.store e.script r) schemas reported);
 }
 
 pub foretells_map : (P Q : Reply → Type 0) (e : Expected) → ((r : Reply) → P r → Q r) → Foretells P e → Foretells Q e

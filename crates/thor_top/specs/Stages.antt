@@ -7,6 +7,7 @@ use Rattle.top_reply.specs.Replies.{run_reply}
 use Rattle.top_reply.specs.Reports.{IsReported}
 use Rattle.top_reply.specs.declared.form.Form.{Form}
 use Rattle.top_reply.specs.declared.reply.Reply.{Reply}
+use Rattle.top_reply.specs.declared.running.Running.{Running}
 use Rattle.top_statement.specs.Opening.{DiskBytes}
 use Rattle.top_statement.specs.Reports.{IsReport}
 use Rattle.top_statement.specs.Top.{form_of}
@@ -16,11 +17,11 @@ use Rattle.top_words.specs.declared.command.Command.TheVariants.{Check, Gen, Pla
 -- Whatever is replied of a run of which this is expected says so.
 pub record Foretells (Says : Reply → Type 0) (e : Expected) : Type 0 where
   pub sorted : IsSorted e.opened.store.objects
-  pub says : (r : Reply) → IsReported e.form e.opened.schemas e.opened.store e.script r → Says r
+  pub says : (r : Reply) → IsReported e.running e.form e.opened.schemas e.opened.store e.script r → Says r
 
 -- the reply tells, in this form, a run of an accepted script
-abbrev pub RepliesRun : DiskBytes → Form → ℕ → Script → Reply → Type 0
-RepliesRun DiskReads f repos script r = (finished : Bool) × ((text : List ℕ) × ((r ≡ run_reply f finished text) × IsReport DiskReads f repos script finished text))
+abbrev pub RepliesRun : DiskBytes → Running → Form → ℕ → Script → Reply → Type 0
+RepliesRun DiskReads running f repos script r = (finished : Bool) × ((text : List ℕ) × ((r ≡ run_reply f finished text) × IsReport DiskReads running f repos script finished text))
 
 -- the command is performed on one thread
 abbrev pub IsInTurn : Command → Type 0

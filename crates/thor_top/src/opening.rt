@@ -10,6 +10,7 @@ ghost use Rattle.thor_top.specs.Stages.{Foretells, RepliesRun};
 ghost use Rattle.thor_value.specs.FiniteMap.{IsSorted};
 ghost use Rattle.top_judging.specs.Stages.{IsJudged, IsOpenedAs, IsStoredBy, RepliesUnsettled};
 ghost use Rattle.top_statement.specs.Opening.{IsStore};
+ghost use Rattle.top_statement.specs.Top.{running_of};
 
 use crate::expected::Expected;
 use class_defs::{Schemas, Setup};
@@ -21,15 +22,25 @@ use std::alloc::Global;
 use store_opening::{ClusterFault, Found};
 use thor_value::{NoMemory, TryCopy, both};
 use top_judging::{Judged, OpenedStore, opened_of, unsettled};
-use top_reply::Form;
+use top_reply::{Form, Running};
 use top_statement::{Answered, unplayed};
-use top_words::Plan;
+use top_words::{Command, Plan};
 
 /// A store that is open for a script's run.
 pub struct OpenRun<P: Parts> {
     pub cluster: Cluster<P>,
     /// What the run is compared with before it is told.
     pub expected: Expected,
+}
+
+/// How a command performs a run, where it makes one.
+fn running_of(command: Command) -> Running
+    ensures { result ≡ running_of command }
+{
+    match command {
+        Command::Run => Running::OnThreads,
+        Command::Check | Command::Play | Command::Gen { n: _ } => Running::InTurn,
+    }
 }
 
 /// With what a store is opened: with the setup of the script, where it has one.
@@ -123,7 +134,7 @@ pub(crate) fn open_run<P: Parts>(
     judged: Judged<P>,
 ) -> Result<OpenRun<P>, Answered<P>>
     requires { IsJudged plan.now script judged.found.store judged.base }
-    ensures foretells { (given : List P) → IsStoredBy (ReadAll P.disks given) judged.found.store → IfOk result (λ run. Foretells (RepliesRun (ReadAll P.disks given) form plan.now.repos script) run.expected) }
+    ensures foretells { (given : List P) → IsStoredBy (ReadAll P.disks given) judged.found.store → IfOk result (λ run. Foretells (RepliesRun (ReadAll P.disks given) (running_of plan.now.command) form plan.now.repos script) run.expected) }
     ensures same { IfOk result (λ run. schemas_of run.cluster ≡ run.expected.opened.schemas) }
     ensures count { IfOk result (λ run. parts_of run.cluster ≡ parts_in judged.found) }
     ensures reply { IfErr result (λ a. IfOk a.reply RepliesUnsettled) }
@@ -135,6 +146,7 @@ pub(crate) fn open_run<P: Parts>(
     match prepared {
         Ok((opened, run)) => {
             let expected = Expected {
+                running: running_of(plan.command),
                 form,
                 script,
                 opened,

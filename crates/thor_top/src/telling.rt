@@ -21,7 +21,7 @@ fn reported(
     ran: Result<Ran, NoMemory>,
 ) -> (Result<Reply, NoMemory>, Traces)
     requires { IsSorted expected.now.opened.store.objects }
-    ensures { IfOk result.0 (IsReported expected.now.form expected.now.opened.schemas expected.now.opened.store expected.now.script) }
+    ensures { IfOk result.0 (IsReported expected.now.running expected.now.form expected.now.opened.schemas expected.now.opened.store expected.now.script) }
 {
     match ran {
         Ok(
@@ -33,6 +33,7 @@ fn reported(
         ) => {
             let reply = report(
                 alloc,
+                expected.running,
                 expected.form,
                 &expected.opened.schemas,
                 &expected.opened.store,
@@ -55,7 +56,7 @@ pub(crate) fn told<P: Parts>(
     finished: Finished<P>,
 ) -> Answered<P>
     requires { IsSorted expected.opened.store.objects }
-    ensures reply { IfOk result.reply (IsReported expected.form expected.opened.schemas expected.opened.store expected.script) }
+    ensures reply { IfOk result.reply (IsReported expected.running expected.form expected.opened.schemas expected.opened.store expected.script) }
     ensures parts { result.parts ≡ finished.parts }
 {
     let Finished { parts, ran } = finished;

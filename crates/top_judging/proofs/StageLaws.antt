@@ -90,7 +90,7 @@ module _ (D : DiskBytes) (plan : Plan) (script : Script) where
 
   pub unopened_replies : (r : Reply) → RepliesUnopened r → RepliesTo D plan script r
   unopened_replies r (inl failed) = subst (λ (w : Reply). RepliesTo D plan script w) (sym failed.1) tt
-  unopened_replies r (inr damaged) = subst (λ (w : Reply). RepliesTo D plan script w) (sym damaged.1.1.1) tt
+  unopened_replies r (inr damaged) = subst (λ (w : Reply). RepliesTo D plan script w) (sym damaged.3) tt
 
   pub unsettled_replies : (r : Reply) → RepliesUnsettled r → RepliesTo D plan script r
   unsettled_replies r failed = subst (λ (w : Reply). RepliesTo D plan script w) (sym failed.1) tt

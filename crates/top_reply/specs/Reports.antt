@@ -22,6 +22,8 @@ use Rattle.top_reply.specs.Replies.{run_reply}
 use Rattle.top_reply.specs.declared.form.Form.{Form}
 use Rattle.top_reply.specs.declared.form.Form.TheVariants as form
 use Rattle.top_reply.specs.declared.reply.Reply.{Reply}
+use Rattle.top_reply.specs.declared.running.Running.{Running}
+use Rattle.top_reply.specs.declared.running.Running.TheVariants.{InTurn, OnThreads}
 
 -- whether an item was done or ended in a fault
 abbrev pub is_finished_as : ItemOutcome → Bool
@@ -66,16 +68,22 @@ can_come_alone (cause.Reason (reasons.Epoch n)) = false
 can_come_alone (cause.Reason (reasons.Blocked tx)) = false
 can_come_alone (cause.Reason (reasons.Gone session)) = false
 
--- how an item of such a client ends: at its first try, where it isn't refused
-abbrev pub ends_at_once_as : ℕ → ItemOutcome → Bool
-ends_at_once_as tries (Done ts ints) = tries == 1
-ends_at_once_as tries (Upgraded ts number) = tries == 1
-ends_at_once_as tries (Faulted ts f) = tries == 1
-ends_at_once_as tries (Refused cause) = can_come_alone cause
-ends_at_once_as tries (Unknown tx) = true
+-- How often an item of such a client may have been tried that isn't refused: once, where events are performed one after the
+-- other. On threads the clock may have refused it before, as one that gives too late a time once.
+abbrev pub may_be_tried : Running → ℕ → Bool
+may_be_tried InTurn tries = tries == 1
+may_be_tried OnThreads tries = true
 
-abbrev pub ends_at_once : Ended → Bool
-ends_at_once e = ends_at_once_as e.tries e.outcome
+-- how an item of such a client ends: at its first try, or refused so, or its outcome is unknown
+abbrev pub ends_at_once_as : Running → ℕ → ItemOutcome → Bool
+ends_at_once_as running tries (Done ts ints) = may_be_tried running tries
+ends_at_once_as running tries (Upgraded ts number) = may_be_tried running tries
+ends_at_once_as running tries (Faulted ts f) = may_be_tried running tries
+ends_at_once_as running tries (Refused cause) = can_come_alone cause
+ends_at_once_as running tries (Unknown tx) = true
+
+abbrev pub ends_at_once : Running → Ended → Bool
+ends_at_once running e = ends_at_once_as running e.tries e.outcome
 
 -- ---- a run
 
@@ -97,16 +105,16 @@ TellsAs form.Summary ended history text = Unit {0}
 -- The text is that of outcomes and a history. The history is one serial history from the store: its timestamps strictly
 -- rise, each entry gives the answer that its run gives on the store behind those before it, and upgrades transform all
 -- objects at their place. The outcomes are answered by it, each item's once and each client's in its order.
-pub record IsRun (form : Form) (schemas : Schemas) (store : Plain) (script : Script) (finished : Bool) (text : List ℕ) : Type 0 where
+pub record IsRun (running : Running) (form : Form) (schemas : Schemas) (store : Plain) (script : Script) (finished : Bool) (text : List ℕ) : Type 0 where
   pub history : List Did
   pub ended : List Ended
   pub legal : IsLegal schemas history store
   pub answers : Answers history (all_items script.clients) ended
-  pub at_once : runs_alone script ≡ true → list_all ends_at_once ended ≡ true
+  pub at_once : runs_alone script ≡ true → list_all (ends_at_once running) ended ≡ true
   pub finished_is : finished ≡ list_all is_finished ended
   pub written_out : text ≡ run_text form schemas store ended history
   pub tells : TellsAs form ended history text
 
 -- the reply tells a run in this form
-abbrev pub IsReported : Form → Schemas → Plain → Script → Reply → Type 0
-IsReported form schemas store script r = (finished : Bool) × ((text : List ℕ) × ((r ≡ run_reply form finished text) × IsRun form schemas store script finished text))
+abbrev pub IsReported : Running → Form → Schemas → Plain → Script → Reply → Type 0
+IsReported running form schemas store script r = (finished : Bool) × ((text : List ℕ) × ((r ≡ run_reply form finished text) × IsRun running form schemas store script finished text))

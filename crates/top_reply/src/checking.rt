@@ -11,6 +11,7 @@ ghost use Rattle.thor_value.specs.FiniteMap.{IsSorted};
 
 use crate::form::Form;
 use crate::reply::Reply;
+use crate::running::Running;
 use base_reasons::Reason;
 use class_defs::{Plain, Schemas};
 use report_summary::{accounts_sum, print_summary};
@@ -102,24 +103,34 @@ fn can_come_alone(cause: &Cause) -> bool
     }
 }
 
+/// Whether an item that no other client hinders may have been tried so often, by the clock of a run on threads.
+fn may_be_tried(running: Running, tries: u32) -> bool
+    ensures { result ≡ spec.may_be_tried running tries }
+{
+    match running {
+        Running::InTurn => tries == 1,
+        Running::OnThreads => true,
+    }
+}
+
 /// Whether an item ended as one that no other client hinders.
-fn ends_at_once(ended: &Ended) -> bool
-    ensures { result ≡ spec.ends_at_once ended.now }
+fn ends_at_once(running: Running, ended: &Ended) -> bool
+    ensures { result ≡ spec.ends_at_once running ended.now }
 {
     match &ended.outcome {
         ItemOutcome::Done { .. } | ItemOutcome::Upgraded { .. } | ItemOutcome::Faulted { .. } =>
-            ended.tries == 1,
+            may_be_tried(running, ended.tries),
         ItemOutcome::Refused { cause } => can_come_alone(cause),
         ItemOutcome::Unknown { .. } => true,
     }
 }
 
 /// Whether all items ended so.
-fn end_at_once(ends: &[Ended]) -> bool
-    ensures { result ≡ list_all spec.ends_at_once ends.now }
+fn end_at_once(running: Running, ends: &[Ended]) -> bool
+    ensures { result ≡ list_all (spec.ends_at_once running) ends.now }
 {
     for ended in ends {
-        if !ends_at_once(ended) {
+        if !ends_at_once(running, ended) {
             return false;
         }
     }
@@ -127,10 +138,10 @@ fn end_at_once(ends: &[Ended]) -> bool
 }
 
 /// Whether the items of a client that is alone ended at once.
-fn is_unhindered(script: &Script, ends: &[Ended]) -> bool
-    ensures { result ≡ true → spec.runs_alone script.now ≡ true → list_all spec.ends_at_once ends.now ≡ true }
+fn is_unhindered(running: Running, script: &Script, ends: &[Ended]) -> bool
+    ensures { result ≡ true → spec.runs_alone script.now ≡ true → list_all (spec.ends_at_once running) ends.now ≡ true }
 {
-    !runs_alone(script) || end_at_once(ends)
+    !runs_alone(script) || end_at_once(running, ends)
 }
 
 /// The text of a run whose history was checked.
@@ -164,6 +175,7 @@ struct ToldRun {
 /// want of memory.
 fn told_run(
     alloc: Global,
+    running: Running,
     form: Form,
     schemas: &Schemas,
     store: &Plain,
@@ -172,9 +184,9 @@ fn told_run(
     ends: &Ends,
 ) -> Result<ToldRun, NoMemory>
     requires { IsSorted store.now.objects }
-    ensures { IfOk result (λ run. IsRun form schemas.now store.now script.now run.finished run.text) }
+    ensures { IfOk result (λ run. IsRun running form schemas.now store.now script.now run.finished run.text) }
 {
-    if !are_made(schemas) || !is_unhindered(script, ends.as_slice()) {
+    if !are_made(schemas) || !is_unhindered(running, script, ends.as_slice()) {
         return Err(NoMemory);
     }
     match checked_history(alloc, schemas, store, &script.clients, lines, ends)? {
@@ -205,6 +217,7 @@ fn run_reply(form: Form, run: ToldRun) -> Reply
 /// nothing is told: the answer is that of want of memory.
 pub fn report(
     alloc: Global,
+    running: Running,
     form: Form,
     schemas: &Schemas,
     store: &Plain,
@@ -213,8 +226,8 @@ pub fn report(
     ends: &Ends,
 ) -> Result<Reply, NoMemory>
     requires { IsSorted store.now.objects }
-    ensures { IfOk result (IsReported form schemas.now store.now script.now) }
+    ensures { IfOk result (IsReported running form schemas.now store.now script.now) }
 {
-    let run = told_run(alloc, form, schemas, store, script, lines, ends)?;
+    let run = told_run(alloc, running, form, schemas, store, script, lines, ends)?;
     Ok(run_reply(form, run))
 }

@@ -4,11 +4,13 @@
 mod checking;
 mod form;
 mod reply;
+mod running;
 mod status;
 mod texts;
 
 pub use checking::report;
 pub use form::Form;
 pub use reply::Reply;
+pub use running::Running;
 pub use status::Status;
 pub use texts::{damaged_text, disk_text, limit_text, status_of};

@@ -20,6 +20,8 @@ use Rattle.top_reply.specs.declared.form.Form.{Form}
 use Rattle.top_reply.specs.declared.form.Form.TheVariants as form
 use Rattle.top_reply.specs.declared.reply.Reply.{Reply}
 use Rattle.top_reply.specs.declared.reply.Reply.TheVariants as reply
+use Rattle.top_reply.specs.declared.running.Running.{Running}
+use Rattle.top_reply.specs.declared.running.Running.TheVariants.{InTurn, OnThreads}
 
 -- ---- what is read
 
@@ -62,6 +64,13 @@ form_of Check = None
 form_of Play = Some form.Report
 form_of Run = Some form.Report
 form_of (Gen n) = Some form.Summary
+
+-- how a command performs a run, where it makes one
+abbrev pub running_of : Command → Running
+running_of Check = InTurn
+running_of Play = InTurn
+running_of Run = OnThreads
+running_of (Gen n) = InTurn
 
 -- these bytes were taken for a script, and this is true of them
 pub record OfBytes (plan : Plan) (before after : Told) (Of : List ℕ → Type 0) : Type 0 where
@@ -130,7 +139,7 @@ IsTooLong command before limit = Reads command × (IsMoreThan 8388608 before.lef
 
 -- the command tells runs in this form, and the text is that of the script's run
 abbrev pub IsRunOf : DiskBytes → Form → Plan → Script → Bool → List ℕ → Type 0
-IsRunOf DiskReads f plan script finished text = (form_of plan.command ≡ Some f) × (IsWithinLimits script × IsReport DiskReads f plan.repos script finished text)
+IsRunOf DiskReads f plan script finished text = (form_of plan.command ≡ Some f) × (IsWithinLimits script × IsReport DiskReads (running_of plan.command) f plan.repos script finished text)
 
 -- the command is `check`, and the script breaks no rule on the store that was found
 abbrev pub IsCheckOf : Plan → Script → Type 0

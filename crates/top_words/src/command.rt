@@ -4,6 +4,7 @@ ghost use Rattle.std.specs.Str.{is_utf8};
 ghost use Rattle.top_words.specs.Words as spec;
 ghost use Rattle.top_words.specs.Words.{Gives};
 
+use crate::parsing::{Parsed, parse, texts_of};
 use script_text::digits_value;
 use std::alloc::Global;
 use std::str;
@@ -332,11 +333,8 @@ fn plan_of_words(alloc: Global, words: &[Text]) -> Result<Plan, WordsFault>
     }
 }
 
-/// What the words ask for, which aren't those of the program's name.
-///
-/// `gen` is followed by one number. Each option is given at most once, as two words or as one with `=`. `check`
-/// takes the repositories and the folder alone.
-pub fn read_words(alloc: Global, words: &[Text]) -> Result<Plan, WordsFault>
+/// What the words ask for by the list of words.
+fn listed_plan(alloc: Global, words: &[Text]) -> Result<Plan, WordsFault>
     ensures { Gives (spec.plan_of words.now) result }
 {
     if are_text(words) {
@@ -344,4 +342,70 @@ pub fn read_words(alloc: Global, words: &[Text]) -> Result<Plan, WordsFault>
     } else {
         Err(WordsFault::Words)
     }
+}
+
+/// The number that an option has, or the usual one.
+fn number_or(greatest: u32, value: Option<&str>, usual: u32) -> Option<u32> {
+    match value {
+        Some(text) => number_within(greatest, text.as_bytes()),
+        None => Some(usual),
+    }
+}
+
+/// Whether two folders are the same.
+fn is_same_folder(parsed: Option<&str>, listed: &Option<Text>) -> bool {
+    match (parsed, listed) {
+        (Some(parsed), Some(listed)) => parsed.as_bytes() == listed.as_slice(),
+        (None, None) => true,
+        (_, _) => false,
+    }
+}
+
+/// Whether a command that was read is this one.
+fn is_command(parsed: &Parsed<'_>, command: Command) -> bool {
+    match command {
+        Command::Check => parsed.command == "check",
+        Command::Play => parsed.command == "play",
+        Command::Run => parsed.command == "run",
+        Command::Gen { n } => {
+            parsed.command == "gen" && number_or(1_000, parsed.number, 0) == Some(u32::from(n))
+        }
+    }
+}
+
+/// Whether what was read is this plan.
+fn is_plan(parsed: &Parsed<'_>, plan: &Plan) -> bool {
+    is_command(parsed, plan.command)
+        && number_or(8, parsed.repos, 1) == Some(u32::from(plan.repos))
+        && number_or(100, parsed.tries, 16) == Some(u32::from(plan.tries))
+        && number_or(16_777_216, parsed.mob, 1_048_576) == Some(plan.mob)
+        && number_or(4_096, parsed.cache, 64) == Some(plan.cache)
+        && is_same_folder(parsed.store, &plan.store)
+}
+
+/// Whether `clap` reads this plan in the words.
+fn is_parsed(alloc: Global, words: &[Text], plan: &Plan) -> Result<bool, NoMemory> {
+    let Some(texts) = texts_of(alloc, words)? else {
+        return Ok(false);
+    };
+    match parse(alloc, texts.as_slice())? {
+        Some(parsed) => Ok(is_plan(&parsed, plan)),
+        None => Ok(false),
+    }
+}
+
+/// What the words ask for, which aren't those of the program's name.
+///
+/// `gen` is followed by one number. Each option is given at most once, as two words or as one with `=`. `check`
+/// takes the repositories and the folder alone. The list of words decides; `clap` reads what it takes, and where that is
+/// another plan nothing is answered: the fault is that of want of memory.
+pub fn read_words(alloc: Global, words: &[Text]) -> Result<Plan, WordsFault>
+    ensures { Gives (spec.plan_of words.now) result }
+{
+    let plan = listed_plan(alloc, words)?;
+    if !is_parsed(alloc, words, &plan)? {
+        drop(plan);
+        return Err(WordsFault::NoMemory);
+    }
+    Ok(plan)
 }

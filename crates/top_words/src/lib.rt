@@ -2,5 +2,6 @@
 #![tactic(auto)]
 
 mod command;
+mod parsing;
 
 pub use command::{Command, Plan, WordsFault, read_words};

@@ -1,7 +1,7 @@
 ghost use Rattle.std.specs.Option.{option_copied};
 ghost use Rattle.std.specs.Ordering.{nat_cmp};
 ghost use Rattle.std.specs.Prelude.{◌≡◌, None, IfOk, OnErr, OnOk, cond, is_some, slice_get};
-ghost use Rattle.thor_value.specs.FiniteMap.{get, has, insert};
+ghost use Rattle.thor_value.specs.FiniteMap.{get, has, insert, len};
 ghost use Rattle.thor_value.specs.Names.{ts_cmp};
 ghost use Rattle.two_phase.specs.Walks.{behind, bound_past, first_kept, first_open};
 ghost use Rattle.two_phase.specs.Contents.{decided, finished, is_alone, keeping, keeps, nothing, open_at, standing, without};
@@ -141,6 +141,13 @@ impl Table {
     {
         self.alone.insert(client, tx)?;
         Ok(())
+    }
+
+    /// How many transactions are open here or have a decision that is kept.
+    pub fn len(&self) -> usize
+        ensures { result ≡ len self.now.transactions }
+    {
+        self.transactions.len()
     }
 
     /// Whether a transaction is open here, or the decision to commit it is kept.

@@ -11,7 +11,7 @@ pub returns-clause-found : goal.returns-clause-found
 returns-clause-found g c =
     let r = c.in-Some.recovered in
     let known : IsRecovered (g.P.Parts.disks c.recover_one.new.parts) r = rw c.in-Some.is at c.in_ok-recovered.ensures.found in
-    recovered_on (g.P.Parts.disks c.recover_one.new.parts) (g.P.Parts.disks c.read_pages.new.parts) r c.read_pages.ensures.stays known
+    rw sym c.in_ok-read.ensures.read (recovered_on (g.P.Parts.disks c.recover_one.new.parts) (g.P.Parts.disks c.read_pages.new.parts) r c.read_pages.ensures.stays known)
 
 pub returns-clause-stored : goal.returns-clause-stored
 returns-clause-stored g c = λ images reads.
@@ -20,7 +20,7 @@ returns-clause-stored g c = λ images reads.
     let found = g.P.Parts.disks c.recover_one.new.parts in
     let r = c.in-Some.recovered in
     let known : IsRecovered found r = rw c.in-Some.is at c.in_ok-recovered.ensures.found in
-    let number : r.state.repo ≡ c.args.repo = rw c.in-Some.is at c.in_ok-recovered.ensures.number in
+    let number : r.state.repo ≡ c.args.repo = c.in_ok-read.ensures.number in
     let told : ReadsAs found images = reads_on synced found c.recover_one.ensures.same.content images (reads_on first synced c.sync.ensures.same.content images reads) in
     let sides : c.sides-sides.result.now ≡ r.state.objects.pages.sides = c.sides-sides.ensures ∙ ap (λ (s : Store). s.sides) (c.pages.ensures ∙ ap (λ (k : Kept). k.pages) c.objects.ensures) in
     stored_is images r c.args.repo c.args.objects.now c.read_pages.new.objects (recovered_reads found r known images told) number

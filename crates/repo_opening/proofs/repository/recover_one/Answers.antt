@@ -15,11 +15,8 @@ returns-clause-found g c =
     let pages : AgreesWhere r.state.objects.pages = rw c.in-Ok-Some.field-0-is at c.in-Ok-Some.ensures.pages in
     record { state = said r.state; said = refl; holds = holds; keeps = keeps; pages = pages }
 
-pub returns-clause-number : goal.returns-clause-number
-returns-clause-number g c = omega (arith, c.repo.ensures, c.if-repo.false)
-
-pub returns-then-repo-clause-same : goal.returns-then-repo-clause-same
-returns-then-repo-clause-same g c = same_content (g.P.Parts.disks c.args.parts.now) (g.P.Parts.disks c.recover.new.parts) c.recover.ensures.content c.recover.ensures.any_moment
+pub returns-then-recovered-clause-same : goal.returns-then-recovered-clause-same
+returns-then-recovered-clause-same g c = same_content (g.P.Parts.disks c.args.parts.now) (g.P.Parts.disks c.recover.new.parts) c.recover.ensures.content c.recover.ensures.any_moment
 
 pub returns-clause-same : goal.returns-clause-same
 returns-clause-same g c = same_content (g.P.Parts.disks c.args.parts.now) (g.P.Parts.disks c.recover.new.parts) c.recover.ensures.content c.recover.ensures.any_moment

@@ -4,7 +4,7 @@ use Rattle.thor_top.proofs.StageLaws.{foretells_map, no_form, ok_always, run_rep
 use Rattle.thor_top.specs.Stages.{Foretells, IsPlayed, RepliesRun}
 use Rattle.top_judging.proofs.StageLaws.{err_map, ok_map, unsettled_replies}
 use Rattle.top_judging.specs.Stages.{RepliesUnsettled}
-use Rattle.top_statement.specs.Top.{RepliesTo}
+use Rattle.top_statement.specs.Top.{RepliesTo, running_of}
 use Rattle.thor_top.proofs.beginning.begin_judged.Goals as goal
 
 pub returns-in-Some-clause-foretells : goal.returns-in-Some-clause-foretells
@@ -12,7 +12,7 @@ returns-in-Some-clause-foretells g c = λ given stored.
     let D = ReadAll g.P.Parts.disks given in
     let plan = c.args.plan.now in
     let form = c.in-Some.form in
-    let run_told = RepliesRun D form plan.repos c.args.script in
+    let run_told = RepliesRun D (running_of plan.command) form plan.repos c.args.script in
     let replied = RepliesTo D plan c.args.script in
     ok_map c.open_run.result (λ run. Foretells run_told run.expected) (λ run. Foretells replied run.expected)
     (λ run. foretells_map run_told replied run.expected (run_replies D plan c.args.script form c.in-Some.ensures c.requires.within))

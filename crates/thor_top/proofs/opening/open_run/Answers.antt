@@ -4,13 +4,15 @@ use Rattle.thor_top.proofs.StageLaws.{foretells_run, of_disks}
 use Rattle.thor_top.specs.Stages.{Foretells, RepliesRun}
 use Rattle.thor_top.specs.declared.expected.Expected.{Expected}
 use Rattle.top_judging.proofs.StageLaws.{ok_map}
+use Rattle.top_statement.specs.Top.{running_of}
 use Rattle.thor_top.proofs.opening.open_run.Goals as goal
 
 pub returns-in-Ok-clause-foretells : goal.returns-in-Ok-clause-foretells
 returns-in-Ok-clause-foretells g c = λ given stored.
     let D = ReadAll g.P.Parts.disks given in
-    let e : Expected = record { form = c.args.form; script = c.args.script; opened = c.in-Ok.opened } in
-    let tells = RepliesRun D c.args.form c.args.plan.now.repos c.args.script in
+    let running = running_of c.args.plan.now.command in
+    let e : Expected = record { running = running; form = c.args.form; script = c.args.script; opened = c.in-Ok.opened } in
+    let tells = RepliesRun D running c.args.form c.args.plan.now.repos c.args.script in
     let disks = of_disks D c.args.script.setup c.args.judged.base c.args.judged.found.store c.in-Ok.opened.store stored c.in-Ok.ensures.opened in
     ok_map c.open.result (λ o. o.expected ≡ e) (λ o. Foretells tells o.expected)
     (λ o is. subst (λ (x : Expected). Foretells tells x) (sym is)
