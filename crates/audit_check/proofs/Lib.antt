@@ -1,4 +1,4 @@
 pub mod Told
-pub mod Standing
+pub mod Found
 pub mod Rightness
 pub mod Agreeing

@@ -26,7 +26,7 @@ use Rattle.audit_check.specs.Items.{AreRight, AreRightOr, IsOf, IsRightBy, IsSai
 use Rattle.audit_check.specs.Standings.{Stand}
 use Rattle.audit_check.specs.declared.standing.Standing.{Standing}
 use Rattle.audit_check.specs.declared.standing.Standing.TheVariants.{Once, Twice}
-use Rattle.audit_check.proofs.Standing.{Has, IsOnce, has_at, none_in_order}
+use Rattle.audit_check.proofs.Found.{Has, IsOnce, has_at, none_in_order}
 
 all_at : {X : Type 0} (P : X → Type 0) (xs : List X) (n : ℕ) (x : X) → slice_get xs n ≡ Some x → AllByRecursion P xs → P x
 all_at P [] n x h all = let bad : None ≡ Some x = h in cc

@@ -1,4 +1,4 @@
-use Rattle.audit_check.proofs.Standing.{AreBehind}
+use Rattle.audit_check.proofs.Found.{AreBehind}
 use Rattle.audit_check.proofs.standings.standings_of.Given as goal
 
 -- what stands of each item by so many entries from the last
