@@ -21,8 +21,9 @@ commands:
 
 options, each at most once, as `--name value` or `--name=value`:
   --repos N     repositories, 1 to 8 (without it 1)
+for all but audit:
   --store DIR   keeps the store in files of this folder, which has to be there;
-                without it the store is in memory and gone at the end (not for audit)
+                without it the store is in memory and gone at the end
 for play, run and gen alone:
   --tries N     tries that an item has, 1 to 100 (without it 16)
   --mob N       bytes of a repository's buffer, 1 to 16777216 (without it 1048576)
@@ -32,7 +33,7 @@ for play, run and gen alone:
   --version     writes the version
 
 exit status:
-  0  done: but for check, every item is done or ended in a fault
+  0  done: but for check and audit, every item is done or ended in a fault
   1  an item was refused, or what became of it isn't known
   2  the words are not a command           output: words
   3  the script is refused                 output: script LINE RULE
