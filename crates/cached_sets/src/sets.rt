@@ -1,6 +1,7 @@
 //! The calls of a repository on the sets of its sessions.
 
 ghost use Rattle.cached_sets.specs.Cost.{stale_steps, touch_steps};
+ghost use Rattle.cached_sets.specs.Meaning.{has_page};
 ghost use Rattle.cached_sets.specs.Noted.{is_silent, places_from, places_of};
 ghost use Rattle.cached_sets.specs.Sets.{acknowledge, cache, drop_session, invalid_after, marked, no_sets, note, stale, touch, touches};
 ghost use Rattle.cached_sets.specs.Invalid.{Invalids, set_of};
@@ -72,6 +73,13 @@ impl Sets {
                 Err(refused)
             }
         }
+    }
+
+    /// Whether the client of a session may have a page.
+    pub fn has_page(&self, session: u32, page: u32) -> bool
+        ensures { result ≡ has_page self.now session page }
+    {
+        self.pages.is_linked(session, page)
     }
 
     /// A session has written some objects, in the commit at a place: each comes into the invalid set of

@@ -1,6 +1,7 @@
 //! What comes behind the last event.
 
 ghost use Rattle.cluster_core.specs.Counts.{parts_of, steps_of};
+ghost use Rattle.front_end.specs.declared.front_end.Step.TheVariants as step;
 ghost use Rattle.std.specs.Prelude.{◌≡◌, ◌<◌, Ok, true};
 
 use crate::cluster::Cluster;
@@ -17,11 +18,35 @@ impl<P: Parts> Cluster<P> {
     pub fn drain(&mut self) -> Result<(), NoMemory>
         ensures { parts_of self.new ≡ parts_of self.old }
     {
-        bring_all_up(self.seats.as_mut_slice())?;
+        self.bring_repositories_up()?;
         self.rounds()?;
         for place in 0..self.clients.len() {
-            self.turn(place, Turn::Last)?;
+            self.ask_last(place)?;
         }
+        Ok(())
+    }
+
+    /// Takes back stops that haven't fallen, and restarts each repository that is down. That is what `drain` does first.
+    pub fn bring_repositories_up(&mut self) -> Result<(), NoMemory>
+        ensures { parts_of self.new ≡ parts_of self.old }
+    {
+        bring_all_up(self.seats.as_mut_slice())
+    }
+
+    /// Has the client at a place take a step, as `drain` does in rounds; one that isn't there has nothing to do.
+    pub fn step(&mut self, place: usize) -> Result<Step, NoMemory>
+        ensures seats { parts_of self.new ≡ parts_of self.old }
+        ensures moved { result ≡ Ok step.Moved → steps_of self.new < steps_of self.old }
+        ensures ended { result ≡ Ok step.Ended → steps_of self.new ≡ steps_of self.old }
+    {
+        self.turn(place, Turn::Step)
+    }
+
+    /// Has the client at a place ask for each of its Unknown items, as `drain` does last; one that isn't there has nothing to do.
+    pub fn ask_last(&mut self, place: usize) -> Result<(), NoMemory>
+        ensures { parts_of self.new ≡ parts_of self.old }
+    {
+        self.turn(place, Turn::Last)?;
         Ok(())
     }
 
@@ -40,7 +65,7 @@ impl<P: Parts> Cluster<P> {
     {
         let mut moved = false;
         for place in 0..self.clients.len() {
-            match self.turn(place, Turn::Step)? {
+            match self.step(place)? {
                 Step::Moved => moved = true,
                 Step::Ended => {}
             }

@@ -11,6 +11,7 @@ mod finishing;
 mod history;
 mod lent;
 mod lent_calls;
+mod looks;
 mod opening;
 mod plan;
 mod seat;

@@ -333,6 +333,13 @@ impl FrontEnd {
         self.progress.ended()
     }
 
+    /// How many tries of the present item have ended.
+    pub fn tried(&self) -> u32
+        ensures { result ≡ (standing_of self.now).attempts.tried }
+    {
+        self.attempts.tried
+    }
+
     /// The outcomes.
     pub fn close(self) -> Ends
         ensures { result ≡ (course_of self).ended }

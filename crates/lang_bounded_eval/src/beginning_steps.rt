@@ -45,7 +45,7 @@ pub fn evaluate_for<'a>(
     nested: u32,
     expr: &'a Expr,
 ) -> Result<Next<'a>, Halt>
-    ensures { (m : Machine) → Moves result stack.new m (spec.next (doing.Evaluate nested expr.now) (frame_of waiting ∷ frames stack.old) m) }
+    ensures { (m : Machine) → Moves result stack.new m (spec.next (doing.Evaluate nested expr.now) (frame_of waiting.entry ∷ frames stack.old) m) }
 {
     stack.push(waiting)?;
     Ok(Next::Evaluate { nested, expr })

@@ -201,7 +201,7 @@ fn pop_block<'a>(
     flow: Flow,
 ) -> Result<Next<'a>, Halt>
     requires { in_block waiting ≡ true }
-    ensures { Moves result stack.new machine.new (spec.pop (reading world.now) (frame_of waiting) flow (frames stack.old) machine.old) }
+    ensures { Moves result stack.new machine.new (spec.pop (reading world.now) (frame_of waiting.entry) flow (frames stack.old) machine.old) }
 {
     let _alloc = world.program.alloc;
     match waiting {
@@ -235,7 +235,7 @@ fn pop_statement<'a>(
     flow: Flow,
 ) -> Result<Next<'a>, Halt>
     requires { in_statement waiting ≡ true }
-    ensures { Moves result stack.new machine.new (spec.pop (reading world.now) (frame_of waiting) flow (frames stack.old) machine.old) }
+    ensures { Moves result stack.new machine.new (spec.pop (reading world.now) (frame_of waiting.entry) flow (frames stack.old) machine.old) }
 {
     match waiting {
         Waiting::Declare { kind, name } => {
@@ -288,7 +288,7 @@ fn pop_value<'a>(
 ) -> Result<Next<'a>, Halt>
     requires block { in_block waiting ≡ false }
     requires statement { in_statement waiting ≡ false }
-    ensures { Moves result stack.new machine.new (spec.pop (reading world.now) (frame_of waiting) flow (frames stack.old) machine.old) }
+    ensures { Moves result stack.new machine.new (spec.pop (reading world.now) (frame_of waiting.entry) flow (frames stack.old) machine.old) }
 {
     match waiting {
         Waiting::Negate => give(Value::Int(0i64.wrapping_sub(number(given(flow))))),
@@ -343,7 +343,7 @@ pub fn pop<'a>(
     waiting: Waiting<'a>,
     flow: Flow,
 ) -> Result<Next<'a>, Halt>
-    ensures { Moves result stack.new machine.new (spec.pop (reading world.now) (frame_of waiting) flow (frames stack.old) machine.old) }
+    ensures { Moves result stack.new machine.new (spec.pop (reading world.now) (frame_of waiting.entry) flow (frames stack.old) machine.old) }
 {
     if in_block(&waiting) {
         return pop_block(world, machine, stack, waiting, flow);

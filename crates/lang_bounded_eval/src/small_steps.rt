@@ -68,7 +68,7 @@ fn make<'a>(
 
 /// What is done next, behind a small step that takes no end.
 fn moved<'a>(came: Result<Next<'a>, Halt>) -> Result<Moved<'a>, Halt>
-    ensures { result ≡ moved_to came }
+    ensures { result ≡ moved_to came.entry }
 {
     match came {
         Ok(next) => Ok(Moved::To { next }),
@@ -100,7 +100,7 @@ fn small<'a>(
     stack: &mut Stack<Waiting<'a>>,
     next: Next<'a>,
 ) -> Result<Moved<'a>, Halt>
-    ensures { Leaves result stack.new machine.new (reading world.now) (left_of next stack.old) machine.old }
+    ensures { Leaves result stack.new machine.new (reading world.now) (left_of next.entry stack.old) machine.old }
 {
     match next {
         Next::Evaluate { nested, expr } => moved(evaluate(world, machine, stack, nested, expr)),
@@ -125,7 +125,7 @@ fn small<'a>(
 /// Small steps to the end of what is left.
 #[tactic(auto, using(crate::proofs::SmallSteps::running))]
 fn run_out<'a>(world: &World<'a>, machine: &mut Machine, begun: Next<'a>) -> Result<Flow, Halt>
-    ensures { Does result machine.new (rest_of (reading world.now) (left_of begun []) machine.old) }
+    ensures { Does result machine.new (rest_of (reading world.now) (left_of begun.entry []) machine.old) }
 {
     let mut stack = Stack::new(world.program.alloc);
     let mut next = begun;

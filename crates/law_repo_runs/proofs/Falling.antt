@@ -57,10 +57,13 @@ none_kept : (K : Kept) (s : ℕ) → IsAway (ended K) s
 none_kept K s = record { client = refl; notes = refl; pages = λ p. refl; invalid = λ x. refl; waits = refl }
 
 none_live : (K : Kept) (c s : ℕ) → (get (ended K).live c ≡ Some s) ↔ ((get (ended K).clients s ≡ Some c) ⊎ (get (ended K).retired s ≡ Some c))
-none_live K c s = (λ e. cc, λ h. elim h [
-  | inl e ↦ cc
-  | inr e ↦ cc
-])
+none_live K c s = (
+  λ e. cc,
+  λ h. elim h [
+    | inl e ↦ cc
+    | inr e ↦ cc
+  ],
+)
 
 none_opened : (K : Kept) (s page : ℕ) → has_page (ended K).sets s page ≡ true → has (ended K).sets.invalid s ≡ true
 none_opened K s page h = cc
@@ -77,7 +80,7 @@ all-ended b T n K a =
       last = k.last;
       unused = k.unused;
       each = λ s. subst (SessionAgrees b (entries (T ++ E (Life n) ∷ [])) (ended K) s) (sym (session-end b T (E (Life n)) s))
-          (away_agrees b (entries (T ++ E (Life n) ∷ [])) (ended K) s (meet b s (state b (entries T)) (session b T s) (E (Life n))) (ended_by_life b s (state b (entries T)) (Life n) (session b T s) refl) (retired_by_life b s (state b (entries T)) (Life n) (session b T s) refl) (none_kept K s));
+          (away_agrees b (entries (T ++ E (Life n) ∷ [])) (ended K) s (meet b s (state b (entries T)) (session b T s) (E (Life n))) (ended_by_life b s (state b (entries T)) (Life n) (session b T s) refl) (sym (retired_by_life b s (state b (entries T)) (Life n) (session b T s) refl)) (none_kept K s));
       live = none_live K;
       heard = λ s. refl;
       opened = none_opened K;

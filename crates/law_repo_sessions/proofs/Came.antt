@@ -538,20 +538,26 @@ module _ (b : Base) (T : List Item) (e : Entry) (K L : Kept) (plain : is_life e 
     IsOf p q c = (p ≡ Some c) ⊎ (q ≡ Some c)
 
     turns : (p q : Option ℕ) → ((d : ℕ) → p ≡ Some d → q ≡ None) → (c : ℕ) → IsOf p q c ↔ IsOf None (option_or p q) c
-    turns None q only c = (λ x. elim x [
-      | inl y ↦ cc
-      | inr y ↦ inr y
-    ], λ x. elim x [
-      | inl y ↦ cc
-      | inr y ↦ inr y
-    ])
-    turns (Some d) q only c = (λ x. elim x [
-      | inl y ↦ inr y
-      | inr y ↦ let z : q ≡ None = only d refl in cc
-    ], λ x. elim x [
-      | inl y ↦ cc
-      | inr y ↦ inl y
-    ])
+    turns None q only c = (
+      λ x. elim x [
+        | inl y ↦ cc
+        | inr y ↦ inr y
+      ],
+      λ x. elim x [
+        | inl y ↦ cc
+        | inr y ↦ inr y
+      ],
+    )
+    turns (Some d) q only c = (
+      λ x. elim x [
+        | inl y ↦ inr y
+        | inr y ↦ let z : q ≡ None = only d refl in cc
+      ],
+      λ x. elim x [
+        | inl y ↦ cc
+        | inr y ↦ inl y
+      ],
+    )
 
     its_client : (s : ℕ) (t : Bool) → IsGivenUp M L s t → (c : ℕ) → IsOf (get K.clients s) (get K.retired s) c ↔ IsOf (get L.clients s) (get L.retired s) c
     its_client s true g c =

@@ -61,7 +61,7 @@ impl<P: Parts> Repo<P> {
     }
 
     /// Whether a request of the transaction is open here.
-    fn is_open(&self, tx: Ts) -> bool
+    pub fn is_open(&self, tx: Ts) -> bool
         ensures open { result ≡ is_some (open_at self.now.held.table tx) }
         ensures stamp { self.now.is_up ≡ true → is_some (open_at self.now.held.table tx) ≡ true → TsFits tx }
     {

@@ -21,6 +21,7 @@ mod receive;
 mod refusing;
 mod repo;
 mod request_form;
+mod request_looks;
 mod restart;
 mod room;
 mod stop;

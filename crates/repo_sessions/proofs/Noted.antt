@@ -78,7 +78,7 @@ silent_are N (n ∷ ns) k s h = by (nat_eq n s) refl (is_silent (with_place N n 
   where
     by : (own : Bool) → nat_eq n s ≡ own → (t : Bool) → is_silent (with_place N n k) n ≡ t
         → (is_silent (with_place N n k) s ≡ false → list_any (nat_eq s) (silent_at (with_place N n k) ns k) ≡ is_silent (noted_at (with_place N n k) ns k) s)
-        → list_any (nat_eq s) (cond t (n ∷ silent_at (with_place N n k) ns k) (silent_at (with_place N n k) ns k)) ≡ is_silent (noted_at (with_place N n k) ns k) s
+        → list_any (nat_eq s) (cond t (n ∷ []) [] ++ silent_at (with_place N n k) ns k) ≡ is_silent (noted_at (with_place N n k) ns k) s
     by true e true f rest =
         let there : is_silent (with_place N n k) s ≡ true = ap (is_silent (with_place N n k)) (sym (eqb-true n s e)) ∙ f in
         ap (λ (t : Bool). t || list_any (nat_eq s) (silent_at (with_place N n k) ns k)) (nat_eq_equiv.symm s n ∙ e) ∙ sym (stays_silent (with_place N n k) ns k s there)
@@ -89,12 +89,6 @@ silent_are N (n ∷ ns) k s h = by (nat_eq n s) refl (is_silent (with_place N n 
 
 -- ---- one session more
 
--- one that has more than it may then
-pub one_silent : (xs : List ℕ) (N : Noted) (s : ℕ) (ss : List ℕ) (k : ℕ) → is_silent (with_place N s k) s ≡ true → (xs ++ s ∷ []) ++ silent_at (with_place N s k) ss k ≡ xs ++ silent_at N (s ∷ ss) k
-one_silent xs N s ss k h =
-    append_assoc xs (s ∷ []) (silent_at (with_place N s k) ss k)
-    ∙ ap (λ (t : Bool). xs ++ cond t (s ∷ silent_at (with_place N s k) ss k) (silent_at (with_place N s k) ss k)) (sym h)
-
--- and one that hasn't
-pub one_heard : (xs : List ℕ) (N : Noted) (s : ℕ) (ss : List ℕ) (k : ℕ) → is_silent (with_place N s k) s ≡ false → xs ++ silent_at (with_place N s k) ss k ≡ xs ++ silent_at N (s ∷ ss) k
-one_heard xs N s ss k h = ap (λ (t : Bool). xs ++ cond t (s ∷ silent_at (with_place N s k) ss k) (silent_at (with_place N s k) ss k)) (sym h)
+-- none comes to the others
+pub none_more : (xs : List ℕ) → xs ++ [] ≡ xs
+none_more xs = append-nil xs

@@ -68,10 +68,14 @@ upgrade_sent W es number text k = fold (λ V e. push V e.0 (Upgrade number text 
 abbrev pub noted_at : Noted → List ℕ → ℕ → Noted
 noted_at N ss k = fold (λ M s. with_place M s k) N ss
 
+-- the session s, where it has more places than it may
+abbrev pub if_silent : Noted → ℕ → List ℕ
+if_silent N s = cond (is_silent N s) (s ∷ []) []
+
 -- those of them that have more places than they may then
 abbrev pub silent_at : Noted → List ℕ → ℕ → List ℕ
 silent_at N [] k = []
-silent_at N (s ∷ ss) k = cond (is_silent (with_place N s k) s) (s ∷ silent_at (with_place N s k) ss k) (silent_at (with_place N s k) ss k)
+silent_at N (s ∷ ss) k = if_silent (with_place N s k) s ++ silent_at (with_place N s k) ss k
 
 -- A place was noted of some sessions, and these are those of them that are silent then.
 pub record AreNoted (before after : Sets) (ss : List ℕ) (k : ℕ) (silent : List ℕ) : Type 0 where

@@ -1,11 +1,13 @@
 ghost use Rattle.std.specs.Prelude.{◌≡◌, ◌+◌, ◌-◌, IfOk, OnOk, OnErr};
 ghost use Rattle.std.specs.List.{fold};
 ghost use Rattle.std.specs.Map.{keys_of};
+ghost use Rattle.cached_sets.specs.Meaning.{has_page};
 ghost use Rattle.cached_sets.specs.Sets as sets;
 ghost use Rattle.session_outbox.specs.Messages.{first};
 ghost use Rattle.session_outbox.specs.Outbox.{waiting};
 ghost use Rattle.session_outbox.specs.declared.message.Message.TheVariants.{Grant, Page as APage};
 ghost use Rattle.page_format.specs.Pages.{page_bytes};
+ghost use Rattle.thor_value.specs.FiniteMap.{get};
 ghost use Rattle.validation_queue.specs.Names.{Rises};
 ghost use Rattle.repo_sessions.specs.Sessions.{KeepsNumbers, acknowledged, begun, ended, is_live, no_sessions, retire, sent, has_session, taken, without};
 
@@ -84,6 +86,23 @@ impl Sessions {
         ensures { result ≡ is_live self.now session }
     {
         self.clients.contains_key(&session)
+    }
+
+    /// The client of a session; `None` exactly where it isn't live.
+    pub fn client_of(&self, session: u32) -> Option<u8>
+        ensures { result ≡ get self.now.clients session }
+    {
+        match self.clients.get(&session) {
+            Some(client) => Some(*client),
+            None => None,
+        }
+    }
+
+    /// Whether the client of a session may have a page.
+    pub fn has_page(&self, session: u32, page: u32) -> bool
+        ensures { result ≡ has_page self.now.sets session page }
+    {
+        self.sets.has_page(session, page)
     }
 
     /// Whether a session hasn't ended: it is live, or was given up.

@@ -1,11 +1,11 @@
 //! Sessions are told of commits.
 
-ghost use Rattle.std.specs.Prelude.{◌≡◌, IfOk, OnOk};
+ghost use Rattle.std.specs.Prelude.{◌++◌, ◌≡◌, IfOk, OnOk};
 ghost use Rattle.std.specs.List.Sorted.{IsStrictlySortedBy};
 ghost use Rattle.std.specs.Map.{keys_of};
 ghost use Rattle.std.specs.Ordering.{nat_cmp};
-ghost use Rattle.cached_sets.specs.Sets as sets;
-ghost use Rattle.repo_sessions.specs.Noting.{AreNoted, IsGathered, IsNoted, named, names_sent, noted, upgrade_sent};
+ghost use Rattle.cached_sets.specs.Sets.{note as with_note};
+ghost use Rattle.repo_sessions.specs.Noting.{AreNoted, IsGathered, IsNoted, if_silent, named, names_sent, noted, upgrade_sent};
 ghost use Rattle.repo_sessions.specs.Sessions.{KeepsNumbers, Kept};
 ghost use Rattle.repo_sessions.specs.Telling.{Retires, UpgradeTold, WritesTold};
 
@@ -80,6 +80,7 @@ impl Sessions {
 }
 
 /// Notes a place of some sessions. The answer are those that have more places than they may then.
+#[tactic(auto, using(std::proofs::Common::append_assoc, crate::proofs::Noted::none_more))]
 fn note_all<V>(
     alloc: Global,
     sets: &mut Sets,
@@ -90,11 +91,26 @@ fn note_all<V>(
 {
     let mut silent = Vec::new(alloc);
     for session in sessions.keys() {
-        if sets.note(*session, place)? {
-            silent.push(*session)?;
-        }
+        note_place(sets, *session, place, &mut silent)?;
     }
     Ok(silent)
+}
+
+/// Notes a place of a session, and puts it behind the silent ones where it has more places than it may then.
+#[tactic(auto, using(crate::proofs::Noted::none_more))]
+fn note_place(
+    sets: &mut Sets,
+    session: u32,
+    place: u64,
+    silent: &mut Vec<u32>,
+) -> Result<(), NoMemory>
+    ensures sets { OnOk result (sets.new ≡ with_note sets.old session place) }
+    ensures silent { OnOk result (silent.new.items ≡ silent.old.items ++ if_silent sets.new.noted session) }
+{
+    if sets.note(session, place)? {
+        silent.push(session)?;
+    }
+    Ok(())
 }
 
 /// Sends sessions the names of what was written.

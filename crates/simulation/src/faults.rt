@@ -1,7 +1,7 @@
 //! What a script is judged to be.
 
 use repo_opening::Unopened;
-use script_parse::ReadError;
+use simulation_setup::Unbegun;
 use thor_value::NoMemory;
 
 /// What is wrong behind a script.
@@ -50,19 +50,21 @@ impl From<NoMemory> for Fault {
     }
 }
 
-impl From<ReadError> for Fault {
-    fn from(error: ReadError) -> Fault {
-        match error {
-            ReadError::Refused(_) => Fault::Refused,
-            ReadError::NoMemory => Fault::NoMemory,
+impl From<Unbegun> for Fault {
+    fn from(why: Unbegun) -> Fault {
+        match why {
+            Unbegun::Refused => Fault::Refused,
+            Unbegun::NoMemory => Fault::NoMemory,
         }
     }
 }
 
-/// Why a store in memory wasn't opened: its disks don't fail.
-pub(crate) fn unopened(why: Unopened) -> Fault {
-    match why {
-        Unopened::Failed { .. } | Unopened::Damaged { .. } => Fault::Wrong(Wrong::Opening),
-        Unopened::NoMemory => Fault::NoMemory,
+impl From<Unopened> for Fault {
+    /// Why a store in memory wasn't opened: its disks don't fail.
+    fn from(why: Unopened) -> Fault {
+        match why {
+            Unopened::Failed { .. } | Unopened::Damaged { .. } => Fault::Wrong(Wrong::Opening),
+            Unopened::NoMemory => Fault::NoMemory,
+        }
     }
 }

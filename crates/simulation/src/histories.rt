@@ -2,10 +2,10 @@
 
 ghost use Rattle.thor_value.specs.FiniteMap.{IsSorted};
 
-use crate::beginning::Begun;
 use crate::faults::{Fault, Wrong};
 use class_defs::Plain;
 use serial_model::{Ended, Ends, ItemOutcome, are_made};
+use simulation_setup::Begun;
 use std::alloc::Global;
 use thor_value::{NoMemory, TryCopy, Ts, Who};
 use top_history_check::{Line, Lines, checked_history};

@@ -1,12 +1,13 @@
 //! The images that a crash leaves behind the last event.
 
-use crate::beginning::{Disks, Play, empty, setup_of};
-use crate::disks::{compare, read};
+use crate::beginning::Play;
+use crate::disks::compare;
 use crate::faults::{Fault, Wrong};
 use crate::living::live_on;
 use class_defs::Plain;
 use disk_trait::{MemParts, Outage, TickClock, restart_all};
 use simulation_events::Coverage;
+use simulation_setup::{Disks, empty_disks, read_disks, setup_of};
 use std::alloc::Global;
 use thor_value::both;
 
@@ -33,7 +34,8 @@ fn image(
     pick: u8,
     coverage: &mut Coverage,
 ) -> Result<Disks, Fault> {
-    let found = read(alloc, empty(alloc, play.options.repos)?, play.options.mob)?;
+    let disks = empty_disks(alloc, play.options.repos)?;
+    let found = read_disks(alloc, disks, play.options.mob)?;
     let (found, start) = both(found, setup_of(alloc, play.begun))?;
     let mut disks = live_on(alloc, play, start, found, coverage)?;
     let crashed = crash_all(&mut disks, pick);
@@ -50,7 +52,7 @@ pub(crate) fn judge_image(
     coverage: &mut Coverage,
 ) -> Result<(), Fault> {
     let disks = image(alloc, play, pick, coverage)?;
-    let found = read(alloc, disks, play.options.mob)?;
+    let found = read_disks(alloc, disks, play.options.mob)?;
     let compared = compare(alloc, &found, store, Wrong::Image);
     drop(found);
     compared

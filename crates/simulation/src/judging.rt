@@ -2,8 +2,8 @@
 
 ghost use Rattle.thor_value.specs.FiniteMap.{IsSorted};
 
-use crate::beginning::{Begun, Disks, Play, begin, empty, first_store, setup_of};
-use crate::disks::{compare, read, stored};
+use crate::beginning::Play;
+use crate::disks::{compare, stored};
 use crate::faults::{Fault, Verdict, Wrong};
 use crate::histories::store_behind;
 use crate::images::judge_image;
@@ -17,6 +17,9 @@ use schedule::Event;
 use serial_model::{Ended, ItemOutcome};
 use simulation_events::Coverage;
 use simulation_scripts::{Ending, Options};
+use simulation_setup::{
+    Begun, Disks, Unbegun, begin, empty_disks, first_store, read_disks, setup_of,
+};
 use std::alloc::Global;
 use store_opening::Found;
 use thor_value::{NoMemory, both};
@@ -98,7 +101,7 @@ fn read_back(
     disks: Disks,
     store: &Plain,
 ) -> Result<Found<MemParts<TickClock>>, Fault> {
-    let found = read(alloc, disks, play.options.mob)?;
+    let found = read_disks(alloc, disks, play.options.mob)?;
     let compared = compare(alloc, &found, store, Wrong::Store);
     let (found, _) = both(found, compared)?;
     Ok(found)
@@ -106,7 +109,8 @@ fn read_back(
 
 /// The first life of a store.
 fn live_first(alloc: Global, play: &Play<'_>, coverage: &mut Coverage) -> Result<Lived, Fault> {
-    let found = read(alloc, empty(alloc, play.options.repos)?, play.options.mob)?;
+    let disks = empty_disks(alloc, play.options.repos)?;
+    let found = read_disks(alloc, disks, play.options.mob)?;
     let (found, start) = both(found, setup_of(alloc, play.begun))?;
     live(alloc, play, start, found, coverage)
 }
@@ -116,9 +120,9 @@ fn first_life(alloc: Global, play: &Play<'_>, coverage: &mut Coverage) -> Result
     let lived = live_first(alloc, play, coverage)?;
     match first_store(alloc, play.begun) {
         Ok(store) => judge_life(alloc, play, &store, lived, coverage),
-        Err(fault) => {
+        Err(why) => {
             drop(lived);
-            Err(fault)
+            Err(Fault::from(why))
         }
     }
 }
@@ -204,10 +208,10 @@ fn verdict_of(judged: Result<bool, Fault>) -> Result<Verdict, NoMemory> {
 
 /// The script that a text is; nothing where it isn't accepted.
 pub fn read_text(alloc: Global, text: &str, repos: u8) -> Result<Option<Begun>, NoMemory> {
-    match begin(alloc, text, repos) {
+    match begin(alloc, text.as_bytes(), repos) {
         Ok(begun) => Ok(Some(begun)),
-        Err(Fault::Refused | Fault::Wrong(_)) => Ok(None),
-        Err(Fault::NoMemory) => Err(NoMemory),
+        Err(Unbegun::Refused) => Ok(None),
+        Err(Unbegun::NoMemory) => Err(NoMemory),
     }
 }
 

@@ -1,23 +1,21 @@
 //! A store is opened, and events happen at it.
 
-use crate::beginning::{Disks, Play, plan_of};
+use crate::beginning::Play;
 use crate::counts::{Size, is_bounded};
-use crate::faults::{Fault, Wrong, unopened};
+use crate::faults::{Fault, Wrong};
 use crate::watching::Watch;
-use cluster_core::{Cluster, Finished, Ran, Seat, Start};
+use cluster_core::{Finished, Ran, Seat, Start};
 use disk_trait::{MemParts, TickClock};
 use repo_trace::Traces;
 use schedule::{Event, EventKind};
 use serial_model::Ends;
 use simulation_events::Coverage;
 use simulation_scripts::{Ending, Options};
+use simulation_setup::{Disks, Store, open_store, plan_of};
 use std::alloc::Global;
-use store_opening::{ClusterFault, Found};
+use store_opening::Found;
 use thor_value::{NoMemory, both};
 use top_history_check::Lines;
-
-/// Repositories in memory, with their clients.
-type Store = Cluster<MemParts<TickClock>>;
 
 /// What is left of a life: the disks, how the items ended, what committed, and what happened at each repository.
 #[derive(Drop)]
@@ -35,14 +33,10 @@ fn open(
     start: Start,
     found: Found<MemParts<TickClock>>,
 ) -> Result<Store, Fault> {
-    let (found, plan) = both(found, plan_of(play, start))?;
-    match Cluster::open(alloc, found, plan) {
-        Ok(store) => Ok(store),
-        Err(ClusterFault { parts, why }) => {
-            drop(parts);
-            Err(unopened(why))
-        }
-    }
+    let tries = u32::from(play.options.tries);
+    let plan = plan_of(play.begun, tries, u32::from(play.options.cache), start);
+    let (found, plan) = both(found, plan)?;
+    Ok(open_store(alloc, found, plan)?)
 }
 
 /// Looks at the repositories as they begin.

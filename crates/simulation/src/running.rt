@@ -1,10 +1,10 @@
 //! The runs.
 
-use crate::beginning::Begun;
 use crate::faults::Verdict;
 use crate::judging::{judge, judge_events, read_text};
 use simulation_events::{Coverage, events_of, own_script};
 use simulation_scripts::{Asked, Draws, Script, Trial, make, make_trouble, print, shrink};
+use simulation_setup::Begun;
 use std::alloc::Global;
 use thor_value::{NoMemory, both};
 

@@ -3,6 +3,7 @@ use Rattle.class_defs.specs.declared.declarations.Declarations.{Declarations}
 use Rattle.class_defs.specs.declared.store.Plain.{Plain}
 use Rattle.class_defs.specs.declared.store.Schemas.{Schemas}
 use Rattle.script_parse.specs.Script.{HasFew, IsWritten}
+use Rattle.script_parse.specs.declared.refusal.Refusal.TheVariants as refusals
 use Rattle.script_parse.specs.declared.script.Script.{Script}
 use Rattle.std.proofs.Common.{◌≡◌, ◌≤◌, Err, IfOk, List, Ok, Option, Result, Some, None, inl, inr, length, refl, subst, sym, ℕ}
 use Rattle.std.proofs.lemmas.Option.{same_Some}
@@ -10,18 +11,18 @@ use Rattle.std.specs.Prelude.{IfErr, IfSome}
 use Rattle.outside.specs.Faults.{Rose}
 use Rattle.outside.specs.Streams.{IsMoreThan}
 use Rattle.script_bank.specs.Bank.{script_text}
-use Rattle.store_opening.specs.Reading.{IsOpened, IsOpenedIn, schemas_in}
+use Rattle.store_opening.specs.Reading.{IsOpened, IsOpenedIn, IsStoredIn, schemas_in}
 use Rattle.store_opening.specs.declared.found.Store.TheVariants.{Fresh, Open}
 use Rattle.store_opening.specs.declared.found.Store.{Store}
 use Rattle.thor_value.specs.declared.memory.NoMemory.{NoMemory}
 use Rattle.top_judging.specs.Audits.{RepliesAccepted, RepliesAudit, RepliesAudited, RepliesParts, RepliesReport, RepliesSource}
 use Rattle.top_judging.specs.Origins.{IsScriptFor, RepliesUnreadFor}
-use Rattle.top_judging.specs.Stages.{IsOpenedAs, IsRead, IsReadFrom, RepliesOver, RepliesText, RepliesUnjudged, RepliesUnopened, RepliesUnread, RepliesUnsettled}
+use Rattle.top_judging.specs.Stages.{FitsStore, IsOpenedAs, IsRead, IsReadFrom, MisfitsStore, RepliesOver, RepliesRefused, RepliesRule, RepliesText, RepliesUnjudged, RepliesUnopened, RepliesUnread, RepliesUnsettled}
 use Rattle.top_reply.specs.declared.reply.Reply.{Reply}
 use Rattle.top_reply.specs.declared.reply.Reply.TheVariants as reply
-use Rattle.top_statement.specs.Opening.{DiskBytes}
 use Rattle.top_statement.specs.Audits.{audited_of, report_part, script_part}
-use Rattle.top_statement.specs.Top.{Front, Generated, HasBytes, IsFromSource, Origin, Reads, RepliesTo, Says, Told, WasRead, Whole, origin_of}
+use Rattle.top_statement.specs.Opening.{DiskBytes, FitsDisks, FreshBytes, GoesWith, IsAgainst, IsStoredBy, MisfitsDisks}
+use Rattle.top_statement.specs.Top.{Front, Generated, HasBytes, IsFromSource, IsOverLimit, IsRefusalOf, Origin, Reads, RepliesTo, Says, Told, WasRead, Whole, disks_for, origin_of}
 use Rattle.top_words.specs.declared.command.Command.{Command}
 use Rattle.top_words.specs.declared.command.Command.TheVariants.{Audit, Check, Gen, Play, Run}
 use Rattle.top_words.specs.declared.command.Plan.{Plan}
@@ -85,15 +86,47 @@ stored_as images setup base (Ok (Some store)) is h = subst (λ (s : Option Decla
 stored_as images setup base (Ok None) is h = tt
 stored_as images setup base (Err e) is h = tt
 
+-- ---- setup and fresh store
+
+goes_with : (setup : Option Declarations) (store : Store) (images : List (ℕ → List ℕ)) → IsStoredIn images store → FitsStore setup store → GoesWith setup images
+goes_with (Some s) Fresh images stored fits = stored
+goes_with (Some s) (Open store) images stored fits = absurd (let no : Some store.schemas ≡ None = fits in cc)
+goes_with None Fresh images stored fits = absurd (let no : None ≡ Some fits.0 = fits.1 in cc)
+goes_with None (Open store) images stored fits = record { repositories = stored.repositories; each = stored.each }
+
+is_against : (setup : Option Declarations) (store : Store) (images : List (ℕ → List ℕ)) → IsStoredIn images store → MisfitsStore setup store → IsAgainst setup images
+is_against (Some s) Fresh images stored misfits = absurd (let no : None ≡ Some misfits.0 = misfits.1 in cc)
+is_against (Some s) (Open store) images stored misfits = record { repositories = stored.repositories; each = stored.each }
+is_against None Fresh images stored misfits = stored
+is_against None (Open store) images stored misfits = absurd (let no : Some store.schemas ≡ None = misfits in cc)
+
+-- what fits the store that was found fits the disks
+pub fits_disks : (D : DiskBytes) (setup : Option Declarations) (store : Store) → IsStoredBy D store → FitsStore setup store → FitsDisks D setup
+fits_disks D setup store stored fits = record { each = λ images reads. goes_with setup store images (stored.each images reads) fits }
+
+misfits_disks : (D : DiskBytes) (setup : Option Declarations) (store : Store) → IsStoredBy D store → MisfitsStore setup store → MisfitsDisks D setup
+misfits_disks D setup store stored misfits = record { each = λ images reads. is_against setup store images (stored.each images reads) misfits }
+
+-- what is replied by a rule, where the script goes with the store
+pub rule_refused : (plan : Plan) (script : Script) (store : Store) → FitsStore script.setup store → (r : Reply) → RepliesRule plan script r → RepliesRefused plan script store r
+rule_refused plan script store fits r broken = inr (fits, broken)
+
+pub refused_unjudged : (D : DiskBytes) (plan : Plan) (script : Script) (store : Store) (r : Reply) → RepliesRefused plan script store r → RepliesUnjudged D plan script store r
+refused_unjudged D plan script store r refused = inr refused
+
 -- ---- what is replied to the script
 
 module _ (D : DiskBytes) (plan : Plan) (script : Script) where
   over_replies : (r : Reply) → RepliesOver script r → RepliesTo D plan script r
-  over_replies r over = subst (λ (w : Reply). RepliesTo D plan script w) (sym over.1.0) over.1.1
+  over_replies r over = subst (λ (w : Reply). RepliesTo D plan script w) (sym over.1.0) (inl over.1.1)
 
-  pub unjudged_replies : (r : Reply) → RepliesUnjudged plan script r → RepliesTo D plan script r
-  unjudged_replies r (inl over) = over_replies r over
-  unjudged_replies r (inr refused) = subst (λ (w : Reply). RepliesTo D plan script w) (sym refused.1.0) refused.1.1
+  pub unjudged_replies : (store : Store) → IsStoredBy D store → length script.clients ≤ 64 → length script.events ≤ 1000000 → (r : Reply) → RepliesUnjudged D plan script store r → RepliesTo D plan script r
+  unjudged_replies store stored clients events r (inl over) = subst (λ (w : Reply). RepliesTo D plan script w) (sym over.1.0)
+      (inr (record { clients = clients; events = events; store = store; stored = stored; over = over.1.1 }))
+  unjudged_replies store stored clients events r (inr (inl setup)) = subst (λ (w : Reply). RepliesTo D plan script w) (sym setup.0)
+      (setup.1.0, inl (refl, misfits_disks D script.setup store stored setup.1.1))
+  unjudged_replies store stored clients events r (inr (inr rule)) = subst (λ (w : Reply). RepliesTo D plan script w) (sym rule.1.1.0)
+      (rule.1.1.1.0, inr (fits_disks D script.setup store stored rule.0, rule.1.1.1.1))
 
   pub unopened_replies : (r : Reply) → RepliesUnopened r → RepliesTo D plan script r
   unopened_replies r (inl failed) = subst (λ (w : Reply). RepliesTo D plan script w) (sym failed.1) tt
@@ -105,20 +138,28 @@ module _ (D : DiskBytes) (plan : Plan) (script : Script) where
 -- ---- what is said by a plan
 
 module _ (D : DiskBytes) (Like : Plan → Type 0) (NoPlan : Type 0) (plan : Plan) (is : Like plan) (before after : Told) where
-  -- its script was read, and this is replied to it
-  replied : (script : Script) (bytes : List ℕ) → HasBytes (made_by plan.command) plan.repos before after bytes → IsWritten bytes script → (r : Reply) → RepliesTo D plan script r → Says D Like NoPlan before after r
-  replied script bytes has written (reply.Report finished text) says = record { plan = plan; is = is; says = record { script = script; bytes = bytes; has = has; written = written; says = says } }
-  replied script bytes has written (reply.Summary finished text) says = record { plan = plan; is = is; says = record { script = script; bytes = bytes; has = has; written = written; says = says } }
-  replied script bytes has written reply.Accepted says = record { plan = plan; is = is; says = record { script = script; bytes = bytes; has = has; written = written; says = says } }
-  replied script bytes has written (reply.Refused refusal) says = record { plan = plan; is = is; says = inr (record { script = script; bytes = bytes; has = has; written = written; says = says }) }
-  replied script bytes has written (reply.Limit limit) says = record { plan = plan; is = is; says = inl (record { script = script; bytes = bytes; has = has; written = written; says = says }) }
-  replied script bytes has written (reply.DiskFault repo) says = record { plan = plan; is = is; says = record { script = script; bytes = bytes; has = has; written = written; says = says } }
-  replied script bytes has written (reply.Damaged repo disk place) says = record { plan = plan; is = is; says = record { script = script; bytes = bytes; has = has; written = written; says = says } }
-  replied script bytes has written reply.Words says = absurd says
-  replied script bytes has written reply.SourceFault says = absurd says
-  replied script bytes has written reply.Legal says = absurd says
-  replied script bytes has written (reply.Disagrees at) says = absurd says
-  replied script bytes has written (reply.NoReport line) says = absurd says
+  -- its script was read, and this is replied to it on the store to which the command takes it
+  replied : ((P : DiskBytes → Type 0) → P D → P (disks_for plan.command D)) → (script : Script) (bytes : List ℕ) → HasBytes (origin_of plan.command) plan.repos before after bytes → IsWritten bytes script → (r : Reply) → RepliesTo D plan script r → Says D Like NoPlan before after r
+  replied same script bytes has written (reply.Report finished text) says = record { plan = plan; is = is; says = record { script = script; bytes = bytes; has = has; written = written; says = says } }
+  replied same script bytes has written (reply.Summary finished text) says = record { plan = plan; is = is; says = record { script = script; bytes = bytes; has = has; written = written; says = says } }
+  replied same script bytes has written reply.Accepted says = record { plan = plan; is = is; says = record { script = script; bytes = bytes; has = has; written = written; says = says } }
+  replied same script bytes has written (reply.Refused refusal) says = record { plan = plan; is = is; says = inr (record { script = script; bytes = bytes; has = has; written = written; says = same (λ E. IsRefusalOf E plan script refusal) says }) }
+  replied same script bytes has written (reply.Limit limit) says = record { plan = plan; is = is; says = inl (record { script = script; bytes = bytes; has = has; written = written; says = same (λ E. IsOverLimit E script limit) says }) }
+  replied same script bytes has written (reply.DiskFault repo) says = record { plan = plan; is = is; says = record { script = script; bytes = bytes; has = has; written = written; says = says } }
+  replied same script bytes has written (reply.Damaged repo disk place) says = record { plan = plan; is = is; says = record { script = script; bytes = bytes; has = has; written = written; says = says } }
+  replied same script bytes has written reply.Words says = absurd says
+  replied same script bytes has written reply.SourceFault says = absurd says
+  replied same script bytes has written reply.Legal says = absurd says
+  replied same script bytes has written (reply.Disagrees at) says = absurd says
+  replied same script bytes has written (reply.NoReport line) says = absurd says
+
+  -- a command that has a script takes it to the store of the parts
+  same_disks : (c : Command) (script : Script) → IsScriptFor (origin_of c) plan.repos before after script → (P : DiskBytes → Type 0) → P D → P (disks_for c D)
+  same_disks Check script from P p = p
+  same_disks Play script from P p = p
+  same_disks Run script from P p = p
+  same_disks (Gen n) script from P p = p
+  same_disks Audit script from P p = absurd from
 
   has_script : (m : Origin) (script : Script) → IsScriptFor m plan.repos before after script → (bytes : List ℕ) × (HasBytes m plan.repos before after bytes × IsWritten bytes script)
   has_script Whole script from = (from.bytes, (from.was, from.read.written))
@@ -126,12 +167,13 @@ module _ (D : DiskBytes) (Like : Plan → Type 0) (NoPlan : Type 0) (plan : Plan
   has_script (Generated n) script from = (script_text n plan.repos, ((from.0, refl), from.1.written))
 
   pub script_says : (script : Script) → IsScriptFor (origin_of plan.command) plan.repos before after script → (r : Reply) → RepliesTo D plan script r → Says D Like NoPlan before after r
-  script_says script from r says = let had = has_script (origin_of plan.command) script from in replied script had.0 had.1.0 had.1.1 r says
+  script_says script from r says = let had = has_script (origin_of plan.command) script from in replied (same_disks plan.command script from) script had.0 had.1.0 had.1.1 r says
 
   -- it has no script, and this is replied
   text_says : (bytes : List ℕ) → HasBytes (origin_of plan.command) plan.repos before after bytes → (r : Reply) → RepliesText bytes r → Says D Like NoPlan before after r
   text_says bytes has r (inl none) = subst (λ (w : Reply). Says D Like NoPlan before after w) (sym none.1.0) (record { plan = plan; is = is; says = inl (record { bytes = bytes; has = has; says = none.1.1 }) })
-  text_says bytes has r (inr over) = replied over.0 bytes has over.1.0 r (over_replies D plan over.0 r over.1.1)
+  text_says bytes has r (inr over) = subst (λ (w : Reply). Says D Like NoPlan before after w) (sym over.1.1.1.0)
+      (record { plan = plan; is = is; says = inl (record { script = over.0; bytes = bytes; has = has; written = over.1.0; says = inl over.1.1.1.1 }) })
 
   over_says : Reads plan.command → IsMoreThan 8388608 before.left → (r : Reply) → r ≡ reply.Limit 8388608 → Says D Like NoPlan before after r
   over_says reads long r same = subst (λ (w : Reply). Says D Like NoPlan before after w) (sym same) (record { plan = plan; is = is; says = inr (reads, (long, refl)) })
@@ -165,9 +207,26 @@ module _ (D : DiskBytes) (Like : Plan → Type 0) (NoPlan : Type 0) (plan : Plan
         by_reply (inr (inl disagrees)) = subst (λ (w : Reply). Says D Like NoPlan before after w) (sym disagrees.1.0) (record { plan = plan; is = is; says = record { audits = is_audit plan.command front; bytes = bytes; was = was; script = script; written = written; within = accepted.within; setup = accepted.setup; has_setup = accepted.has_setup; accepted = accepted.accepted; says = disagrees.1.1 } })
         by_reply (inr (inr none)) = subst (λ (w : Reply). Says D Like NoPlan before after w) (sym none.1.0) (record { plan = plan; is = is; says = record { audits = is_audit plan.command front; bytes = bytes; was = was; script = script; written = written; within = accepted.within; setup = accepted.setup; has_setup = accepted.has_setup; accepted = accepted.accepted; says = none.1.1 } })
 
-    audit_says : (bytes : List ℕ) → WasRead before.left after.left bytes → (script : Script) → IsWritten (script_part bytes) script → (r : Reply) → RepliesAudit plan script (report_part bytes) r → Says D Like NoPlan before after r
-    audit_says bytes was script written r (inl none) = replied script (script_part bytes) (has_front bytes was) written r (unjudged_replies D plan script r none)
-    audit_says bytes was script written r (inr accepted) = report_says bytes was script written r accepted
+    fresh : IsStoredBy FreshBytes Fresh
+    fresh = record { each = λ images reads. reads }
+
+    unjudged_says : (bytes : List ℕ) → HasBytes (origin_of plan.command) plan.repos before after bytes → (script : Script) → IsRead bytes script → (r : Reply) → RepliesUnjudged FreshBytes plan script Fresh r → Says D Like NoPlan before after r
+    unjudged_says bytes has script read r (inl over) = subst (λ (w : Reply). Says D Like NoPlan before after w) (sym over.1.0)
+        (record { plan = plan; is = is; says = inl (record { script = script; bytes = bytes; has = has; written = read.written;
+          says = subst (λ (c : Command). IsOverLimit (disks_for c D) script over.0) (sym (is_audit plan.command front))
+              (unjudged_replies FreshBytes plan script Fresh fresh read.clients read.events (reply.Limit over.0) (inl (over.0, (refl, over.1.1)))) }) })
+    unjudged_says bytes has script read r (inr (inl setup)) = subst (λ (w : Reply). Says D Like NoPlan before after w) (sym setup.0)
+        (record { plan = plan; is = is; says = inr (record { script = script; bytes = bytes; has = has; written = read.written;
+          says = subst (λ (c : Command). IsRefusalOf (disks_for c D) plan script refusals.Setup) (sym (is_audit plan.command front))
+              (unjudged_replies FreshBytes plan script Fresh fresh read.clients read.events (reply.Refused refusals.Setup) (inr (inl (refl, setup.1)))) }) })
+    unjudged_says bytes has script read r (inr (inr rule)) = subst (λ (w : Reply). Says D Like NoPlan before after w) (sym rule.1.1.0)
+        (record { plan = plan; is = is; says = inr (record { script = script; bytes = bytes; has = has; written = read.written;
+          says = subst (λ (c : Command). IsRefusalOf (disks_for c D) plan script rule.1.0) (sym (is_audit plan.command front))
+              (unjudged_replies FreshBytes plan script Fresh fresh read.clients read.events (reply.Refused rule.1.0) (inr (inr (rule.0, (rule.1.0, (refl, rule.1.1.1)))))) }) })
+
+    audit_says : (bytes : List ℕ) → WasRead before.left after.left bytes → (script : Script) → IsRead (script_part bytes) script → (r : Reply) → RepliesAudit plan script (report_part bytes) r → Says D Like NoPlan before after r
+    audit_says bytes was script read r (inl none) = unjudged_says (script_part bytes) (has_front bytes was) script read r none
+    audit_says bytes was script read r (inr accepted) = report_says bytes was script read.written r accepted
 
     parts_say : (bytes : List ℕ) → WasRead before.left after.left bytes → (r : Reply) → RepliesAudited plan bytes r → Says D Like NoPlan before after r
     parts_say bytes was r (inl none) = text_says (script_part bytes) (has_front bytes was) r none

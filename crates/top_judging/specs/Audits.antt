@@ -4,15 +4,14 @@ use Rattle.audit_check.specs.declared.disagreement.Disagreement.{Disagreement}
 use Rattle.class_defs.specs.declared.declarations.Declarations.{Declarations}
 use Rattle.outside.specs.Faults.{Rose}
 use Rattle.outside.specs.Streams.{IsMoreThan}
-use Rattle.script_parse.specs.Script.{IsRefusedText, IsWritten}
-use Rattle.script_parse.specs.declared.refusal.Refusal.{Refusal}
 use Rattle.script_parse.specs.declared.script.Script.{Script}
 use Rattle.std.specs.Prelude.{◌≡◌, ◌⊎◌, ℕ, List, Option, Some}
-use Rattle.top_judging.specs.Stages.{RepliesText, RepliesUnjudged}
+use Rattle.store_opening.specs.declared.found.Store.TheVariants.{Fresh}
+use Rattle.top_judging.specs.Stages.{IsRead, RepliesText, RepliesUnjudged}
 use Rattle.top_reply.specs.declared.reply.Reply.{Reply}
 use Rattle.top_reply.specs.declared.reply.Reply.TheVariants as reply
 use Rattle.top_statement.specs.Audits.{DisagreesAt, IsNoReport, IsTrueReport, audited_of, report_part, script_part}
-use Rattle.top_statement.specs.Opening.{IsAccepted, first_schemas}
+use Rattle.top_statement.specs.Opening.{FreshBytes, IsAccepted, first_schemas}
 use Rattle.top_statement.specs.Top.{IsWithinLimits, Told, WasRead}
 use Rattle.top_words.specs.declared.command.Plan.{Plan}
 
@@ -31,13 +30,13 @@ pub record RepliesAccepted (plan : Plan) (script : Script) (part : Option (List 
   pub accepted : IsAccepted plan.repos script (first_schemas setup)
   pub replies : RepliesReport (audited_of setup script) part r
 
--- what is replied of a script, and of the bytes behind it
+-- what is replied of a script, which is taken to a fresh store, and of the bytes behind it
 abbrev pub RepliesAudit : Plan → Script → Option (List ℕ) → Reply → Type 0
-RepliesAudit plan script part r = RepliesUnjudged plan script r ⊎ RepliesAccepted plan script part r
+RepliesAudit plan script part r = RepliesUnjudged FreshBytes plan script Fresh r ⊎ RepliesAccepted plan script part r
 
 -- what is replied of the bytes of a script, and of those behind it
 abbrev pub RepliesParts : Plan → List ℕ → Option (List ℕ) → Reply → Type 0
-RepliesParts plan bytes part r = RepliesText bytes r ⊎ ((script : Script) × (IsWritten bytes script × RepliesAudit plan script part r))
+RepliesParts plan bytes part r = RepliesText bytes r ⊎ ((script : Script) × (IsRead bytes script × RepliesAudit plan script part r))
 
 -- what is replied of all bytes
 abbrev pub RepliesAudited : Plan → List ℕ → Reply → Type 0

@@ -5,7 +5,7 @@ ghost use Rattle.std.specs.Prelude.{IfErr, IfOk, IfSome, None, length, ◌≡◌
 ghost use Rattle.std.specs.String.{string_bytes};
 ghost use Rattle.top_judging.specs.Origins.{IsScriptFor, RepliesUnreadFor};
 ghost use Rattle.top_judging.specs.Stages.{IsRead, IsReadFrom, RepliesOver, RepliesText, RepliesUnread};
-ghost use Rattle.top_statement.specs.Top.{IsOverLimit, origin_of, told_by};
+ghost use Rattle.top_statement.specs.Top.{IsOverScript, origin_of, told_by};
 
 use crate::auditing::audit_source;
 use outside::{ReadAll, Source, read_all};
@@ -27,7 +27,7 @@ const EVENT_LIMIT: usize = 1_000_000;
 
 /// The limit on clients or events that a script passes.
 fn script_limit(script: &Script) -> Option<u64>
-    ensures passed { IfSome result (λ limit. IsOverLimit script.now limit) }
+    ensures passed { IfSome result (λ limit. IsOverScript script.now limit) }
     ensures clients { result ≡ None → length script.now.clients ≤ 64 }
     ensures events { result ≡ None → length script.now.events ≤ 1000000 }
 {

@@ -35,9 +35,7 @@ fn with_options<'a>(
 ) -> Result<Parser<'a>, AllocError> {
     let mut command = command;
     for name in names {
-        let option = Arg::new(alloc, name)
-            .long(name)
-            .action(ArgAction::Set);
+        let option = Arg::new(alloc, name).long(name).action(ArgAction::Set);
         command = command.arg(option)?;
     }
     Ok(command)
@@ -66,7 +64,10 @@ fn parser<'a>(alloc: Global) -> Result<Parser<'a>, AllocError> {
 }
 
 /// The words as text, behind the program's name; nothing where one isn't UTF-8.
-pub(crate) fn texts_of<'a>(alloc: Global, words: &'a [Text]) -> Result<Option<Vec<&'a str>>, NoMemory> {
+pub(crate) fn texts_of<'a>(
+    alloc: Global,
+    words: &'a [Text],
+) -> Result<Option<Vec<&'a str>>, NoMemory> {
     let mut texts: Vec<&'a str> = Vec::new(alloc);
     texts.push("kilntaupe")?;
     for word in words {
