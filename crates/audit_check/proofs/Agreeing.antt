@@ -1,19 +1,17 @@
 -- What agrees, and what first disagrees.
-use Rattle.std.proofs.Common.{◌≡◌, ◌<◌, ◌≤◌, ◌+◌, ℕ, zero, suc, Bool, true, false, List, [], ◌∷◌, ◌++◌, length, take, get_or, Option, None, Some, Result, Ok, Err, refl, ap, sym, ◌∙◌, subst, arith, inl, inr, ◌⊎◌}
+use Rattle.std.proofs.Common.{◌≡◌, ◌<◌, ◌≤◌, ◌+◌, ℕ, zero, suc, Bool, true, false, List, [], ◌∷◌, length, take, get_or, Some, Result, Ok, Err, refl, ap, sym, ◌∙◌, subst, arith}
 use Rattle.std.specs.List.{AllByRecursion}
 use Rattle.std.specs.Prelude.{Contains}
 use Rattle.thor_value.specs.declared.values.Who.{Who}
 use Rattle.serial_model.proofs.Replayed.{front_legal}
 use Rattle.serial_model.specs.History.{IsLegal}
-use Rattle.serial_model.specs.Outcomes.{Answers, AreAnswered, AreInClientOrder, AreOfItems, Item, all_items}
-use Rattle.serial_model.specs.Replays.{IsFirstNotLegal}
+use Rattle.serial_model.specs.Outcomes.{AreAnswered, AreInClientOrder, AreOfItems, Item, all_items}
 use Rattle.serial_model.specs.declared.entries.Did.{Did}
 use Rattle.serial_model.specs.declared.entries.What.{What}
 use Rattle.serial_model.specs.declared.outcomes.Ended.{Ended}
 use Rattle.report_parse.specs.declared.report.Line.{Line}
 use Rattle.report_parse.specs.declared.report.Report.{Report}
 use Rattle.top_history_check.proofs.Answering.{of_items}
-use Rattle.top_history_check.specs.Lines.{ArePerformed}
 use Rattle.audit_check.specs.Agreement.{Agrees, AreLegalLines, Audits, HasNumber, IsFirstDisagreement, IsFirstEntry, IsFirstItem, IsFirstWrong, IsInOrder, IsRight, history_of}
 use Rattle.audit_check.specs.Items.{AreRight, AreRightAll}
 use Rattle.audit_check.specs.Lines.{FaultIs, IsLegalOr, IsTold}

@@ -1,5 +1,5 @@
 -- What stands of an item, and what a history has of it.
-use Rattle.std.proofs.Common.{◌≡◌, ◌<◌, ◌≤◌, ◌+◌, ◌*◌, ◌-◌, ℕ, zero, suc, Bool, true, false, cond, List, [], ◌∷◌, length, drop, get_or, Option, None, Some, refl, ap, sym, ◌∙◌, subst, arith, ◌==◌, ◌&&◌}
+use Rattle.std.proofs.Common.{◌≡◌, ◌<◌, ◌≤◌, ◌+◌, ◌-◌, ℕ, suc, Bool, true, false, cond, List, [], ◌∷◌, length, drop, get_or, Option, None, Some, refl, ap, sym, ◌∙◌, subst, arith, ◌==◌, ◌&&◌}
 use Rattle.std.proofs.lemmas.Bool.Decides.{nat_tests}
 use Rattle.std.proofs.lemmas.Cmp.{nat_cmp_total}
 use Rattle.std.proofs.lemmas.List.{drop_more}
@@ -124,6 +124,18 @@ one_behind standings new least lower history behind place d e in_order within at
       are_least = subst (λ (n : ℕ). AreLeast lower (drop n history)) (sym here) (subst (λ (ds : List Did). AreLeast lower ds) (sym front) lows);
     }
 
+-- the same where the entry is told by its place
+pub one_behind_at : (standings new : Map nat_cmp Standing) (least lower : Map nat_cmp ℕ) (history : List Did) (behind place : ℕ) (d : Did) (in_order : Bool) → behind < length history → place ≡ length history - 1 - behind → d ≡ get_or history place d
+    → (get_or history place d).who.index < 4294967296 → in_order ≡ is_below (get least (get_or history place d).who.client) (get_or history place d).who.index
+    → new ≡ insert standings (key (get_or history place d).who) (one_more place in_order (get standings (key (get_or history place d).who)))
+    → lower ≡ insert least (get_or history place d).who.client (lesser (get least (get_or history place d).who.client) (get_or history place d).who.index) → AreBehind standings least history behind → AreBehind new lower history (behind + 1)
+one_behind_at standings new least lower history behind place d in_order within at is low order put put_least are =
+    let P : Did → Type 0 = λ e. e.who.index < 4294967296 in
+    let Q : Did → Type 0 = λ e. in_order ≡ is_below (get least e.who.client) e.who.index in
+    let R : Did → Type 0 = λ e. new ≡ insert standings (key e.who) (one_more place in_order (get standings (key e.who))) in
+    let S : Did → Type 0 = λ e. lower ≡ insert least e.who.client (lesser (get least e.who.client) e.who.index) in
+    one_behind standings new least lower history behind place d d in_order within at is (subst P (sym is) low) (subst Q (sym is) order) (subst R (sym is) put) (subst S (sym is) put_least) are
+
 pub all_behind : (standings : Map nat_cmp Standing) (least : Map nat_cmp ℕ) (history : List Did) (behind : ℕ) → length history ≤ behind → AreBehind standings least history behind → Stand standings history
 all_behind standings least history behind past are =
     let at : length history - behind ≡ 0 = omega (arith, past) in
@@ -150,11 +162,11 @@ one d ds who b e = ap (λ c. cond c (d ∷ entries_of ds who) (entries_of ds who
 
 pub none_in_order : (ds : List Did) (who : Who) → entries_of ds who ≡ [] → IsInOrder ds who
 none_in_order [] who none = tt
-none_in_order (d ∷ ds) who none = by_test (same_who d.who who) refl
+none_in_order (d ∷ ds) who none = by_test (same_who d.who who) refl (λ rest. none_in_order ds who rest)
   where
-    by_test : (b : Bool) → same_who d.who who ≡ b → IsInOrder (d ∷ ds) who
-    by_test true e = let bad : d ∷ entries_of ds who ≡ [] = sym (one d ds who true e) ∙ none in cc
-    by_test false e = (λ same. absurd (who_differs d.who who e same), none_in_order ds who (sym (one d ds who false e) ∙ none))
+    by_test : (b : Bool) → same_who d.who who ≡ b → (entries_of ds who ≡ [] → IsInOrder ds who) → IsInOrder (d ∷ ds) who
+    by_test true e behind = let bad : d ∷ entries_of ds who ≡ [] = sym (one d ds who true e) ∙ none in cc
+    by_test false e behind = (λ same. absurd (who_differs d.who who e same), behind (sym (one d ds who false e) ∙ none))
 
 and_true : (a b : Bool) → (a && b) ≡ true → (a ≡ true) × (b ≡ true)
 and_true true b h = (refl, h)
@@ -187,27 +199,33 @@ step : (d : Did) (ds : List Did) (who : Who) (n : ℕ) (b : Bool) → same_who d
 step d ds who n false e None has = one d ds who false e ∙ has
 step d ds who n false e (Some Twice) has = (has.0, (has.1.0, (has.1.1.0, one d ds who false e ∙ has.1.1.1)))
 step d ds who n false e (Some (Once place in_order)) has =
-    let at : place ≡ n + suc has.0 = let p : place ≡ n + 1 + has.0 = has.1.0 in omega (arith, p) in
-    (suc has.0, (at, record {
-      did = has.1.1.did;
-      stands = has.1.1.stands;
-      is_of = has.1.1.is_of;
-      only = one d ds who false e ∙ has.1.1.only;
-      order = λ t. (λ same. absurd (who_differs d.who who e same), has.1.1.order t);
-      no_order = λ f h. has.1.1.no_order f h.1;
-    }))
+    let at : place ≡ n + suc has.0 = let p : place ≡ n + 1 + has.0 = has.1 in omega (arith, p) in (
+      suc has.0,
+      at,
+      record {
+        did = has.2.did;
+        stands = has.2.stands;
+        is_of = has.2.is_of;
+        only = one d ds who false e ∙ has.2.only;
+        order = λ t. (λ same. absurd (who_differs d.who who e same), has.2.order t);
+        no_order = λ f h. has.2.no_order f h.1;
+      },
+    )
 step d ds who n true e None has =
     let same : d.who ≡ who = who_is d.who who e in
-    let at : n ≡ n + 0 = omega (arith) in
-    (0, (at, record {
-      did = d;
-      stands = refl;
-      is_of = same;
-      only = one d ds who true e ∙ ap (λ xs. d ∷ xs) has;
-      order = λ t. (λ _. later_all ds d.who.client d.who.index t, none_in_order ds who has);
-      no_order = λ f h. let bad : true ≡ false = sym (all_later ds d.who.client d.who.index (h.0 same)) ∙ f in cc;
-    }))
-step d ds who n true e (Some (Once place in_order)) has = (d, (has.1.1.did, ([], one d ds who true e ∙ ap (λ xs. d ∷ xs) has.1.1.only)))
+    let at : n ≡ n + 0 = omega (arith) in (
+      0,
+      at,
+      record {
+        did = d;
+        stands = refl;
+        is_of = same;
+        only = one d ds who true e ∙ ap (λ xs. d ∷ xs) has;
+        order = λ t. (λ _. later_all ds d.who.client d.who.index t, none_in_order ds who has);
+        no_order = λ f h. let bad : true ≡ false = sym (all_later ds d.who.client d.who.index (h.0 same)) ∙ f in cc;
+      },
+    )
+step d ds who n true e (Some (Once place in_order)) has = (d, (has.2.did, ([], one d ds who true e ∙ ap (λ xs. d ∷ xs) has.2.only)))
 step d ds who n true e (Some Twice) has = (d, (has.0, (has.1.0 ∷ has.1.1.0, one d ds who true e ∙ ap (λ xs. d ∷ xs) has.1.1.1)))
 
 pub has_by : (n : ℕ) (ds : List Did) (who : Who) → Has ds who n (standing_of n ds who)

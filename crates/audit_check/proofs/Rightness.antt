@@ -1,6 +1,6 @@
 -- Lines of items that are right, line by line and client by client.
-use Rattle.std.proofs.Common.{◌≡◌, ◌<◌, ◌≤◌, ◌+◌, ◌-◌, ℕ, zero, suc, Bool, true, false, List, [], ◌∷◌, ◌++◌, length, take, drop, get_or, Option, None, Some, refl, ap, sym, ◌∙◌, subst, arith, inl, inr, ◌⊎◌, ◌↔◌}
-use Rattle.std.proofs.lemmas.List.{drop_more, length-append, length-drop, length-take-le, take-append-drop, take_all, take_more}
+use Rattle.std.proofs.Common.{◌≡◌, ◌<◌, ◌≤◌, ◌+◌, ◌-◌, ℕ, zero, suc, Bool, true, false, List, [], ◌∷◌, ◌++◌, length, take, drop, get_or, Option, None, Some, Err, refl, ap, sym, ◌∙◌, subst, arith, inl, inr}
+use Rattle.std.proofs.lemmas.List.{drop_more, length-drop, length-take-le, take-append-drop, take_all, take_more}
 use Rattle.std.proofs.lemmas.Option.{slice_get-get_or, slice_get_within, get_or_from_slice_get}
 use Rattle.std.proofs.Math.Seq.{take-add}
 use Rattle.std.specs.List.{AllByRecursion}
@@ -22,8 +22,13 @@ use Rattle.top_history_check.specs.Answered.{Tells}
 use Rattle.top_history_check.specs.Lines.{ArePerformed, item_of, nth}
 use Rattle.top_history_check.specs.Places.{key}
 use Rattle.audit_check.specs.Agreement.{HasNumber, IsFirstWrong, IsInOrder, IsRight}
-use Rattle.audit_check.specs.Items.{AreRight, AreRightOr, IsOf, IsRightBy, IsSaid, items_at}
+use Rattle.audit_check.specs.Items.{AreRight, AreRightAll, AreRightOr, IsOf, IsRightBy, IsSaid, items_at}
+use Rattle.audit_check.specs.Lines.{FaultIs}
 use Rattle.audit_check.specs.Standings.{Stand}
+use Rattle.audit_check.specs.declared.disagreement.AuditFault.{AuditFault}
+use Rattle.audit_check.specs.declared.disagreement.AuditFault.TheVariants.{Disagrees, NoMemory}
+use Rattle.audit_check.specs.declared.disagreement.Disagreement.{Disagreement}
+use Rattle.audit_check.specs.declared.disagreement.Disagreement.TheVariants as line
 use Rattle.audit_check.specs.declared.standing.Standing.{Standing}
 use Rattle.audit_check.specs.declared.standing.Standing.TheVariants.{Once, Twice}
 use Rattle.audit_check.proofs.Found.{Has, IsOnce, has_at, none_in_order}
@@ -113,8 +118,8 @@ module _ (clients : List (List What)) (history : List Did) (performed : ArePerfo
   said_by item o None is has said = none_said history item o has said
   said_by item o (Some Twice) is has said = absurd said
   said_by item o (Some (Once place in_order)) is has said =
-      let once : IsOnce history item.who has.0 in_order = has.1.1 in
-      let at : place ≡ has.0 = let p : place ≡ 0 + has.0 = has.1.0 in omega (arith, p) in
+      let once : IsOnce history item.who has.0 in_order = has.2 in
+      let at : place ≡ has.0 = let p : place ≡ 0 + has.0 = has.1 in omega (arith, p) in
       let tells : IsOf (Some once.did) o = subst (λ (x : Option Did). IsOf x o) (ap (slice_get history) at ∙ once.stands) said.1 in
       record {
         answered = once_answered history item once.did o once.only once.is_of (what_of item has.0 once.did is once.stands once.is_of) tells.0;
@@ -126,8 +131,8 @@ module _ (clients : List (List What)) (history : List Did) (performed : ArePerfo
   by_said item o None has said = said_none history item o has said.answered
   by_said item o (Some Twice) has said = absurd (twice_answered history item has.0 has.1.0 has.1.1.0 o has.1.1.1 said.answered)
   by_said item o (Some (Once place in_order)) has said =
-      let once : IsOnce history item.who has.0 in_order = has.1.1 in
-      let at : place ≡ has.0 = let p : place ≡ 0 + has.0 = has.1.0 in omega (arith, p) in
+      let once : IsOnce history item.who has.0 in_order = has.2 in
+      let at : place ≡ has.0 = let p : place ≡ 0 + has.0 = has.1 in omega (arith, p) in
       (by_order in_order refl once, subst (λ (x : Option Did). IsOf x o) (sym (ap (slice_get history) at ∙ once.stands)) (answered_once history item once.did o once.only said.answered, said.numbered))
     where
       by_order : (b : Bool) → in_order ≡ b → IsOnce history item.who has.0 in_order → IsTrue in_order
@@ -153,11 +158,12 @@ module _ (history : List Did) where
   right_behind (i ∷ is) js [] fs one two = absurd one
   right_behind (i ∷ is) js (e ∷ es) fs one two = (one.0, right_behind is js es fs one.1 two)
 
-  pub wrong_behind : (is js : List Item) (es fs : List Ended) (k : ℕ) → AreRight history is es → IsFirstWrong history js fs k → IsFirstWrong history (is ++ js) (es ++ fs) (length es + k)
-  wrong_behind [] js [] fs k one two = two
-  wrong_behind [] js (e ∷ es) fs k one two = absurd one
-  wrong_behind (i ∷ is) js [] fs k one two = absurd one
-  wrong_behind (i ∷ is) js (e ∷ es) fs k one two = (one.0, wrong_behind is js es fs k one.1 two)
+  pub wrong_behind : (is js : List Item) (es fs : List Ended) (k n : ℕ) → n ≡ length es + k → AreRight history is es → IsFirstWrong history js fs k → IsFirstWrong history (is ++ js) (es ++ fs) n
+  wrong_behind [] js [] fs k n at one two = let same : k ≡ n = let a : n ≡ 0 + k = at in omega (arith, a) in subst (λ (m : ℕ). IsFirstWrong history js fs m) same two
+  wrong_behind [] js (e ∷ es) fs k n at one two = absurd one
+  wrong_behind (i ∷ is) js [] fs k n at one two = absurd one
+  wrong_behind (i ∷ is) js (e ∷ es) fs k zero at one two = absurd (let a : 0 ≡ suc (length es) + k = at in omega (arith, a))
+  wrong_behind (i ∷ is) js (e ∷ es) fs k (suc n) at one two = (one.0, wrong_behind is js es fs k n (let a : suc n ≡ suc (length es) + k = at in omega (arith, a)) one.1 two)
 
   pub wrong_front : (is js : List Item) (es : List Ended) (k : ℕ) → k < length is → IsFirstWrong history is es k → IsFirstWrong history (is ++ js) es k
   wrong_front [] js [] k low wrong = absurd wrong
@@ -260,13 +266,12 @@ module _ (clients : List (List What)) (history : List Did) (standings : Map nat_
       let front : List Item = items_from (client + 1) 1 (take place items) in
       let rest : List Item = item_at place w ∷ items_from (client + 1) (place + 1 + 1) (drop (place + 1) items) in
       let count : length (take place ended) ≡ place = length-take-le place ended (let l : place < length ended = slice_get_within ended place e at in omega (arith, l)) in
-      let here : IsFirstWrong history (front ++ rest) (take place ended ++ e ∷ drop (place + 1) ended) (length (take place ended) + 0) = wrong_behind history front rest (take place ended) (e ∷ drop (place + 1) ended) 0 so_far not_right in
+      let spot : place ≡ length (take place ended) + 0 = omega (arith, count) in
+      let here : IsFirstWrong history (front ++ rest) (take place ended ++ e ∷ drop (place + 1) ended) place = wrong_behind history front rest (take place ended) (e ∷ drop (place + 1) ended) 0 place spot so_far not_right in
       let P : List Item → Type 0 = λ is. IsFirstWrong history is ended place in
-      let Q : List Ended → Type 0 = λ es. IsFirstWrong history (front ++ rest) es place in
-      let spot : length (take place ended) + 0 ≡ place = omega (arith, count) in
-      (
+      let Q : List Ended → Type 0 = λ es. IsFirstWrong history (front ++ rest) es place in (
         (let l : length (items_from (client + 1) 1 items) ≡ length items = length_items (client + 1) 1 items in omega (arith, l, within)),
-        subst P (sym (items_split place w within known.1)) (subst Q (sym (ended_split ended place e at)) (subst (λ (n : ℕ). IsFirstWrong history (front ++ rest) (take place ended ++ e ∷ drop (place + 1) ended) n) spot here)),
+        subst P (sym (items_split place w within known.1)) (subst Q (sym (ended_split ended place e at)) here),
       )
 
   -- no line where an item is left
@@ -279,19 +284,18 @@ module _ (clients : List (List What)) (history : List Did) (standings : Map nat_
       let past : length ended ≤ place = none_past ended place at in
       let all : take place ended ≡ ended = take_all place ended past in
       let count : length ended ≡ place =
-          let l : length (take place items) ≡ place = length-take-le place items (omega (arith, within)) in
-          let m : length front ≡ length (take place items) = length_items (client + 1) 1 (take place items) in
-          let k : length (take place ended) ≡ length front = right_length history front (take place ended) so_far in
-          let j : length (take place ended) ≡ length ended = ap length all in
-          omega (arith, l, m, k, j) in
-      let here : IsFirstWrong history (front ++ rest) (take place ended ++ []) (length (take place ended) + 0) = wrong_behind history front rest (take place ended) [] 0 so_far refl in
-      let spot : length (take place ended) + 0 ≡ place = let j : length (take place ended) ≡ length ended = ap length all in omega (arith, count, j) in
+      let l : length (take place items) ≡ place = length-take-le place items (omega (arith, within)) in
+      let m : length front ≡ length (take place items) = length_items (client + 1) 1 (take place items) in
+      let k : length (take place ended) ≡ length front = right_length history front (take place ended) so_far in
+      let j : length (take place ended) ≡ length ended = ap length all in
+      omega (arith, l, m, k, j) in
+      let spot : place ≡ length (take place ended) + 0 = let j : length (take place ended) ≡ length ended = ap length all in omega (arith, count, j) in
+      let here : IsFirstWrong history (front ++ rest) (take place ended ++ []) place = wrong_behind history front rest (take place ended) [] 0 place spot so_far refl in
       let whole : take place ended ++ [] ≡ ended = append_nothing (take place ended) ∙ all in
       let P : List Item → Type 0 = λ is. IsFirstWrong history is ended place in
-      let Q : List Ended → Type 0 = λ es. IsFirstWrong history (front ++ rest) es place in
-      (
+      let Q : List Ended → Type 0 = λ es. IsFirstWrong history (front ++ rest) es place in (
         (let l : length (items_from (client + 1) 1 items) ≡ length items = length_items (client + 1) 1 items in omega (arith, l, within)),
-        subst P (sym (items_split place w within known.1)) (subst Q whole (subst (λ (n : ℕ). IsFirstWrong history (front ++ rest) (take place ended ++ []) n) spot here)),
+        subst P (sym (items_split place w within known.1)) (subst Q whole here),
       )
     where
       none_past : (es : List Ended) (n : ℕ) → slice_get es n ≡ None → length es ≤ n
@@ -307,7 +311,8 @@ module _ (clients : List (List What)) (history : List Did) (standings : Map nat_
   pub right_items : (ended : List Ended) (place : ℕ) → length items ≤ place → place ≤ length items → AreRight history (items_from (client + 1) 1 (take place items)) (take place ended) → AreRightOr history (items_from (client + 1) 1 items) ended None
   right_items ended place past within right =
       let all : take place items ≡ items = take_all place items past in
-      let same : place ≡ length items = omega (arith, past, within) in
+      let count : length (items_from (client + 1) 1 items) ≡ length items = length_items (client + 1) 1 items in
+      let same : place ≡ length (items_from (client + 1) 1 items) = omega (arith, past, within, count) in
       let P : List What → Type 0 = λ ws. AreRight history (items_from (client + 1) 1 ws) (take place ended) in
       subst (λ (n : ℕ). AreRight history (items_from (client + 1) 1 items) (take n ended)) same (subst P all right)
 
@@ -324,45 +329,44 @@ clients_split n (c ∷ front) behind =
     assoc (x ∷ xs) ys zs = ap (λ ws. x ∷ ws) (assoc xs ys zs)
 
 module _ (clients : List (List What)) (history : List Did) (ended : List Ended) (client used : ℕ) (within : client < length clients) where
-  abbrev items : List What
-  items = items_at clients client
+  abbrev theirs : List What
+  theirs = items_at clients client
 
-  is_at : items ≡ get_or clients client items
+  is_at : theirs ≡ get_or clients client theirs
   is_at = by_option (slice_get clients client) refl
     where
-      by_option : (o : Option (List What)) → slice_get clients client ≡ o → unwrap_or (slice_get clients client) [] ≡ get_or clients client items
-      by_option None e = let s : slice_get clients client ≡ Some (get_or clients client items) = slice_get-get_or clients client items within in let bad : None ≡ Some (get_or clients client items) = sym e ∙ s in cc
-      by_option (Some ws) e = ap (λ (o : Option (List What)). unwrap_or o []) e ∙ sym (get_or_from_slice_get clients client ws items e)
+      by_option : (o : Option (List What)) → slice_get clients client ≡ o → unwrap_or (slice_get clients client) [] ≡ get_or clients client theirs
+      by_option None e = let s : slice_get clients client ≡ Some (get_or clients client theirs) = slice_get-get_or clients client theirs within in let bad : None ≡ Some (get_or clients client theirs) = sym e ∙ s in cc
+      by_option (Some ws) e = ap (λ (o : Option (List What)). unwrap_or o []) e ∙ sym (get_or_from_slice_get clients client ws theirs e)
 
   number : 1 + length (take client clients) ≡ client + 1
   number = let l : length (take client clients) ≡ client = length-take-le client clients (omega (arith, within)) in omega (arith, l)
 
-  clients_are : client_items_from 1 (take (client + 1) clients) ≡ client_items_from 1 (take client clients) ++ items_from (client + 1) 1 items
+  clients_are : client_items_from 1 (take (client + 1) clients) ≡ client_items_from 1 (take client clients) ++ items_from (client + 1) 1 theirs
   clients_are =
-      ap (client_items_from 1) (take_more clients client items within ∙ ap (λ (x : List What). take client clients ++ x ∷ []) (sym is_at)) ∙ items_behind 1 (take client clients) items
-      ∙ ap (λ m. client_items_from 1 (take client clients) ++ items_from m 1 items) number
+      ap (client_items_from 1) (take_more clients client theirs within ∙ ap (λ (x : List What). take client clients ++ x ∷ []) (sym is_at)) ∙ items_behind 1 (take client clients) theirs
+      ∙ ap (λ m. client_items_from 1 (take client clients) ++ items_from m 1 theirs) number
 
-  all_split : all_items clients ≡ client_items_from 1 (take client clients) ++ (items_from (client + 1) 1 items ++ client_items_from (client + 1 + 1) (drop (client + 1) clients))
+  all_split : all_items clients ≡ client_items_from 1 (take client clients) ++ (items_from (client + 1) 1 theirs ++ client_items_from (client + 1 + 1) (drop (client + 1) clients))
   all_split =
-      let rest : drop client clients ≡ items ∷ drop (client + 1) clients = drop_more clients client items within ∙ ap (λ (x : List What). x ∷ drop (client + 1) clients) (sym is_at) in
-      ap (client_items_from 1) (sym (take-append-drop client clients) ∙ ap (λ cs. take client clients ++ cs) rest) ∙ clients_split 1 (take client clients) (items ∷ drop (client + 1) clients)
-      ∙ ap (λ m. client_items_from 1 (take client clients) ++ client_items_from m (items ∷ drop (client + 1) clients)) number
+      let rest : drop client clients ≡ theirs ∷ drop (client + 1) clients = drop_more clients client theirs within ∙ ap (λ (x : List What). x ∷ drop (client + 1) clients) (sym is_at) in
+      ap (client_items_from 1) (sym (take-append-drop client clients) ∙ ap (λ cs. take client clients ++ cs) rest) ∙ clients_split 1 (take client clients) (theirs ∷ drop (client + 1) clients)
+      ∙ ap (λ m. client_items_from 1 (take client clients) ++ client_items_from m (theirs ∷ drop (client + 1) clients)) number
 
   -- one client more
-  pub one_client : (used ≤ length ended) × AreRight history (client_items_from 1 (take client clients)) (take used ended) → AreRightOr history (items_from (client + 1) 1 items) (drop used ended) None
-      → (used + length items ≤ length ended) × AreRight history (client_items_from 1 (take (client + 1) clients)) (take (used + length items) ended)
+  pub one_client : (used ≤ length ended) × AreRight history (client_items_from 1 (take client clients)) (take used ended) → AreRightOr history (items_from (client + 1) 1 theirs) (drop used ended) None
+      → (used + length theirs ≤ length ended) × AreRight history (client_items_from 1 (take (client + 1) clients)) (take (used + length theirs) ended)
   one_client so_far right =
-      let own : List Ended = take (length items) (drop used ended) in
-      let mine : AreRight history (items_from (client + 1) 1 items) own = subst (λ (n : ℕ). AreRight history (items_from (client + 1) 1 items) (take n (drop used ended))) (length_items (client + 1) 1 items) right in
-      let count : length own ≡ length items = right_length history (items_from (client + 1) 1 items) own mine ∙ length_items (client + 1) 1 items in
+      let own : List Ended = take (length theirs) (drop used ended) in
+      let mine : AreRight history (items_from (client + 1) 1 theirs) own = subst (λ (n : ℕ). AreRight history (items_from (client + 1) 1 theirs) (take n (drop used ended))) (length_items (client + 1) 1 theirs) right in
+      let count : length own ≡ length theirs = right_length history (items_from (client + 1) 1 theirs) own mine ∙ length_items (client + 1) 1 theirs in
       let left : length (drop used ended) ≡ length ended - used = length-drop used ended in
-      let some : length own ≤ length (drop used ended) = short (length items) (drop used ended) in
-      let P : List Item → Type 0 = λ is. AreRight history is (take (used + length items) ended) in
-      let Q : List Ended → Type 0 = λ es. AreRight history (client_items_from 1 (take client clients) ++ items_from (client + 1) 1 items) es in
-      let low : used ≤ length ended = so_far.0 in
-      (
+      let some : length own ≤ length (drop used ended) = short (length theirs) (drop used ended) in
+      let P : List Item → Type 0 = λ is. AreRight history is (take (used + length theirs) ended) in
+      let Q : List Ended → Type 0 = λ es. AreRight history (client_items_from 1 (take client clients) ++ items_from (client + 1) 1 theirs) es in
+      let low : used ≤ length ended = so_far.0 in (
         omega (arith, count, left, some, low),
-        subst P (sym clients_are) (subst Q (sym (take-add used (length items) ended)) (right_behind history (client_items_from 1 (take client clients)) (items_from (client + 1) 1 items) (take used ended) own so_far.1 mine)),
+        subst P (sym clients_are) (subst Q (sym (take-add used (length theirs) ended)) (right_behind history (client_items_from 1 (take client clients)) (items_from (client + 1) 1 theirs) (take used ended) own so_far.1 mine)),
       )
     where
       short : (n : ℕ) (es : List Ended) → length (take n es) ≤ length es
@@ -371,18 +375,18 @@ module _ (clients : List (List What)) (history : List Did) (ended : List Ended) 
       short (suc n) (e ∷ es) = let l : length (take n es) ≤ length es = short n es in omega (arith, l)
 
   -- the first wrong line is one of this client
-  pub wrong_client : (wrong : ℕ) → (used ≤ length ended) × AreRight history (client_items_from 1 (take client clients)) (take used ended) → AreRightOr history (items_from (client + 1) 1 items) (drop used ended) (Some wrong)
+  pub wrong_client : (wrong : ℕ) → (used ≤ length ended) × AreRight history (client_items_from 1 (take client clients)) (take used ended) → AreRightOr history (items_from (client + 1) 1 theirs) (drop used ended) (Some wrong)
       → IsFirstWrong history (all_items clients) ended (used + wrong)
   wrong_client wrong so_far first =
-      let own : List Item = items_from (client + 1) 1 items in
+      let own : List Item = items_from (client + 1) 1 theirs in
       let behind : List Item = client_items_from (client + 1 + 1) (drop (client + 1) clients) in
       let front : List Item = client_items_from 1 (take client clients) in
       let here : IsFirstWrong history (own ++ behind) (drop used ended) wrong = wrong_front history own behind (drop used ended) wrong first.0 first.1 in
       let count : length (take used ended) ≡ used = length-take-le used ended so_far.0 in
-      let there : IsFirstWrong history (front ++ (own ++ behind)) (take used ended ++ drop used ended) (length (take used ended) + wrong) = wrong_behind history front (own ++ behind) (take used ended) (drop used ended) wrong so_far.1 here in
+      let there : IsFirstWrong history (front ++ (own ++ behind)) (take used ended ++ drop used ended) (used + wrong) = wrong_behind history front (own ++ behind) (take used ended) (drop used ended) wrong (used + wrong) (omega (arith, count)) so_far.1 here in
       let P : List Item → Type 0 = λ is. IsFirstWrong history is ended (used + wrong) in
       let Q : List Ended → Type 0 = λ es. IsFirstWrong history (front ++ (own ++ behind)) es (used + wrong) in
-      subst P (sym all_split) (subst Q (take-append-drop used ended) (subst (λ (n : ℕ). IsFirstWrong history (front ++ (own ++ behind)) (take used ended ++ drop used ended) (n + wrong)) count there))
+      subst P (sym all_split) (subst Q (take-append-drop used ended) there)
 
 -- the lines end with those of the last client
 pub all_right : (clients : List (List What)) (history : List Did) (ended : List Ended) (client used : ℕ) → length clients ≤ client → (used ≤ length ended) × AreRight history (client_items_from 1 (take client clients)) (take used ended) → length ended ≤ used
@@ -397,3 +401,9 @@ pub more_wrong : (clients : List (List What)) (history : List Did) (ended : List
 more_wrong clients history ended client used past so_far more =
     let P : List (List What) → Type 0 = λ cs. AreRight history (client_items_from 1 cs) (take used ended) in
     wrong_more history (all_items clients) ended used more (subst P (take_all client clients past) so_far.1)
+
+-- ---- the fault that tells it
+
+pub item_fault : (history : List Did) (all : List Item) (ended : List Ended) (place at : ℕ) (fault : AuditFault) → FaultIs (line.Item (at + 1)) fault → at ≡ place → IsFirstWrong history all ended place → AreRightAll history all ended (Err fault)
+item_fault history all ended place at (Disagrees d) is same wrong = subst (λ (x : Disagreement). AreRightAll history all ended (Err (Disagrees x))) (sym is) (place, ap (λ (n : ℕ). n + 1) same, wrong)
+item_fault history all ended place at NoMemory is same wrong = tt

@@ -1,5 +1,5 @@
 -- Histories that lines tell, line by line.
-use Rattle.std.proofs.Common.{◌≡◌, ◌<◌, ◌≤◌, ◌+◌, ℕ, zero, suc, Bool, true, false, List, [], ◌∷◌, ◌++◌, length, take, Option, None, Some, refl, ap, sym, ◌∙◌, subst, arith}
+use Rattle.std.proofs.Common.{◌≡◌, ◌<◌, ◌+◌, ℕ, zero, suc, Bool, true, false, List, [], ◌∷◌, ◌++◌, length, take, Option, None, Some, refl, ap, sym, ◌∙◌, subst, arith}
 use Rattle.std.proofs.lemmas.List.{length-append, take-append-le}
 use Rattle.std.specs.Prelude.{option_map}
 use Rattle.serial_model.specs.History.{IsLegal}
@@ -154,3 +154,18 @@ module _ (a : Audited) where
   -- the first line that names no item, behind a legal history
   pub entry_unnamed : (lines : List Line) (ds : List Did) → Stops a.clients lines ds → IsLegal a.schemas ds a.opened → IsFirstEntry a lines (length ds + 1)
   entry_unnamed lines ds stops legal = subst (λ (xs : List Line). IsFirstEntry a xs (length ds + 1)) (sym stops.whole) (unnamed_behind stops.front stops.behind ds stops.told stops.none legal)
+
+-- each entry that is told performed the item that its line names
+pub told_items : (clients : List (List What)) (lines : List Line) (ds : List Did) (whole : Bool) → IsTold clients lines ds whole → ArePerformed clients ds
+told_items clients lines ds true told = told_performed clients lines ds told
+told_items clients lines ds false told = told_performed clients told.front ds told.told
+
+append_assoc : {X : Type 0} (xs ys zs : List X) → (xs ++ ys) ++ zs ≡ xs ++ (ys ++ zs)
+append_assoc [] ys zs = refl
+append_assoc (x ∷ xs) ys zs = ap (λ ws. x ∷ ws) (append_assoc xs ys zs)
+
+pub behind_one : {X : Type 0} (yielded rest left all : List X) (x : X) → yielded ++ rest ≡ all → rest ≡ x ∷ left → yielded ++ x ∷ left ≡ all
+behind_one yielded rest left all x whole next = ap (λ xs. yielded ++ xs) (sym next) ∙ whole
+
+pub next_one : {X : Type 0} (yielded rest left all : List X) (x : X) → yielded ++ rest ≡ all → rest ≡ x ∷ left → (yielded ++ x ∷ []) ++ left ≡ all
+next_one yielded rest left all x whole next = append_assoc yielded (x ∷ []) left ∙ behind_one yielded rest left all x whole next

@@ -1,7 +1,7 @@
 -- Agreement (this project's): what it means that a report is true of a script, and which of its lines is the first that isn't.
 -- Legal histories and how they answer items are those of `serial_model`, by which `thor` promises its own reports.
 use Rattle.std.specs.List.{AllByRecursion}
-use Rattle.std.specs.Prelude.{◌≡◌, ◌≢◌, ◌+◌, ◌<◌, ℕ, zero, suc, List, [], ◌∷◌, length, take, Option, None, Some, Result, Ok, Err}
+use Rattle.std.specs.Prelude.{◌≡◌, ◌+◌, ◌<◌, ℕ, zero, suc, List, [], ◌∷◌, length, take, Option, None, Some, Result, Ok, Err}
 use Rattle.thor_value.specs.declared.values.Who.{Who}
 use Rattle.serial_model.specs.History.{IsLegal}
 use Rattle.serial_model.specs.Outcomes.{Answers, IsAnswered, Item, all_items}

@@ -1,5 +1,5 @@
 -- What the code that reads the history from its lines says on its way.
-use Rattle.std.specs.Prelude.{◌≡◌, ◌+◌, ◌<◌, ℕ, Bool, true, false, List, [], ◌∷◌, ◌++◌, None, Some, Result, Ok, Err}
+use Rattle.std.specs.Prelude.{◌≡◌, ◌+◌, ℕ, Bool, true, false, List, [], ◌∷◌, ◌++◌, None, Some, Result, Ok, Err}
 use Rattle.serial_model.specs.History.{IsLegal}
 use Rattle.serial_model.specs.Replays.{IsFirstNotLegal}
 use Rattle.serial_model.specs.declared.entries.Did.{Did}

@@ -1,6 +1,6 @@
 -- What a history has of each item.
 use Rattle.std.specs.Ordering.{nat_cmp}
-use Rattle.std.specs.Prelude.{◌≡◌, ◌+◌, ◌<◌, ◌==◌, ◌&&◌, ℕ, nat_lt, min, Bool, true, false, if◌then◌else◌, List, [], ◌∷◌, drop, Option, None, Some}
+use Rattle.std.specs.Prelude.{◌≡◌, ◌+◌, ◌<◌, ◌==◌, ◌&&◌, ℕ, nat_lt, min, Bool, true, false, if◌then◌else◌, List, [], ◌∷◌, Option, None, Some}
 use Rattle.thor_value.specs.FiniteMap.{Map, get}
 use Rattle.thor_value.specs.declared.values.Who.{Who}
 use Rattle.serial_model.specs.Outcomes.{same_who}

@@ -1,11 +1,12 @@
 //! The audit of a report.
 
-ghost use Rattle.std.specs.Prelude.{◌≡◌, ◌+◌, List, Ok, Err};
+ghost use Rattle.std.specs.Prelude.{◌+◌, List, Ok, Err};
 ghost use Rattle.audit_check.specs.Agreement.{Audits};
 ghost use Rattle.audit_check.specs.Items.{AreRightAll};
 ghost use Rattle.audit_check.specs.Lines.{FaultIs, IsLegalOr, IsTold};
 ghost use Rattle.audit_check.specs.declared.disagreement.Disagreement.TheVariants as line;
 ghost use Rattle.report_parse.specs.declared.report.Line.{Line};
+ghost use Rattle.serial_model.specs.History.{IsLegal};
 ghost use Rattle.serial_model.specs.Outcomes.{all_items};
 ghost use Rattle.serial_model.specs.Replays.{AreMade};
 ghost use Rattle.thor_value.specs.FiniteMap.{IsSorted};
@@ -67,6 +68,23 @@ fn is_answered(
     )
 }
 
+/// The audit of a report whose history is legal, as far as its lines name items.
+fn audit_legal(
+    alloc: Global,
+    script: &Audited,
+    told: &LineHistory,
+    ended: &Ends,
+) -> Result<(), AuditFault>
+    requires performed { ArePerformed script.now.clients told.now.history }
+    requires legal { IsLegal script.now.schemas told.now.history script.now.opened }
+    ensures { (lines : List Line) → IsTold script.now.clients lines told.now.history told.now.is_whole → Audits script.now (record { ended = ended.now; lines = lines }) result }
+{
+    if !told.is_whole {
+        return Err(entry_at(told.history.len()));
+    }
+    is_answered(alloc, script, &told.history, ended)
+}
+
 /// The audit of a report whose history has been told from its lines.
 fn audit_told(
     alloc: Global,
@@ -76,13 +94,13 @@ fn audit_told(
 ) -> Result<(), AuditFault>
     requires made { AreMade script.now.schemas }
     requires sorted { IsSorted script.now.opened.objects }
+    requires performed { ArePerformed script.now.clients told.now.history }
     ensures { (lines : List Line) → IsTold script.now.clients lines told.now.history told.now.is_whole → Audits script.now (record { ended = ended.now; lines = lines }) result }
 {
-    is_legal(alloc, script, &told.history)?;
-    if !told.is_whole {
-        return Err(entry_at(told.history.len()));
+    match is_legal(alloc, script, &told.history) {
+        Ok(()) => audit_legal(alloc, script, told, ended),
+        Err(fault) => Err(fault),
     }
-    is_answered(alloc, script, &told.history, ended)
 }
 
 /// Whether a report is true of a script: its lines tell one legal serial history of the script's items, which answers

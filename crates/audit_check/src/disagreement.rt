@@ -1,3 +1,5 @@
+ghost use Rattle.std.specs.Prelude.{◌≡◌};
+
 use thor_value::NoMemory;
 
 /// The first line of a report that isn't true of the script.

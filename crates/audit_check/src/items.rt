@@ -1,6 +1,7 @@
 //! The lines of the items, compared with the history.
 
-ghost use Rattle.std.specs.Prelude.{◌≡◌, ◌<◌, ◌+◌, ◌↔◌, [], Some, None, IsTrue, length};
+ghost use Rattle.std.specs.Prelude.{◌≡◌, ◌<◌, ◌+◌, ◌↔◌, [], Some, None, IsTrue, length, slice_get};
+ghost use Rattle.std.specs.Option.{option_copied};
 ghost use Rattle.audit_check.specs.Items.{AreRightAll, AreRightOr, IsOf, IsRightBy, items_at};
 ghost use Rattle.audit_check.specs.Lines.{FaultIs};
 ghost use Rattle.audit_check.specs.Standings.{Stand};
@@ -16,8 +17,10 @@ use serial_model::{Did, Ended, ItemOutcome, What};
 use thor_value::{Answer, Fault, Ints, Who};
 use top_history_check::Items;
 
-/// The most clients and the most items of a client that have numbers.
+/// The most clients that have numbers.
 const CLIENTS: usize = 255;
+
+/// The most items of a client that have numbers.
 const ITEMS: usize = 4_294_967_294;
 
 fn is_ints(answer: &Answer, ints: &Ints) -> bool
@@ -105,6 +108,13 @@ fn items_at(clients: &[Items], client: usize) -> &[What]
     }
 }
 
+/// The line at a place, where there is one.
+fn line_at(ended: &[Ended], place: usize) -> Option<&Ended>
+    ensures { option_copied result ≡ slice_get ended.now place }
+{
+    ended.get(place)
+}
+
 /// The place of the first line that isn't right of those of a client's items; nothing where all are.
 fn first_wrong_of(
     history: &[Did],
@@ -125,8 +135,9 @@ fn first_wrong_of(
             client: client as u8 + 1,
             index: place as u32 + 1,
         };
-        let Some(line) = ended.get(place) else {
-            return Some(place);
+        let line = match line_at(ended, place) {
+            Some(line) => line,
+            None => return Some(place),
         };
         if !is_right(history, standings, who, line) {
             return Some(place);
@@ -135,11 +146,14 @@ fn first_wrong_of(
     None
 }
 
-/// The line of an item at a place, counted from 0.
-fn item_at(place: usize) -> AuditFault
-    ensures { FaultIs (line.Item (place + 1)) result }
+/// The line of an item at a place, counted from 0 behind so many others.
+fn item_at(others: usize, place: usize) -> AuditFault
+    ensures { FaultIs (line.Item (others + place + 1)) result }
 {
-    match place.checked_add(1) {
+    let Some(at) = others.checked_add(place) else {
+        return AuditFault::NoMemory;
+    };
+    match at.checked_add(1) {
         Some(index) => AuditFault::Disagrees(Disagreement::Item {
             index: index as u64,
         }),
@@ -169,12 +183,12 @@ pub(crate) fn are_right(
         }
         let behind = ended.split_at(used).1;
         match first_wrong_of(history, standings, clients, client, behind) {
-            Some(wrong) => return Err(item_at(used + wrong)),
+            Some(wrong) => return Err(item_at(used, wrong)),
             None => used += count,
         }
     }
     if used < ended.len() {
-        return Err(item_at(used));
+        return Err(item_at(used, 0));
     }
     Ok(())
 }

@@ -18,10 +18,11 @@ use class_defs::Schemas;
 use outside::{ReadAll, Source, read_all};
 use report_parse::read_report;
 use script_check::{opened_store, upgrade_count, with_upgrades};
-use script_parse::{Refusal, Script};
+use script_parse::{ClientItems, Refusal, Script};
 use script_text::SyntaxError;
 use serial_model::are_made;
 use std::alloc::Global;
+use std::mem;
 use thor_value::NoMemory;
 use top_reply::Reply;
 use top_words::Plan;
@@ -53,6 +54,16 @@ fn audit_report(
     }
 }
 
+/// The items of a script's clients.
+fn clients_of(alloc: Global, script: Script) -> ClientItems
+    ensures { result ≡ script.clients }
+{
+    let mut script = script;
+    let clients = mem::replace(&mut script.clients, ClientItems::new(alloc));
+    drop(script);
+    clients
+}
+
 /// By what the report of a script is judged: the store that its setup opens, under the schemas behind its upgrades.
 fn audited_of(alloc: Global, script: Script, base: Schemas) -> Result<Audited, NoMemory>
     requires { AreMade base }
@@ -61,17 +72,10 @@ fn audited_of(alloc: Global, script: Script, base: Schemas) -> Result<Audited, N
 {
     let opened = opened_store(alloc, &base.first)?;
     let schemas = with_upgrades(alloc, base, script.clients.as_slice())?;
-    let Script {
-        setup,
-        clients,
-        events,
-    } = script;
-    drop(setup);
-    drop(events);
     Ok(Audited {
         opened,
         schemas,
-        clients,
+        clients: clients_of(alloc, script),
     })
 }
 
