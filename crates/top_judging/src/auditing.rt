@@ -38,7 +38,7 @@ fn audit_report(
 ) -> Result<Reply, NoMemory>
     requires made { AreMade audited.now.schemas }
     requires sorted { IsSorted audited.now.opened.objects }
-    ensures { IfOk result (RepliesReport audited.now (option_map (λ bytes. bytes.now) report)) }
+    ensures { IfOk result (RepliesReport audited.now (option_map (λ bytes. bytes.now) report.entry)) }
 {
     let Some(bytes) = report else {
         return Ok(Reply::NoReport { line: 1 });
@@ -87,7 +87,7 @@ fn audit_judged(
     report: Option<&[u8]>,
 ) -> Result<Reply, NoMemory>
     requires { AreMade base }
-    ensures { (setup : Declarations) → base ≡ first_schemas setup → IfOk result (RepliesReport (audited_of setup script) (option_map (λ bytes. bytes.now) report)) }
+    ensures { (setup : Declarations) → base ≡ first_schemas setup → IfOk result (RepliesReport (audited_of setup script) (option_map (λ bytes. bytes.now) report.entry)) }
 {
     let audited = audited_of(alloc, script, base)?;
     if !are_made(&audited.schemas) {
@@ -106,7 +106,7 @@ fn audit_script(
     requires few { HasFew script.setup }
     requires clients { length script.clients ≤ 64 }
     requires events { length script.events ≤ 1000000 }
-    ensures { IfOk result (RepliesAudit plan.now script (option_map (λ bytes. bytes.now) report)) }
+    ensures { IfOk result (RepliesAudit plan.now script (option_map (λ bytes. bytes.now) report.entry)) }
 {
     if UPGRADE_LIMIT < upgrade_count(script.clients.as_slice()) {
         return Ok(Reply::Limit {
@@ -132,7 +132,7 @@ fn audit_parts(
     script: &[u8],
     report: Option<&[u8]>,
 ) -> Result<Reply, NoMemory>
-    ensures { IfOk result (RepliesParts plan.now script.now (option_map (λ bytes. bytes.now) report)) }
+    ensures { IfOk result (RepliesParts plan.now script.now (option_map (λ bytes. bytes.now) report.entry)) }
 {
     match read_bytes(alloc, script) {
         Ok(script) => audit_script(alloc, plan, script, report),
