@@ -42,7 +42,8 @@ fn fault_at(
     right: &'static str,
 ) -> Result<String, NoMemory> {
     let wrong = str::from_utf8(word.as_slice()).unwrap_or("");
-    let is_file = !wrong.starts_with('-') && (right == OPTIONS || right == OPTIONS_OF_CHECK || right == OPTIONS_OF_AUDIT);
+    let is_file = !wrong.starts_with('-')
+        && (right == OPTIONS || right == OPTIONS_OF_CHECK || right == OPTIONS_OF_AUDIT);
     match reading_command(words) {
         Some(command) if is_file => Ok(format!(in alloc;
             "scripts come by standard input: {command} < FILE; the word {wrong:?} is wrong here, and what fits is {right} (--help tells more)"

@@ -212,17 +212,44 @@ module _ (D : DiskBytes) (Like : Plan → Type 0) (NoPlan : Type 0) (plan : Plan
 
     unjudged_says : (bytes : List ℕ) → HasBytes (origin_of plan.command) plan.repos before after bytes → (script : Script) → IsRead bytes script → (r : Reply) → RepliesUnjudged FreshBytes plan script Fresh r → Says D Like NoPlan before after r
     unjudged_says bytes has script read r (inl over) = subst (λ (w : Reply). Says D Like NoPlan before after w) (sym over.1.0)
-        (record { plan = plan; is = is; says = inl (record { script = script; bytes = bytes; has = has; written = read.written;
-          says = subst (λ (c : Command). IsOverLimit (disks_for c D) script over.0) (sym (is_audit plan.command front))
-              (unjudged_replies FreshBytes plan script Fresh fresh read.clients read.events (reply.Limit over.0) (inl (over.0, (refl, over.1.1)))) }) })
+        (record {
+          plan = plan;
+          is = is;
+          says = inl (record {
+            script = script;
+            bytes = bytes;
+            has = has;
+            written = read.written;
+            says = subst (λ (c : Command). IsOverLimit (disks_for c D) script over.0) (sym (is_audit plan.command front))
+                (unjudged_replies FreshBytes plan script Fresh fresh read.clients read.events (reply.Limit over.0) (inl (over.0, (refl, over.1.1))));
+          });
+        })
     unjudged_says bytes has script read r (inr (inl setup)) = subst (λ (w : Reply). Says D Like NoPlan before after w) (sym setup.0)
-        (record { plan = plan; is = is; says = inr (record { script = script; bytes = bytes; has = has; written = read.written;
-          says = subst (λ (c : Command). IsRefusalOf (disks_for c D) plan script refusals.Setup) (sym (is_audit plan.command front))
-              (unjudged_replies FreshBytes plan script Fresh fresh read.clients read.events (reply.Refused refusals.Setup) (inr (inl (refl, setup.1)))) }) })
+        (record {
+          plan = plan;
+          is = is;
+          says = inr (record {
+            script = script;
+            bytes = bytes;
+            has = has;
+            written = read.written;
+            says = subst (λ (c : Command). IsRefusalOf (disks_for c D) plan script refusals.Setup) (sym (is_audit plan.command front))
+                (unjudged_replies FreshBytes plan script Fresh fresh read.clients read.events (reply.Refused refusals.Setup) (inr (inl (refl, setup.1))));
+          });
+        })
     unjudged_says bytes has script read r (inr (inr rule)) = subst (λ (w : Reply). Says D Like NoPlan before after w) (sym rule.1.1.0)
-        (record { plan = plan; is = is; says = inr (record { script = script; bytes = bytes; has = has; written = read.written;
-          says = subst (λ (c : Command). IsRefusalOf (disks_for c D) plan script rule.1.0) (sym (is_audit plan.command front))
-              (unjudged_replies FreshBytes plan script Fresh fresh read.clients read.events (reply.Refused rule.1.0) (inr (inr (rule.0, (rule.1.0, (refl, rule.1.1.1)))))) }) })
+        (record {
+          plan = plan;
+          is = is;
+          says = inr (record {
+            script = script;
+            bytes = bytes;
+            has = has;
+            written = read.written;
+            says = subst (λ (c : Command). IsRefusalOf (disks_for c D) plan script rule.1.0) (sym (is_audit plan.command front))
+                (unjudged_replies FreshBytes plan script Fresh fresh read.clients read.events (reply.Refused rule.1.0) (inr (inr (rule.0, (rule.1.0, (refl, rule.1.1.1))))));
+          });
+        })
 
     audit_says : (bytes : List ℕ) → WasRead before.left after.left bytes → (script : Script) → IsRead (script_part bytes) script → (r : Reply) → RepliesAudit plan script (report_part bytes) r → Says D Like NoPlan before after r
     audit_says bytes was script read r (inl none) = unjudged_says (script_part bytes) (has_front bytes was) script read r none

@@ -31,11 +31,7 @@ use top_words::Plan;
 const DIVIDER: u8 = 30;
 
 /// What is replied of the bytes of a report.
-fn audit_report(
-    alloc: Global,
-    audited: &Audited,
-    report: Option<&[u8]>,
-) -> Result<Reply, NoMemory>
+fn audit_report(alloc: Global, audited: &Audited, report: Option<&[u8]>) -> Result<Reply, NoMemory>
     requires made { AreMade audited.now.schemas }
     requires sorted { IsSorted audited.now.opened.objects }
     ensures { IfOk result (RepliesReport audited.now (option_map (λ bytes. bytes.now) report.entry)) }

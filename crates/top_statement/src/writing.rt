@@ -12,7 +12,8 @@ use script_parse::refusal_text;
 use std::alloc::Global;
 use thor_value::{NoMemory, Text};
 use top_reply::{
-    Reply, Status, damaged_text, disagreement_text, disk_text, limit_text, no_report_text, status_of,
+    Reply, Status, damaged_text, disagreement_text, disk_text, limit_text, no_report_text,
+    status_of,
 };
 
 /// Writes bytes.
