@@ -1,0 +1,12 @@
+pub mod Counting
+pub mod Failing
+pub mod Finding
+pub mod Growing
+pub mod Leaving
+pub mod Opened
+pub mod RequestWorks
+pub mod Sending
+pub mod SessionWorks
+pub mod Sites
+pub mod Standing
+pub mod Writing
