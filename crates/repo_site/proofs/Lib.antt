@@ -1,0 +1,9 @@
+pub mod Counting
+pub mod Failing
+pub mod Leaving
+pub mod RequestWorks
+pub mod Sending
+pub mod SessionWorks
+pub mod Sites
+pub mod Standing
+pub mod Writing

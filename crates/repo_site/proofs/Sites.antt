@@ -1,0 +1,68 @@
+-- Calls on the repository of a run.
+use Rattle.client_port.specs.Views.{Unsettled}
+use Rattle.client_port.specs.Works.{IsDown}
+use Rattle.law_client_views.specs.Standing.{unsettled_of}
+use Rattle.law_repo_calls.proofs.Restarts.{stands_on}
+use Rattle.law_repo_calls.proofs.Stepping.{runs_same}
+use Rattle.law_repo_calls.specs.Seen.{IsRun, StandsRight, phase}
+use Rattle.law_repo_memory.specs.Agreeing.{trace_of}
+use Rattle.repo_core.specs.Shown.{Shown}
+use Rattle.repo_refusals.specs.declared.refusal.Refusal.TheVariants as refused
+use Rattle.repo_refusals.specs.declared.refusal.Refusal.{Refusal}
+use Rattle.repo_site.proofs.Leaving.{may_leave}
+use Rattle.repo_site.specs.Run.{Run}
+use Rattle.repo_site.specs.Sited.{Happens, IsBaseOf, Sited, StandsIn}
+use Rattle.repo_site.specs.Working.{AnyBase, HasRepos, IfUp, MayLeave, RunsBy, SiteDoes, WorksBy}
+use Rattle.spec_history.specs.History.{Base}
+use Rattle.spec_trace.specs.Trace.{Item}
+use Rattle.std.proofs.Common.{Bool, Err, List, Result, false, refl, subst, sym, true, ℕ, ◌≡◌}
+
+abbrev pub sited : ℕ → Shown → Sited
+sited number x = record { number = number; shown = x }
+
+module _ (run : Run) (number repos : ℕ) (x y : Shown) (k : StandsIn run number repos x) where
+  -- ---- what happened
+
+  pub happened : RunsBy (HasRepos repos) x y → Happens run (sited number x) (sited number y)
+  happened r = record { number = refl; run = r.runs (run.base number) (number, k.base) k.right }
+
+  pub happened_any : RunsBy AnyBase x y → Happens run (sited number x) (sited number y)
+  happened_any r = record { number = refl; run = r.runs (run.base number) tt k.right }
+
+  -- ---- how it stands
+
+  pub stays : RunsBy (HasRepos repos) x y → StandsIn run number repos y
+  stays r = record { base = k.base; right = stands_on (run.base number) x y k.right (r.runs (run.base number) (number, k.base) k.right) }
+
+  pub stays_any : RunsBy AnyBase x y → StandsIn run number repos y
+  stays_any r = record { base = k.base; right = stands_on (run.base number) x y k.right (r.runs (run.base number) tt k.right) }
+
+  -- ---- what it shows
+
+  if_up : (t : Bool) (U D : Type 0) → t ≡ true → U → IfUp t U D
+  if_up true U D e u = u
+  if_up false U D e u = absurd (never e)
+    where
+      never : false ≡ true → ⊥
+      never n = cc
+
+  pub shown : {X : Type 0} (c : ℕ) (result : Result X Refusal) (W : Base → List Item → List Item → Unsettled → Type 0) → x.is_up ≡ true → WorksBy (HasRepos repos) x y W → SiteDoes run c (sited number x) (sited number y) result W
+  shown c result W up w = if_up x.is_up _ _ up (w.works (run.base number) (unsettled_of (run.base number) c (trace_of y.trace) (phase y)) (number, k.base) k.right (may_leave (run.base number) c (trace_of y.trace) (phase y)))
+
+  pub shown_any : {X : Type 0} (c : ℕ) (result : Result X Refusal) (W : Base → List Item → List Item → Unsettled → Type 0) → x.is_up ≡ true → WorksBy AnyBase x y W → SiteDoes run c (sited number x) (sited number y) result W
+  shown_any c result W up w = if_up x.is_up _ _ up (w.works (run.base number) (unsettled_of (run.base number) c (trace_of y.trace) (phase y)) tt k.right (may_leave (run.base number) c (trace_of y.trace) (phase y)))
+
+-- ---- one that is down
+
+pub still : (run : Run) (number : ℕ) (x : Shown) → Happens run (sited number x) (sited number x)
+still run number x = record { number = refl; run = runs_same (run.base number) x x refl }
+
+if_down : (t : Bool) (U D : Type 0) → t ≡ false → D → IfUp t U D
+if_down false U D e d = d
+if_down true U D e d = absurd (never e)
+  where
+    never : true ≡ false → ⊥
+    never n = cc
+
+pub shown_down : {X : Type 0} (run : Run) (c number : ℕ) (x : Shown) (W : Base → List Item → List Item → Unsettled → Type 0) → x.is_up ≡ false → SiteDoes {X = X} run c (sited number x) (sited number x) (Err (refused.Down number)) W
+shown_down run c number x W down = if_down x.is_up _ _ down (refl, refl)

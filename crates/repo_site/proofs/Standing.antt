@@ -1,0 +1,52 @@
+-- How a repository of a run stands behind its events.
+use Rattle.law_repo_calls.proofs.Phases.{agreement}
+use Rattle.law_repo_calls.proofs.Restarts.{stands_on}
+use Rattle.law_repo_calls.specs.Seen.{StandsRight, seen}
+use Rattle.law_repo_calls.specs.Vouching.{WasKept}
+use Rattle.law_repo_memory.specs.Agreeing.{trace_of}
+use Rattle.law_repo_memory.specs.Running.{IsInAgreement}
+use Rattle.log_entries.specs.declared.entry.Entry.{Entry}
+use Rattle.repo_core.specs.Shown.{Shown}
+use Rattle.repo_site.proofs.Writing.{first_so}
+use Rattle.repo_site.specs.Run.{Run}
+use Rattle.repo_site.specs.Sited.{Happens, StandsIn}
+use Rattle.spec_history.specs.History.{Base, state}
+use Rattle.spec_history.specs.Sound.{sound}
+use Rattle.spec_trace.proofs.Traces.{entries-items}
+use Rattle.spec_trace.specs.Calls.{is_forgotten}
+use Rattle.spec_trace.specs.Exact.{exact}
+use Rattle.spec_trace.specs.Trace.{entries}
+use Rattle.std.proofs.Common.{List, arith, refl, subst, sym, true, ℕ, ◌+◌, ◌<◌, ◌∙◌, ◌≡◌, ◌≤◌}
+use Rattle.std.specs.Prelude.{not, ◌≢◌}
+use Rattle.thor_value.specs.FiniteMap.{get, has}
+use Rattle.thor_value.specs.declared.names.Ts.{Ts}
+use Rattle.two_phase.specs.Contents.{keeps}
+
+-- ---- behind an event
+
+pub stays : (run : Run) (number repos : ℕ) (x y : Shown) → StandsIn run number repos x → Happens run (record { number = number; shown = x }) (record { number = number; shown = y }) → StandsIn run number repos y
+stays run number repos x y k h = record { base = k.base; right = stands_on (run.base number) x y k.right h.run }
+
+-- ---- what it says
+
+pub is_sound : (run : Run) (number repos : ℕ) (x : Shown) → StandsIn run number repos x → sound (run.base number) x.trace.history
+is_sound run number repos x k = k.right.right.recorded.sound
+
+pub is_exact : (run : Run) (number repos : ℕ) (x : Shown) → StandsIn run number repos x → exact (run.base number) (trace_of x.trace)
+is_exact run number repos x k = k.right.right.recorded.exact
+
+pub same_number : (b : Base) (x : Shown) → StandsRight b x → x.is_up ≡ true → x.held.repo ≡ b.repo
+same_number b x k up = (agreement b x k up).held.repo
+
+-- what another repository coordinates by its number it does by the base
+pub elsewhere : (b : Base) (x : Shown) (t : Ts) → StandsRight b x → x.is_up ≡ true → t.repo ≢ x.held.repo → t.repo ≢ b.repo
+elsewhere b x t k up other same = other (same ∙ sym (same_number b x k up))
+
+behind_opening : (life opened t : ℕ) → opened ≡ life + 1 → opened ≤ t → life < t
+behind_opening life opened t is l = omega (arith, is, l)
+
+pub was_kept : (b : Base) (x : Shown) (t : Ts) → StandsRight b x → x.is_up ≡ true → keeps (get x.held.table.transactions t) ≡ true → x.opened_in ≤ t.life → WasKept b x t
+was_kept b x t k up kept here =
+    let a : IsInAgreement b (seen x) = agreement b x k up in
+    subst (λ (H : List Entry). has (state b H).kept t ≡ true) (entries-items x.trace.history x.trace.marks a.held.owed.trace)
+    (first_so (has (state b (entries (trace_of x.trace))).kept t) (not (is_forgotten (trace_of x.trace) t)) (sym (a.held.kept t (behind_opening b.life x.opened_in t.life k.opened here)) ∙ kept))

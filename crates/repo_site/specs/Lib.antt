@@ -1,0 +1,4 @@
+pub mod Run
+pub mod Sited
+pub mod Testing
+pub mod Working

@@ -1,0 +1,30 @@
+-- A repository of a run, and how it stands there.
+use Rattle.law_repo_calls.specs.Seen.{IsRun, StandsRight}
+use Rattle.repo_core.specs.Shown.{Shown}
+use Rattle.repo_site.specs.Run.{Run}
+use Rattle.spec_history.specs.History.{Base}
+use Rattle.std.specs.Prelude.{None, ℕ, ◌≡◌}
+use Rattle.thor_value.specs.FiniteMap.{get}
+use Rattle.thor_value.specs.declared.names.Ts.{Ts}
+
+-- What contracts see of a repository of a run: its number, and what is seen of the repository.
+pub record Sited : Type 0 where
+  pub number : ℕ
+  pub shown : Shown
+
+-- What the base says with which the repository of this number began, of so many repositories: no transaction that an earlier
+-- run left prepared has still to be settled.
+pub record IsBaseOf (b : Base) (number repos : ℕ) : Type 0 where
+  pub number : b.repo ≡ number
+  pub repos : b.repos ≡ repos
+  pub left : (t : Ts) → get b.left t ≡ None
+
+-- The repository of this number stands right by the base with which it began.
+pub record StandsIn (run : Run) (number repos : ℕ) (x : Shown) : Type 0 where
+  pub base : IsBaseOf (run.base number) number repos
+  pub right : StandsRight (run.base number) x
+
+-- What a call does on the repository of a run is a run of events, of none, one or two. Nothing is asked of the caller.
+pub record Happens (run : Run) (old new : Sited) : Type 0 where
+  pub number : new.number ≡ old.number
+  pub run : IsRun (run.base old.number) old.shown new.shown

@@ -1,0 +1,181 @@
+//! Calls, tested before they are made. One that fails its test takes the repository down: no rightful client makes it.
+
+ghost use Rattle.client_port.specs.Works.{AskWork, CommitWork, ConnectWork, DecideWork, FetchWork, FinishWork, ForgetWork, PrepareWork};
+ghost use Rattle.law_repo_calls.specs.Vouching.{IsCounted};
+ghost use Rattle.repo_core.specs.Calls.{MayRequest};
+ghost use Rattle.repo_site.specs.Working.{AnyBase, Halts, HasRepos, RunsBy, WorksBy};
+ghost use Rattle.std.specs.Prelude.{IsTrue, true, ◌≡◌};
+
+use crate::made;
+use crate::sessions::is_there;
+use crate::testing::{is_counted, is_here, is_tested, may_decide, may_finish, may_forget};
+use disk_trait::Parts;
+use log_entries::Request;
+use repo_core::Repo;
+use repo_refusals::Refusal;
+use session_outbox::{Asked, Verdict, Welcome};
+use thor_value::Ts;
+
+/// It goes down, and nothing is done.
+fn fail<P: Parts>(repo: &mut Repo<P>)
+    requires up { repo.old.is_up ≡ true }
+    ensures runs { RunsBy AnyBase repo.old repo.new }
+    ensures halts { Halts repo.old repo.new }
+{
+    repo.stop_after(0);
+}
+
+/// A client connects. The next upgrade can be counted.
+#[tactic(auto, using(crate::proofs::Failing::connect_fails))]
+pub(crate) fn connect<P: Parts>(repo: &mut Repo<P>, client: u8) -> Result<Welcome, Refusal>
+    requires up { repo.old.is_up ≡ true }
+    ensures runs { RunsBy AnyBase repo.old repo.new }
+    ensures works { WorksBy AnyBase repo.old repo.new (ConnectWork client result) }
+{
+    if !is_counted(repo) {
+        fail(repo);
+        return Err(Refusal::NoMemory);
+    }
+    made::connect(repo, client)
+}
+
+/// A client asks for a page. It knows no place that isn't there.
+#[tactic(auto, using(crate::proofs::Failing::fetch_fails))]
+pub(crate) fn fetch<P: Parts>(
+    repo: &mut Repo<P>,
+    session: u32,
+    page: u32,
+    upto: u64,
+) -> Result<(), Refusal>
+    requires up { repo.old.is_up ≡ true }
+    ensures runs { RunsBy AnyBase repo.old repo.new }
+    ensures works { WorksBy AnyBase repo.old repo.new (FetchWork session page upto result) }
+{
+    if !is_there(repo, upto) {
+        fail(repo);
+        return Err(Refusal::NoMemory);
+    }
+    made::fetch(repo, session, page, upto)
+}
+
+/// A coordinator decides.
+#[tactic(auto, using(crate::proofs::Failing::decide_fails))]
+pub(crate) fn decide<P: Parts>(
+    repo: &mut Repo<P>,
+    session: u32,
+    tx: Ts,
+    commit: bool,
+) -> Result<Verdict, Refusal>
+    requires up { repo.old.is_up ≡ true }
+    ensures runs { RunsBy AnyBase repo.old repo.new }
+    ensures works { WorksBy AnyBase repo.old repo.new (DecideWork session tx commit result) }
+{
+    if !may_decide(repo, session, tx) {
+        fail(repo);
+        return Err(Refusal::NoMemory);
+    }
+    made::decide(repo, session, tx, commit)
+}
+
+/// A participant learns the verdict of another repository.
+#[tactic(auto, using(crate::proofs::Failing::finish_fails))]
+pub(crate) fn finish<P: Parts>(
+    repo: &mut Repo<P>,
+    verdict: &Verdict,
+) -> Result<Option<u64>, Refusal>
+    requires up { repo.old.is_up ≡ true }
+    ensures runs { RunsBy AnyBase repo.old repo.new }
+    ensures works { WorksBy AnyBase repo.old repo.new (FinishWork verdict.now.tx verdict.now.commit result) }
+{
+    if !may_finish(repo, verdict.tx()) {
+        fail(repo);
+        return Err(Refusal::NoMemory);
+    }
+    made::finish(repo, verdict)
+}
+
+/// A coordinator forgets a decision that it keeps.
+#[tactic(auto, using(crate::proofs::Failing::forget_fails))]
+pub(crate) fn forget<P: Parts>(repo: &mut Repo<P>, tx: Ts) -> Result<(), Refusal>
+    requires up { repo.old.is_up ≡ true }
+    ensures runs { RunsBy AnyBase repo.old repo.new }
+    ensures works { WorksBy AnyBase repo.old repo.new (ForgetWork tx result) }
+{
+    if !may_forget(repo, tx) {
+        fail(repo);
+        return Err(Refusal::NoMemory);
+    }
+    made::forget(repo, tx)
+}
+
+/// A coordinator is asked.
+#[tactic(auto, using(crate::proofs::Failing::ask_fails))]
+pub(crate) fn ask<P: Parts>(repo: &mut Repo<P>, tx: Ts) -> Result<Asked, Refusal>
+    requires up { repo.old.is_up ≡ true }
+    ensures runs { RunsBy AnyBase repo.old repo.new }
+    ensures works { WorksBy AnyBase repo.old repo.new (AskWork tx result) }
+{
+    if !is_here(repo, tx) {
+        fail(repo);
+        return Err(Refusal::NoMemory);
+    }
+    made::ask(repo, tx)
+}
+
+/// A request is prepared at one of so many repositories, or refused.
+#[tactic(auto, using(crate::proofs::Failing::any_runs, crate::proofs::Failing::any_works, crate::proofs::Failing::prepare_fails))]
+pub(crate) fn prepare<P: Parts>(
+    repo: &mut Repo<P>,
+    repos: u8,
+    session: u32,
+    request: Request,
+) -> Result<u64, Refusal>
+    requires up { repo.old.is_up ≡ true }
+    ensures runs { RunsBy (HasRepos repos) repo.old repo.new }
+    ensures works { WorksBy (HasRepos repos) repo.old repo.new (PrepareWork session request result) }
+{
+    if !may_come(repo, session, &request, false) {
+        drop(request);
+        fail(repo);
+        return Err(Refusal::NoMemory);
+    }
+    if !is_tested(repo, repos, session, &request) {
+        return made::reject(repo, session, request);
+    }
+    made::prepare(repo, repos, session, request)
+}
+
+/// A request with one participant commits at one of so many repositories, or refused.
+#[tactic(auto, using(crate::proofs::Failing::any_runs, crate::proofs::Failing::any_works, crate::proofs::Failing::commit_fails))]
+pub(crate) fn commit_one<P: Parts>(
+    repo: &mut Repo<P>,
+    repos: u8,
+    session: u32,
+    request: Request,
+) -> Result<u64, Refusal>
+    requires up { repo.old.is_up ≡ true }
+    ensures runs { RunsBy (HasRepos repos) repo.old repo.new }
+    ensures works { WorksBy (HasRepos repos) repo.old repo.new (CommitWork session request result) }
+{
+    if !may_come(repo, session, &request, true) {
+        drop(request);
+        fail(repo);
+        return Err(Refusal::NoMemory);
+    }
+    if !is_tested(repo, repos, session, &request) {
+        return made::reject(repo, session, request);
+    }
+    made::commit_one(repo, repos, session, request)
+}
+
+/// Whether a verdict can be found on a request: it has its form and the call's session, and the next upgrade can be counted.
+fn may_come<P: Parts>(repo: &Repo<P>, session: u32, request: &Request, alone: bool) -> bool
+    ensures may { IsTrue result → MayRequest repo.now.held repo.now.memory request.now alone }
+    ensures own { IsTrue result → request.now.session ≡ session }
+    ensures counted { IsTrue result → IsCounted repo.now }
+{
+    if request.session != session || !is_counted(repo) {
+        return false;
+    }
+    repo.may_request(request, alone)
+}

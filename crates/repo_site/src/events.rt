@@ -1,0 +1,52 @@
+//! The events of a repository of a run that are no client's.
+
+ghost use Rattle.repo_site.specs.Sited.{Happens};
+
+use crate::happening;
+use crate::opening::Opening;
+use crate::site::Site;
+use disk_trait::Parts;
+use mob_flusher::Flushed;
+use repo_refusals::Refusal;
+
+impl<P: Parts, O: Opening> Site<P, O> {
+    /// Flushes the oldest buffered page.
+    #[tactic(auto, using(crate::proofs::Sites::happened_any, crate::proofs::Sites::stays_any))]
+    pub fn flush(&mut self) -> Result<Flushed, Refusal>
+        ensures happens { Happens O.run self.old self.new }
+    {
+        happening::flush(&mut self.repo)
+    }
+
+    /// Makes a checkpoint.
+    #[tactic(auto, using(crate::proofs::Sites::happened_any, crate::proofs::Sites::stays_any))]
+    pub fn checkpoint(&mut self) -> Result<(), Refusal>
+        ensures happens { Happens O.run self.old self.new }
+    {
+        happening::checkpoint(&mut self.repo)
+    }
+
+    /// Takes it down behind so many disk calls.
+    #[tactic(auto, using(crate::proofs::Sites::happened_any, crate::proofs::Sites::stays_any))]
+    pub fn stop_after(&mut self, calls: u32)
+        ensures happens { Happens O.run self.old self.new }
+    {
+        happening::stop_after(&mut self.repo, calls);
+    }
+
+    /// Takes back a stop that hasn't fallen.
+    #[tactic(auto, using(crate::proofs::Sites::happened_any, crate::proofs::Sites::stays_any))]
+    pub fn disarm(&mut self)
+        ensures happens { Happens O.run self.old self.new }
+    {
+        happening::disarm(&mut self.repo);
+    }
+
+    /// Restarts it, with the images of its disks that a pick chooses.
+    #[tactic(auto, using(crate::proofs::Sites::happened_any, crate::proofs::Sites::stays_any))]
+    pub fn restart(&mut self, pick: u64) -> Result<(), Refusal>
+        ensures happens { Happens O.run self.old self.new }
+    {
+        happening::restart(&mut self.repo, pick)
+    }
+}

@@ -1,0 +1,43 @@
+//! Events that are no client's: each is a run of events of `law_repo_runs`.
+
+ghost use Rattle.repo_site.specs.Working.{AnyBase, RunsBy};
+
+use disk_trait::Parts;
+use mob_flusher::Flushed;
+use repo_core::Repo;
+use repo_refusals::Refusal;
+
+/// A page is flushed.
+pub(crate) fn flush<P: Parts>(repo: &mut Repo<P>) -> Result<Flushed, Refusal>
+    ensures runs { RunsBy AnyBase repo.old repo.new }
+{
+    repo.flush()
+}
+
+/// A checkpoint is made.
+pub(crate) fn checkpoint<P: Parts>(repo: &mut Repo<P>) -> Result<(), Refusal>
+    ensures runs { RunsBy AnyBase repo.old repo.new }
+{
+    repo.checkpoint()
+}
+
+/// A stop is armed, or falls at once.
+pub(crate) fn stop_after<P: Parts>(repo: &mut Repo<P>, calls: u32)
+    ensures runs { RunsBy AnyBase repo.old repo.new }
+{
+    repo.stop_after(calls);
+}
+
+/// A stop that hasn't fallen is taken back.
+pub(crate) fn disarm<P: Parts>(repo: &mut Repo<P>)
+    ensures runs { RunsBy AnyBase repo.old repo.new }
+{
+    repo.disarm();
+}
+
+/// It is restarted, and comes up or stays down.
+pub(crate) fn restart<P: Parts>(repo: &mut Repo<P>, pick: u64) -> Result<(), Refusal>
+    ensures runs { RunsBy AnyBase repo.old repo.new }
+{
+    repo.restart(pick)
+}
