@@ -1,5 +1,5 @@
 -- What a meaning is at depth 0 and at a depth above it, and what a loop does in one turn.
-use Rattle.std.proofs.Common.{◌≡◌, ℕ, zero, suc, ◌+◌, ◌-◌, ◌<◌, ◌≤◌, List, Err, refl, ap, arith}
+use Rattle.std.proofs.Common.{◌≡◌, ℕ, suc, ◌+◌, ◌-◌, ◌<◌, ◌≤◌, List, Err, ap, arith}
 use Rattle.thor_value.specs.declared.values.Fault.TheVariants.{Steps}
 use Rattle.thor_value.specs.declared.values.Value.{Value}
 use Rattle.class_defs.specs.Expressions as expressions

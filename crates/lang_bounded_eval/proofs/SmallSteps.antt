@@ -1,17 +1,18 @@
 -- A run of small steps comes to what is left at first, and ends.
-use Rattle.std.proofs.Common.{◌≡◌, ℕ, ◌+◌, ◌-◌, ◌*◌, ◌<◌, ◌≤◌, List, [], ◌∷◌, Result, Ok, Err, refl, ap, sym, ◌∙◌, subst, arith}
+use Rattle.std.proofs.Common.{◌≡◌, ℕ, suc, ◌+◌, ◌-◌, ◌<◌, ◌≤◌, List, [], ◌∷◌, Result, Ok, Err, refl, ap, sym, ◌∙◌, subst, arith}
 use Rattle.thor_value.specs.declared.values.Value.{Value}
 use Rattle.class_defs.specs.Run.{meaning}
-use Rattle.class_defs.specs.Steps.{World, Action, after, ◌>>=◌, pure}
+use Rattle.class_defs.specs.Steps.{World, Action, after, pure, step}
 use Rattle.class_defs.specs.declared.expressions.Expr.{Expr}
 use Rattle.class_defs.specs.declared.machine.Flow.{Flow}
 use Rattle.class_defs.specs.declared.machine.Flow.TheVariants.{Returned}
+use Rattle.class_defs.specs.declared.machine.Flow.TheVariants as flow
 use Rattle.class_defs.specs.declared.machine.Machine.{Machine}
 use Rattle.class_defs.specs.declared.machine.Stop.{Stop}
 use Rattle.class_defs.specs.declared.statements.Stmt.{Stmt}
+use Rattle.class_defs.specs.declared.types.ExprType.{ExprType}
 use Rattle.method_eval.specs.Does.{Does}
 use Rattle.lang_bounded_eval.specs.SmallSteps.{Leaves, Moves, frame_of, frames, left_of, moved_to}
-use Rattle.lang_bounded_eval.specs.declared.frames.Moved.{Moved}
 use Rattle.lang_bounded_eval.specs.declared.frames.Moved.TheVariants.{To, Ended}
 use Rattle.lang_bounded_eval.specs.declared.frames.Next.{Next}
 use Rattle.lang_bounded_eval.specs.declared.frames.Next.TheVariants as next
@@ -21,8 +22,11 @@ use Rattle.method_eval.specs.declared.halt.Halt.TheVariants.{Stopped, NoMemory}
 use Rattle.lang_small_steps.proofs.Falling.{falls_by}
 use Rattle.lang_small_steps.proofs.Sound.{move_sound}
 use Rattle.lang_small_steps.specs.Due.{IsOpen, due}
-use Rattle.lang_small_steps.specs.Resume.{Left, given, move, pop, rest_of, resume}
+use Rattle.lang_small_steps.specs.Resume as resume_specs
+use Rattle.lang_small_steps.specs.Resume.{Left, collect, given, move, pop, rest_of, resume, taken, turned}
 use Rattle.lang_small_steps.specs.declared.frames.Doing.TheVariants as doing
+use Rattle.lang_small_steps.specs.declared.frames.Frame.{Frame}
+use Rattle.lang_small_steps.specs.declared.frames.Frame.TheVariants as frame
 
 -- what is left at first comes to what is left now, and this many small steps were taken
 pub record Runs (w : World) (a : Left) (m : Machine) (count : ℕ) (b : Left) (n : Machine) : Type 0 where
@@ -75,6 +79,23 @@ nothing_left g fs h = ap (λ (k : List Waiting). left_of (next.Give g) k) h
 pub handed : (r : Result Next Halt) (fs gs old : List Waiting) (f : Waiting) (g : Flow) (n m : Machine) (w : World) → old ≡ f ∷ gs → Moves r fs n (pop w (frame_of f) g (frames gs) m)
     → Leaves (moved_to r) fs n w (left_of (next.Give g) old) m
 handed r fs gs old f g n m w h is = subst (λ (k : List Waiting). Leaves (moved_to r) fs n w (left_of (next.Give g) k) m) (sym h) (takes r fs n w (left_of (next.Give g) (f ∷ gs)) m tt is)
+
+-- ---- what waits on the top, where a step or an argument comes first
+
+-- the body of a loop has ended, and its condition is tested again
+pub tests_on : (r : Result Next Halt) (gs : List Waiting) (fs : List Frame) (n t : ℕ) (c : Expr) (b : List Stmt) (g : Flow) (m o : Machine) (u : Unit {0}) → g ≡ flow.Next → 0 < t → step m ≡ (Ok u, o)
+    → Moves r gs o (resume_specs.next (doing.Evaluate n c) (frame.Test n (t - 1) c b ∷ fs) o) → Moves r gs o (turned n t c b g fs m)
+tests_on r gs fs n t c b g m o u is some took h =
+    let more : t ≡ suc (t - 1) = omega (arith, some) in
+    let on_step : turned n (suc (t - 1)) c b flow.Next fs m ≡ resume_specs.next (doing.Evaluate n c) (frame.Test n (t - 1) c b ∷ fs) o =
+    ap (λ (p : Result (Unit {0}) Stop × Machine). after p.0 p.1 (λ v. resume_specs.next (doing.Evaluate n c) (frame.Test n (t - 1) c b ∷ fs))) took in
+    subst (λ (q : Result Left Stop × Machine). Moves r gs o q) (sym (ap (λ (k : Flow). turned n t c b k fs m) is ∙ ap (λ (k : ℕ). turned n k c b flow.Next fs m) more ∙ on_step)) h
+
+-- an argument is given to a call
+pub collected : (w : World) (r : Result Next Halt) (gs : List Waiting) (fs : List Frame) (m : Machine) (n : ℕ) (t : ExprType) (v : Value) (name : List ℕ) (done vs : List Value) (es : List Expr) (f : Frame) (g : Flow)
+    → f ≡ frame.Arguments n t v name done es → vs ≡ taken done g → Moves r gs m (collect n t v name vs es fs m) → Moves r gs m (pop w f g fs m)
+collected w r gs fs m n t v name done vs es f g is came h =
+    subst (λ (k : Frame). Moves r gs m (pop w k g fs m)) (sym is) (subst (λ (us : List Value). Moves r gs m (collect n t v name us es fs m)) came h)
 
 -- ---- an expression, and a statement
 

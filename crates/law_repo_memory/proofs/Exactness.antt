@@ -117,7 +117,10 @@ written_below n (w ∷ ws) m old all x there = written_below n ws (insert m w.0 
     added : (y : Oref) → has (insert m w.0 w.1) y ≡ true → y.page < n
     added y h = by y (eq_by_cmp oref_cmp y w.0) refl (sym (ap is_some (get-insert oref_total m w.0 w.1 y)) ∙ h)
 
-none_there : (n : ℕ) (y : Oref) → has {R = oref_cmp} {X = Obj} empty y ≡ true → y.page < n
+abbrev none_written : Map oref_cmp Obj
+none_written = empty
+
+none_there : (n : ℕ) (y : Oref) → has none_written y ≡ true → y.page < n
 none_there n y e = let no : false ≡ true = e in cc
 
 -- a request of a live session that is accepted by what is in memory
@@ -127,7 +130,7 @@ comes-exact b r h M q a sessions accepted client upto granted paged = record {
   accepted = accepted-by-trace b r h M q.session q a sessions accepted;
   client = client;
   upto = subst (λ (H : List Entry). q.upto ≤ length H) (sym (entries-items r.history r.marks a.held.owed.trace)) upto;
-  granted = λ x wrote. subst (λ (n : ℕ). x.page < n) a.held.next (written_below h.next_grant q.writes empty (none_there h.next_grant) granted x wrote);
+  granted = λ x wrote. subst (λ (n : ℕ). x.page < n) a.held.next (written_below h.next_grant q.writes none_written (none_there h.next_grant) granted x wrote);
   paged = paged;
 }
 

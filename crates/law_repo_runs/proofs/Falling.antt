@@ -80,7 +80,7 @@ all-ended b T n K a =
       last = k.last;
       unused = k.unused;
       each = λ s. subst (SessionAgrees b (entries (T ++ E (Life n) ∷ [])) (ended K) s) (sym (session-end b T (E (Life n)) s))
-          (away_agrees b (entries (T ++ E (Life n) ∷ [])) (ended K) s (meet b s (state b (entries T)) (session b T s) (E (Life n))) (ended_by_life b s (state b (entries T)) (Life n) (session b T s) refl) (retired_by_life b s (state b (entries T)) (Life n) (session b T s) refl) (none_kept K s));
+          (away_agrees b (entries (T ++ E (Life n) ∷ [])) (ended K) s (meet b s (state b (entries T)) (session b T s) (E (Life n))) (ended_by_life b s (state b (entries T)) (Life n) (session b T s) refl) (sym (retired_by_life b s (state b (entries T)) (Life n) (session b T s) refl)) (none_kept K s));
       live = none_live K;
       heard = λ s. refl;
       opened = none_opened K;

@@ -79,7 +79,7 @@ life_agrees b T e K h a = record {
   last = a.last ∙ zeros (last_session T) ∙ sym (last_behind T (E e));
   unused = λ s l. session-end b T (E e) s ∙ ap (λ (o : Option Session). meet b s S o (E e)) (a.unused s l);
   each = λ s. subst (SessionAgrees b (entries (T ++ E e ∷ [])) (ended K) s) (sym (session-end b T (E e) s))
-      (away_agrees b (entries (T ++ E e ∷ [])) (ended K) s (meet b s S (session b T s) (E e)) (ended_by_life b s S e (session b T s) h) (retired_by_life b s S e (session b T s) h) (none_kept K s));
+      (away_agrees b (entries (T ++ E e ∷ [])) (ended K) s (meet b s S (session b T s) (E e)) (ended_by_life b s S e (session b T s) h) (sym (retired_by_life b s S e (session b T s) h)) (none_kept K s));
   live = none_live K;
   heard = λ s. refl;
   opened = none_opened K;
