@@ -15,7 +15,7 @@ use Rattle.law_repo_memory.specs.Agreeing.{trace_of}
 use Rattle.law_repo_memory.specs.Running.{IsInAgreement}
 use Rattle.law_repo_memory.specs.Tables.{undecided_request}
 use Rattle.law_repo_sessions.proofs.Answering.{unended_answer}
-use Rattle.log_entries.specs.declared.entry.Entry.TheVariants.{Decided, Finished, Prepared}
+use Rattle.log_entries.specs.declared.entry.Entry.TheVariants.{Decided, Finished, One, Prepared, Upgraded}
 use Rattle.log_entries.specs.declared.entry.Entry.{Entry}
 use Rattle.log_entries.specs.declared.request.Kind.TheVariants.{App, Transform, Upgrade}
 use Rattle.log_entries.specs.declared.request.Kind.{Kind}
@@ -36,6 +36,7 @@ use Rattle.session_outbox.specs.declared.answers.Asked as answer
 use Rattle.session_outbox.specs.declared.answers.Asked.TheVariants as answers
 use Rattle.session_outbox.specs.declared.answers.Verdict.{Verdict}
 use Rattle.spec_history.specs.History.{Base, Known, is_open, is_undecided, known_by, state}
+use Rattle.spec_history.specs.Requests.{is_upgrade_kind}
 use Rattle.spec_trace.proofs.Traces.{entries-items}
 use Rattle.spec_trace.specs.Calls.{Asked, Settled, Undecided, asked, is_kept}
 use Rattle.spec_trace.specs.Exact.{IsEndedIn}
@@ -55,15 +56,12 @@ use Rattle.two_phase.specs.declared.standing.Standing.{Standing}
 
 -- the entry of a request that commits at one repository, as a port names it
 pub same_entry : (q : Request) → core.alone_entry q.kind q ≡ alone_entry q
-same_entry q = by q.kind refl
+same_entry q = by q.kind
   where
-    by : (kind : Kind) → q.kind ≡ kind → core.alone_entry q.kind q ≡ alone_entry q
-    by App is = alike App is
-      where
-        alike : (kind : Kind) → q.kind ≡ kind → core.alone_entry q.kind q ≡ alone_entry q
-        alike kind e = cc
-    by Transform is = cc
-    by (Upgrade text) is = cc
+    by : (kind : Kind) → core.alone_entry kind q ≡ cond (is_upgrade_kind kind) (Upgraded q) (One q)
+    by App = refl
+    by Transform = refl
+    by (Upgrade text) = refl
 
 -- ---- how a transaction stands
 

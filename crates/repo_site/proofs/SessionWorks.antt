@@ -23,7 +23,7 @@ use Rattle.session_outbox.specs.Messages.{first}
 use Rattle.session_outbox.specs.Outbox.{waiting}
 use Rattle.session_outbox.specs.declared.answers.Welcome.{Welcome}
 use Rattle.session_outbox.specs.declared.message.Message.{Message}
-use Rattle.spec_history.specs.History as history
+use Rattle.spec_history.specs.History as histories
 use Rattle.spec_history.specs.History.{Base, state}
 use Rattle.spec_trace.proofs.Traces.{entries-items}
 use Rattle.spec_trace.specs.Calls.{next_page}
@@ -67,7 +67,7 @@ module _ (b : Base) (x y : Shown) (u : Unsettled) (k : StandsRight b x) (after :
   connect_works client (Ok w) counted stands trace same left why number epoch threshold place upgrades =
       there (λ R v. ConnectWork client (Ok w) b T R v) (T ++ M (the.Connected w.session client) ∷ []) (marked_is x y (the.Connected w.session client) trace) stands.1
       (connects b T x.memory.sessions client w (sessions b x y u k after up m) number
-      (epoch ∙ (epoch-fits b x.trace x.held x.memory a (counted_less (length x.held.upgrades) counted) ∙ ap (λ (H : List Entry). history.epoch_of (state b H)) (sym history)))
+      (epoch ∙ (epoch-fits b x.trace x.held x.memory a (counted_less (length x.held.upgrades) counted) ∙ ap (λ (H : List Entry). histories.epoch_of (state b H)) (sym history)))
       (threshold ∙ (ap (λ (Q : Contents). Q.threshold) a.queue ∙ ap (λ (H : List Entry). (window b H).threshold) (sym history)))
       (place ∙ ap length (sym history))
       (upgrades ∙ (a.held.upgrades ∙ ap (λ (H : List Entry). (state b H).texts) (sym history))))

@@ -1,0 +1,147 @@
+use client_port::Port;
+use disk_trait::Parts;
+use log_entries::Request;
+use repo_refusals::Refusal;
+use repo_site::{Opening, Site};
+use session_outbox::{Asked, At, Message, Verdict, Welcome};
+use std::marker::Model;
+use thor_value::Ts;
+
+/// The repositories of a run, lent to one client. Each call is one event of one of them. One that isn't there is taken as one
+/// that is down.
+pub struct LentSites<P: Parts, O: Opening> {
+    client: u8,
+    sites: Vec<Site<P, O>>,
+}
+
+impl<P: Parts, O: Opening> Model for LentSites<P, O> {
+    ghost use Rattle.cluster_port.specs.Lent.{AreInPlace, Lent};
+
+    ghost Value = { Lent };
+
+    ghost view = { λ l. record { client = l.client; sites = l.sites.items } };
+
+    ghost invariant = { λ l. AreInPlace l.sites.items };
+}
+
+impl<P: Parts, O: Opening> Drop for LentSites<P, O> {
+    fn drop(self) {
+        let LentSites { sites, .. } = self;
+        drop(sites);
+    }
+}
+
+impl<P: Parts, O: Opening> LentSites<P, O> {
+    ghost use Rattle.cluster_port.specs.Lent.{AreInPlace};
+    ghost use Rattle.std.specs.Prelude.{◌≡◌};
+
+    /// The repositories, each at the place of its number, as they are lent to a client.
+    pub fn new(client: u8, sites: Vec<Site<P, O>>) -> LentSites<P, O>
+        requires { AreInPlace sites.items }
+        ensures client { result.client ≡ client }
+        ensures sites { result.sites ≡ sites.items }
+    {
+        LentSites { client, sites }
+    }
+
+    /// They come back.
+    pub fn into_sites(self) -> Vec<Site<P, O>>
+        ensures sites { result.items ≡ self.sites }
+        ensures placed { AreInPlace result.items }
+    {
+        let LentSites { sites, .. } = self;
+        sites
+    }
+}
+
+impl<P: Parts, O: Opening> Port for LentSites<P, O> {
+    ghost use Rattle.cluster_port.specs.Lent.{view_of};
+    ghost use Rattle.std.specs.Prelude.{true};
+
+    ghost shows = { true };
+
+    ghost view = { λ p. view_of O.run p.client p.sites };
+
+    fn connect(&mut self, repo: u8, client: u8) -> Result<Welcome, Refusal> {
+        match self.sites.get_mut(usize::from(repo)) {
+            Some(site) => site.connect(client),
+            None => Err(Refusal::Down { repo: repo }),
+        }
+    }
+
+    fn fetch(&mut self, at: At, page: u32, upto: u64) -> Result<(), Refusal> {
+        match self.sites.get_mut(usize::from(at.repo)) {
+            Some(site) => site.fetch(at.session, page, upto),
+            None => Err(Refusal::Down { repo: at.repo }),
+        }
+    }
+
+    fn grant(&mut self, at: At) -> Result<(), Refusal> {
+        match self.sites.get_mut(usize::from(at.repo)) {
+            Some(site) => site.grant(at.session),
+            None => Err(Refusal::Down { repo: at.repo }),
+        }
+    }
+
+    fn receive(&mut self, at: At) -> Result<Option<Message>, Refusal> {
+        match self.sites.get_mut(usize::from(at.repo)) {
+            Some(site) => site.receive(at.session),
+            None => Err(Refusal::Down { repo: at.repo }),
+        }
+    }
+
+    fn draw(&mut self, at: At, floor: u64) -> Result<Ts, Refusal> {
+        match self.sites.get_mut(usize::from(at.repo)) {
+            Some(site) => site.draw(at.session, floor),
+            None => Err(Refusal::Down { repo: at.repo }),
+        }
+    }
+
+    fn prepare(&mut self, at: At, request: Request) -> Result<u64, Refusal> {
+        match self.sites.get_mut(usize::from(at.repo)) {
+            Some(site) => site.prepare(at.session, request),
+            None => {
+                drop(request);
+                Err(Refusal::Down { repo: at.repo })
+            }
+        }
+    }
+
+    fn commit_one(&mut self, at: At, request: Request) -> Result<u64, Refusal> {
+        match self.sites.get_mut(usize::from(at.repo)) {
+            Some(site) => site.commit_one(at.session, request),
+            None => {
+                drop(request);
+                Err(Refusal::Down { repo: at.repo })
+            }
+        }
+    }
+
+    fn decide(&mut self, at: At, tx: Ts, commit: bool) -> Result<Verdict, Refusal> {
+        match self.sites.get_mut(usize::from(at.repo)) {
+            Some(site) => site.decide(at.session, tx, commit),
+            None => Err(Refusal::Down { repo: at.repo }),
+        }
+    }
+
+    fn finish(&mut self, repo: u8, verdict: &Verdict) -> Result<Option<u64>, Refusal> {
+        match self.sites.get_mut(usize::from(repo)) {
+            Some(site) => site.finish(verdict),
+            None => Err(Refusal::Down { repo: repo }),
+        }
+    }
+
+    fn forget(&mut self, repo: u8, tx: Ts) -> Result<(), Refusal> {
+        match self.sites.get_mut(usize::from(repo)) {
+            Some(site) => site.forget(tx),
+            None => Err(Refusal::Down { repo: repo }),
+        }
+    }
+
+    fn ask(&mut self, repo: u8, tx: Ts) -> Result<Asked, Refusal> {
+        match self.sites.get_mut(usize::from(repo)) {
+            Some(site) => site.ask(tx),
+            None => Err(Refusal::Down { repo: repo }),
+        }
+    }
+}
