@@ -4,11 +4,12 @@ use Rattle.disk_trait.specs.AllDisks.{ReadsAs}
 use Rattle.disk_trait.specs.Disks.{Disks}
 use Rattle.log_codec.specs.declared.state.State.{State}
 use Rattle.repo_opening.specs.Paged.{ArePaged}
+use Rattle.commit_log.specs.Opening.{IsFresh}
 use Rattle.commit_log.specs.Recovered.{stands}
 use Rattle.std.specs.List.{AllZip, flat_map}
 use Rattle.class_defs.specs.declared.store.Plain.{Plain}
 use Rattle.class_defs.specs.declared.store.Schemas.{Schemas}
-use Rattle.std.specs.Prelude.{List, None, Option, Some, length, ℕ, ◌≡◌}
+use Rattle.std.specs.Prelude.{List, None, Option, Some, [], length, ℕ, ◌≡◌, ◌∷◌}
 use Rattle.store_opening.specs.OpenedStore.{Holds, Repository, objects_of, opened_store, roots_of, states_of}
 use Rattle.store_opening.specs.declared.found.OpenStore.{OpenStore}
 use Rattle.store_opening.specs.declared.found.Store.TheVariants.{Fresh, Open}
@@ -44,8 +45,18 @@ pub record IsStored (images : List (ℕ → List ℕ)) (store : OpenStore) : Typ
   pub epoch : store.stored.epoch ≡ length store.schemas.upgraded
   pub roots : store.roots ≡ roots_of (states_of repositories)
 
+-- repository 0 is fresh: neither of its log disks has an open header
+abbrev pub IsFreshIn : List (ℕ → List ℕ) → Type 0
+IsFreshIn [] = Unit {0}
+IsFreshIn (image ∷ images) = IsFresh image
+
+-- every repository is open: its disks stand for a state and the objects of its pages
+pub record AreOpen (images : List (ℕ → List ℕ)) : Type 0 where
+  pub repositories : List Repository
+  pub each : AllZip Holds images repositories
+
 abbrev pub IsStoredIn : List (ℕ → List ℕ) → Store → Type 0
-IsStoredIn images Fresh = Unit {0}
+IsStoredIn images Fresh = IsFreshIn images
 IsStoredIn images (Open store) = IsStored images store
 
 -- a store is the one for which these disks stand, with these schemas
@@ -65,3 +76,8 @@ IsOpenedIn images (Open store) (Some opened) = IsOpened images store.schemas ope
 abbrev pub schemas_in : Store → Option Schemas
 schemas_in Fresh = None
 schemas_in (Open store) = Some store.schemas
+
+-- how many upgrades it has installed
+abbrev pub epochs_in : Store → ℕ
+epochs_in Fresh = 0
+epochs_in (Open store) = length store.schemas.upgraded

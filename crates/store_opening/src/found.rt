@@ -2,14 +2,15 @@
 
 ghost use Rattle.repo_opening.specs.Recovered.{Finds};
 ghost use Rattle.repo_opening.specs.Same.{Same};
-ghost use Rattle.store_opening.specs.Seated.{AreSeated, IsSeated};
+ghost use Rattle.store_opening.specs.Seated.{AreSeated, FindsFresh, IsSeated};
+ghost use Rattle.commit_log.specs.Opening.{IsFresh};
 ghost use Rattle.std.specs.Option.{IfSome};
 ghost use Rattle.disk_trait.specs.AllDisks.{ReadsAs};
 ghost use Rattle.repo_opening.specs.Paged.{PutsStored};
-ghost use Rattle.std.specs.Prelude.{IfErr, IfOk, IsOk, List, OnOk, vec_capacity, vec_len, ◌≡◌, ◌≤◌, ℕ};
+ghost use Rattle.std.specs.Prelude.{IfErr, IfOk, IsOk, List, OnOk, true, vec_capacity, vec_len, ◌≡◌, ◌≤◌, ℕ};
 ghost use Rattle.store_opening.specs.Joined.{AreKept, read_states};
 ghost use Rattle.store_opening.specs.OpenedStore.{roots_of};
-ghost use Rattle.store_opening.specs.Reading.{IsOpened, IsOpenedIn, IsStored, IsStoredIn, PutsAll, ReadAll, StandFor, schemas_in};
+ghost use Rattle.store_opening.specs.Reading.{IsFreshIn, IsOpened, IsOpenedIn, IsStored, IsStoredIn, PutsAll, ReadAll, StandFor, epochs_in, schemas_in};
 ghost use Rattle.std.specs.Option.{option_copied};
 ghost use Rattle.thor_value.specs.FiniteMap.{IsSorted, empty};
 
@@ -114,7 +115,9 @@ impl<P: Parts> Found<P> {
     }
 
     /// How many upgrades the store has installed.
-    pub fn epoch(&self) -> usize {
+    pub fn epoch(&self) -> usize
+        ensures { result ≡ epochs_in self.now.store }
+    {
         match &self.store {
             Store::Fresh => 0,
             Store::Open(store) => store.schemas.upgraded.len(),
@@ -306,26 +309,50 @@ fn placed<P: Parts>(
     found: Option<(Recovered, u32)>,
     places: &[Closed<P>],
 ) -> (Closed<P>, Result<(), Unopened>)
-    requires { Finds (P.disks part) found }
+    requires found { Finds (P.disks part) found }
+    requires fresh { FindsFresh (P.disks part) found }
     ensures { (given : P) → Same (P.disks given) (P.disks part) → IsSeated P.disks given result.0 }
 {
     match found {
         Some((recovered, behind)) => (Closed::Known(Known::new(part, recovered, behind)), Ok(())),
-        None => (
-            Closed::Fresh(Settled::new(part)),
-            match places.first() {
-                Some(Closed::Known(_)) => Err(Unopened::Damaged {
-                    repo,
-                    disk: 0,
-                    place: 0,
-                }),
-                Some(_) | None => Ok(()),
-            },
-        ),
+        None => (Closed::Fresh(Settled::new(part)), may_be_fresh(repo, places)),
     }
 }
 
-/// What the disks of a store hold, where all of them were read.
+/// Whether a repository may be fresh behind those that were read: not where repository 0 is open.
+fn may_be_fresh<P: Parts>(repo: u8, places: &[Closed<P>]) -> Result<(), Unopened> {
+    match places.first() {
+        Some(Closed::Known(_)) => Err(Unopened::Damaged {
+            repo,
+            disk: 0,
+            place: 0,
+        }),
+        Some(_) | None => Ok(()),
+    }
+}
+
+/// Whether a repository is fresh.
+fn is_fresh<P: Parts>(place: &Closed<P>) -> bool
+    ensures { result ≡ true → (part : P) (image : ℕ → List ℕ) → IsSeated P.disks part place.now → ReadsAs (P.disks part) image → IsFresh image }
+{
+    match place {
+        Closed::Fresh(_) => true,
+        Closed::Parts(_) | Closed::Known(_) => false,
+    }
+}
+
+/// Whether repository 0 is fresh.
+#[tactic(auto, using(crate::proofs::Freshness::fresh_first, crate::proofs::Freshness::fresh_none))]
+fn begins_fresh<P: Parts>(places: &[Closed<P>]) -> bool
+    ensures { result ≡ true → (parts : List P) (images : List (ℕ → List ℕ)) → AreSeated P.disks parts places.now → ReadAll P.disks parts images → IsFreshIn images }
+{
+    match places.split_first() {
+        Some((first, _others)) => is_fresh(first),
+        None => true,
+    }
+}
+
+/// What the disks of a store hold, where all of them were read. Behind an open repository 0 no other is fresh then.
 fn store_of<P: Parts>(
     alloc: Global,
     places: &[Closed<P>],
@@ -335,17 +362,21 @@ fn store_of<P: Parts>(
     ensures stored { (parts : List P) (images : List (ℕ → List ℕ)) → AreSeated P.disks parts places.now → ReadAll P.disks parts images → OnOk read (PutsAll images empty objects) → IfOk result (IsStoredIn images) }
 {
     let (objects, _) = both(objects, read)?;
+    if begins_fresh(places) {
+        drop(objects);
+        return Ok(Store::Fresh);
+    }
     let (objects, reads) = both(objects, reads_of(alloc, places))?;
     match reads {
         Some(reads) => open_store(alloc, reads.as_slice(), objects),
         None => {
             drop(objects);
-            Ok(Store::Fresh)
+            Err(Unopened::NoMemory)
         }
     }
 }
 
-/// What was read of the repositories of a store that isn't fresh.
+/// What was read of the repositories of a store, where each of them is open.
 fn reads_of<P: Parts>(
     alloc: Global,
     places: &[Closed<P>],

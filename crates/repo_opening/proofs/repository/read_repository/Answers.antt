@@ -1,17 +1,26 @@
-use Rattle.repo_opening.proofs.Reading.{reads_on, recovered_on, recovered_reads, stored_is}
+use Rattle.recovery.specs.declared.recovered.Recovered.{Recovered}
+use Rattle.repo_opening.proofs.Reading.{reads_on, recovered_on, recovered_reads, same_on, stored_is}
+use Rattle.repo_opening.proofs.Syncing.{same_then}
 use Rattle.repo_opening.specs.Recovered.{IsRecovered}
 use Rattle.disk_trait.specs.AllDisks.{ReadsAs}
 use Rattle.mob_flusher.specs.Map.{Kept}
 use Rattle.page_store.specs.Store.{Store}
 use Rattle.repo_opening.specs.Paged.{PutsPaged}
-use Rattle.std.proofs.Common.{List, ap, arith, subst, ◌∙◌, ◌≡◌, ℕ}
+use Rattle.std.proofs.Common.{List, ap, arith, subst, sym, ◌∙◌, ◌≡◌, ℕ}
 use Rattle.repo_opening.proofs.repository.read_repository.Goals as goal
 
 pub returns-clause-found : goal.returns-clause-found
 returns-clause-found g c =
     let r = c.in-Some.recovered in
     let known : IsRecovered (g.P.Parts.disks c.recover_one.new.parts) r = rw c.in-Some.is at c.in_ok-recovered.ensures.found in
-    rw sym c.in_ok-read.ensures.read (recovered_on (g.P.Parts.disks c.recover_one.new.parts) (g.P.Parts.disks c.read_pages.new.parts) r c.read_pages.ensures.stays known)
+    let stays : IsRecovered (g.P.Parts.disks c.read_pages.new.parts) r = recovered_on (g.P.Parts.disks c.recover_one.new.parts) (g.P.Parts.disks c.read_pages.new.parts) r c.read_pages.ensures.stays known in
+    subst (λ (x : Recovered). IsRecovered (g.P.Parts.disks c.read_pages.new.parts) x) (sym (ap (λ (p : Recovered × ℕ). p.0) c.in_ok-read.ensures.read)) stays
+
+pub returns-clause-same : goal.returns-clause-same
+returns-clause-same g c =
+    same_then (g.P.Parts.disks c.args.parts.now) (g.P.Parts.disks c.sync.new.parts) (g.P.Parts.disks c.read_pages.new.parts) c.sync.ensures.same
+    (same_then (g.P.Parts.disks c.sync.new.parts) (g.P.Parts.disks c.recover_one.new.parts) (g.P.Parts.disks c.read_pages.new.parts) c.recover_one.ensures.same
+    (same_on (g.P.Parts.disks c.recover_one.new.parts) (g.P.Parts.disks c.read_pages.new.parts) c.read_pages.ensures.stays))
 
 pub returns-clause-stored : goal.returns-clause-stored
 returns-clause-stored g c = λ images reads.
