@@ -9,6 +9,7 @@ use thor_value::Ts;
 
 /// The repositories of a run, lent to one client. Each call is one event of one of them. One that isn't there is taken as one
 /// that is down.
+#[derive(Drop)]
 pub struct LentSites<P: Parts, O: Opening> {
     client: u8,
     sites: Vec<Site<P, O>>,
@@ -22,13 +23,6 @@ impl<P: Parts, O: Opening> Model for LentSites<P, O> {
     ghost view = { λ l. record { client = l.client; sites = l.sites.items } };
 
     ghost invariant = { λ l. AreInPlace l.sites.items };
-}
-
-impl<P: Parts, O: Opening> Drop for LentSites<P, O> {
-    fn drop(self) {
-        let LentSites { sites, .. } = self;
-        drop(sites);
-    }
 }
 
 impl<P: Parts, O: Opening> LentSites<P, O> {

@@ -17,6 +17,7 @@ use std::marker::{Model, PhantomData};
 ///
 /// A request, a decision, a verdict or a place that no rightful client sends takes it down, and the answer is `NoMemory`; a
 /// request only where nothing else stands against it.
+#[derive(Drop)]
 pub struct Site<P: Parts, O: Opening> {
     pub(crate) repo: Repo<P>,
     /// Its number.
@@ -34,13 +35,6 @@ impl<P: Parts, O: Opening> Model for Site<P, O> {
     ghost view = { λ s. record { number = s.number; shown = s.repo } };
 
     ghost invariant = { λ s. StandsIn O.run s.number s.repos s.repo };
-}
-
-impl<P: Parts, O: Opening> Drop for Site<P, O> {
-    fn drop(self) {
-        let Site { repo, .. } = self;
-        drop(repo);
-    }
 }
 
 impl<P: Parts, O: Opening> Site<P, O> {
