@@ -13,7 +13,7 @@ use Rattle.repo_refusals.specs.declared.refusal.Refusal.{Refusal}
 use Rattle.repo_site.proofs.Leaving.{calm, may_leave}
 use Rattle.repo_site.specs.Run.{Run}
 use Rattle.repo_site.specs.Sited.{Happens, Sited}
-use Rattle.repo_site.specs.Working.{IfUp, SiteDoes}
+use Rattle.repo_site.specs.Working.{IfUp, SiteShows}
 use Rattle.spec_history.specs.History.{Base}
 use Rattle.spec_trace.specs.Gaps.{maker}
 use Rattle.spec_trace.specs.Trace.{E, Item}
@@ -165,14 +165,14 @@ module _ (run : Run) (c : ℕ) (sites : List Sited) (r : ℕ) (old new : Sited) 
           (subst (λ (n : ℕ). work (run.base n) (trace_of old.shown.trace) (trace_of new.shown.trace) (left_of new)) placed h));
     }
 
-    pub lent : SiteDoes run c old new result work → Does was now r result work
+    pub lent : SiteShows run c old new result work → Does was now r result work
     lent h = by old.shown.is_up refl h
 
 -- ---- a place of the list
 
 -- one of the list at a place
 pub lent_at : {X : Type 0} (run : Run) (c : ℕ) (sites : List Sited) (r i n : ℕ) (old new : Sited) → AreInPlace sites → Happens run old new → i ≡ r → n ≡ length sites → i < n → old ≡ get_or sites i old → (result : Result X Refusal) (work : Base → List Item → List Item → Unsettled → Type 0)
-    → SiteDoes run c old new result work → Does (view_of run c sites) (view_of run c (slice_set sites i new)) r result work
+    → SiteShows run c old new result work → Does (view_of run c sites) (view_of run c (slice_set sites i new)) r result work
 lent_at run c sites r i n old new a happens place count within found result work h =
     let there : slice_get sites i ≡ Some old = slice_get_read sites n i old count within found in
     let here : slice_get sites r ≡ Some old = ap (slice_get sites) (sym place) ∙ there in

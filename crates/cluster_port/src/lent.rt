@@ -50,9 +50,9 @@ impl<P: Parts, O: Opening> LentSites<P, O> {
 
 impl<P: Parts, O: Opening> Port for LentSites<P, O> {
     ghost use Rattle.cluster_port.specs.Lent.{view_of};
-    ghost use Rattle.std.specs.Prelude.{true};
 
-    ghost shows = { true };
+    // Where each repository has a base.
+    ghost shows = { O.run.based };
 
     ghost view = { λ p. view_of O.run p.client p.sites };
 

@@ -24,18 +24,18 @@ module _ (run : Run) (number repos : ℕ) (x y : Shown) (k : StandsIn run number
   -- ---- what happened
 
   pub happened : RunsBy (HasRepos repos) x y → Happens run (sited number x) (sited number y)
-  happened r = record { number = refl; run = r.runs (run.base number) (number, k.base) k.right }
+  happened r = record { number = refl; run = λ based. r.runs (run.base number) (number, k.base based) (k.right based) }
 
   pub happened_any : RunsBy AnyBase x y → Happens run (sited number x) (sited number y)
-  happened_any r = record { number = refl; run = r.runs (run.base number) tt k.right }
+  happened_any r = record { number = refl; run = λ based. r.runs (run.base number) tt (k.right based) }
 
   -- ---- how it stands
 
   pub stays : RunsBy (HasRepos repos) x y → StandsIn run number repos y
-  stays r = record { base = k.base; right = stands_on (run.base number) x y k.right (r.runs (run.base number) (number, k.base) k.right) }
+  stays r = record { base = k.base; right = λ based. stands_on (run.base number) x y (k.right based) (r.runs (run.base number) (number, k.base based) (k.right based)) }
 
   pub stays_any : RunsBy AnyBase x y → StandsIn run number repos y
-  stays_any r = record { base = k.base; right = stands_on (run.base number) x y k.right (r.runs (run.base number) tt k.right) }
+  stays_any r = record { base = k.base; right = λ based. stands_on (run.base number) x y (k.right based) (r.runs (run.base number) tt (k.right based)) }
 
   -- ---- what it shows
 
@@ -47,15 +47,15 @@ module _ (run : Run) (number repos : ℕ) (x y : Shown) (k : StandsIn run number
       never n = cc
 
   pub shown : {X : Type 0} (c : ℕ) (result : Result X Refusal) (W : Base → List Item → List Item → Unsettled → Type 0) → x.is_up ≡ true → WorksBy (HasRepos repos) x y W → SiteDoes run c (sited number x) (sited number y) result W
-  shown c result W up w = if_up x.is_up _ _ up (w.works (run.base number) (unsettled_of (run.base number) c (trace_of y.trace) (phase y)) (number, k.base) k.right (may_leave (run.base number) c (trace_of y.trace) (phase y)))
+  shown c result W up w = λ based. if_up x.is_up _ _ up (w.works (run.base number) (unsettled_of (run.base number) c (trace_of y.trace) (phase y)) (number, k.base based) (k.right based) (may_leave (run.base number) c (trace_of y.trace) (phase y)))
 
   pub shown_any : {X : Type 0} (c : ℕ) (result : Result X Refusal) (W : Base → List Item → List Item → Unsettled → Type 0) → x.is_up ≡ true → WorksBy AnyBase x y W → SiteDoes run c (sited number x) (sited number y) result W
-  shown_any c result W up w = if_up x.is_up _ _ up (w.works (run.base number) (unsettled_of (run.base number) c (trace_of y.trace) (phase y)) tt k.right (may_leave (run.base number) c (trace_of y.trace) (phase y)))
+  shown_any c result W up w = λ based. if_up x.is_up _ _ up (w.works (run.base number) (unsettled_of (run.base number) c (trace_of y.trace) (phase y)) tt (k.right based) (may_leave (run.base number) c (trace_of y.trace) (phase y)))
 
 -- ---- one that is down
 
 pub still : (run : Run) (number : ℕ) (x : Shown) → Happens run (sited number x) (sited number x)
-still run number x = record { number = refl; run = runs_same (run.base number) x x refl }
+still run number x = record { number = refl; run = λ based. runs_same (run.base number) x x refl }
 
 if_down : (t : Bool) (U D : Type 0) → t ≡ false → D → IfUp t U D
 if_down false U D e d = d
@@ -65,4 +65,4 @@ if_down true U D e d = absurd (never e)
     never n = cc
 
 pub shown_down : {X : Type 0} (run : Run) (c number : ℕ) (x : Shown) (W : Base → List Item → List Item → Unsettled → Type 0) → x.is_up ≡ false → SiteDoes {X = X} run c (sited number x) (sited number x) (Err (refused.Down number)) W
-shown_down run c number x W down = if_down x.is_up _ _ down (refl, refl)
+shown_down run c number x W down = λ based. if_down x.is_up _ _ down (refl, refl)

@@ -25,15 +25,15 @@ use Rattle.two_phase.specs.Contents.{keeps}
 -- ---- behind an event
 
 pub stays : (run : Run) (number repos : ℕ) (x y : Shown) → StandsIn run number repos x → Happens run (record { number = number; shown = x }) (record { number = number; shown = y }) → StandsIn run number repos y
-stays run number repos x y k h = record { base = k.base; right = stands_on (run.base number) x y k.right h.run }
+stays run number repos x y k h = record { base = k.base; right = λ based. stands_on (run.base number) x y (k.right based) (h.run based) }
 
 -- ---- what it says
 
-pub is_sound : (run : Run) (number repos : ℕ) (x : Shown) → StandsIn run number repos x → sound (run.base number) x.trace.history
-is_sound run number repos x k = k.right.right.recorded.sound
+pub is_sound : (run : Run) (number repos : ℕ) (x : Shown) → StandsIn run number repos x → run.based ≡ true → sound (run.base number) x.trace.history
+is_sound run number repos x k based = (k.right based).right.recorded.sound
 
-pub is_exact : (run : Run) (number repos : ℕ) (x : Shown) → StandsIn run number repos x → exact (run.base number) (trace_of x.trace)
-is_exact run number repos x k = k.right.right.recorded.exact
+pub is_exact : (run : Run) (number repos : ℕ) (x : Shown) → StandsIn run number repos x → run.based ≡ true → exact (run.base number) (trace_of x.trace)
+is_exact run number repos x k based = (k.right based).right.recorded.exact
 
 pub same_number : (b : Base) (x : Shown) → StandsRight b x → x.is_up ≡ true → x.held.repo ≡ b.repo
 same_number b x k up = (agreement b x k up).held.repo

@@ -1,6 +1,6 @@
 -- What was opened, which no event of a run changes.
 use Rattle.spec_history.specs.History.{Base}
-use Rattle.std.specs.Prelude.{None, [], false, ℕ}
+use Rattle.std.specs.Prelude.{Bool, None, [], false, ℕ}
 use Rattle.thor_value.specs.FiniteMap.{empty}
 
 pub record Run : Type 0 where
@@ -8,6 +8,8 @@ pub record Run : Type 0 where
   pub repos : ℕ
   -- with what each of them began
   pub base : ℕ → Base
+  -- whether each of them has begun so: no opening has found transactions of other coordinators prepared
+  pub based : Bool
 
 -- a run that nobody has opened
 abbrev pub no_base : Base
@@ -29,4 +31,4 @@ no_base = record {
 }
 
 abbrev pub no_run : Run
-no_run = record { repos = 0; base = λ r. no_base }
+no_run = record { repos = 0; base = λ r. no_base; based = false }

@@ -3,7 +3,7 @@ use Rattle.law_repo_calls.specs.Seen.{IsRun, StandsRight}
 use Rattle.repo_core.specs.Shown.{Shown}
 use Rattle.repo_site.specs.Run.{Run}
 use Rattle.spec_history.specs.History.{Base}
-use Rattle.std.specs.Prelude.{None, ℕ, ◌≡◌}
+use Rattle.std.specs.Prelude.{None, true, ℕ, ◌≡◌}
 use Rattle.thor_value.specs.FiniteMap.{get}
 use Rattle.thor_value.specs.declared.names.Ts.{Ts}
 
@@ -19,12 +19,12 @@ pub record IsBaseOf (b : Base) (number repos : ℕ) : Type 0 where
   pub repos : b.repos ≡ repos
   pub left : (t : Ts) → get b.left t ≡ None
 
--- The repository of this number stands right by the base with which it began.
+-- The repository of this number stands right by the base with which it began, where each has one.
 pub record StandsIn (run : Run) (number repos : ℕ) (x : Shown) : Type 0 where
-  pub base : IsBaseOf (run.base number) number repos
-  pub right : StandsRight (run.base number) x
+  pub base : run.based ≡ true → IsBaseOf (run.base number) number repos
+  pub right : run.based ≡ true → StandsRight (run.base number) x
 
 -- What a call does on the repository of a run is a run of events, of none, one or two. Nothing is asked of the caller.
 pub record Happens (run : Run) (old new : Sited) : Type 0 where
   pub number : new.number ≡ old.number
-  pub run : IsRun (run.base old.number) old.shown new.shown
+  pub run : run.based ≡ true → IsRun (run.base old.number) old.shown new.shown

@@ -49,8 +49,12 @@ IfUp true up down = up
 IfUp false up down = down
 
 -- A call of the client c: where the repository is down it answers Down and stays as it is, else it does its work on the trace.
-abbrev pub SiteDoes : {X : Type 0} → Run → ℕ → Sited → Sited → Result X Refusal → (Base → List Item → List Item → Unsettled → Type 0) → Type 0
-SiteDoes run c old new result work =
+abbrev pub SiteShows : {X : Type 0} → Run → ℕ → Sited → Sited → Result X Refusal → (Base → List Item → List Item → Unsettled → Type 0) → Type 0
+SiteShows run c old new result work =
     IfUp old.shown.is_up
     (work (run.base old.number) (trace_of old.shown.trace) (trace_of new.shown.trace) (unsettled_of (run.base old.number) c (trace_of new.shown.trace) (phase new.shown)))
     (IsDown old.number result × (new ≡ old))
+
+-- The same, where each repository of the run has a base.
+abbrev pub SiteDoes : {X : Type 0} → Run → ℕ → Sited → Sited → Result X Refusal → (Base → List Item → List Item → Unsettled → Type 0) → Type 0
+SiteDoes run c old new result work = run.based ≡ true → SiteShows run c old new result work

@@ -42,6 +42,6 @@ pub fn forgotten_was_kept()
 pub fn sites_stay_right()
     ensures right { (run : Run) (number repos : ℕ) (x y : Shown) → StandsIn run number repos x →
         Happens run (record { number = number; shown = x }) (record { number = number; shown = y }) → StandsIn run number repos y }
-    ensures sound { (run : Run) (number repos : ℕ) (x : Shown) → StandsIn run number repos x → sound (run.base number) x.trace.history }
-    ensures exact { (run : Run) (number repos : ℕ) (x : Shown) → StandsIn run number repos x → exact (run.base number) (trace_of x.trace) }
+    ensures sound { (run : Run) (number repos : ℕ) (x : Shown) → StandsIn run number repos x → run.based ≡ true → sound (run.base number) x.trace.history }
+    ensures exact { (run : Run) (number repos : ℕ) (x : Shown) → StandsIn run number repos x → run.based ≡ true → exact (run.base number) (trace_of x.trace) }
 {}

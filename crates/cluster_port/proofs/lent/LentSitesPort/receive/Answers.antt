@@ -7,7 +7,7 @@ use Rattle.cluster_port.proofs.lent.LentSitesPort.receive.Goals as goal
 
 pub returns-in-Some : goal.returns-in-Some
 returns-in-Some g c = record {
-  call = λ _. lent_at g.O.Opening.run c.args.self.now.client c.args.self.now.sites c.args.at.repo c.from.result _ c.in-Some.site.now c.receive.new.self c.self.invariant c.receive.ensures.happens c.from.ensures (omega (arith)) (c.in-Some.ensures.variant.0 refl) c.in-Some.ensures.value c.receive.result (ReceiveWork c.args.at.session c.receive.result) (c.receive.ensures.shows c.args.self.now.client);
+  call = λ based. lent_at g.O.Opening.run c.args.self.now.client c.args.self.now.sites c.args.at.repo c.from.result _ c.in-Some.site.now c.receive.new.self c.self.invariant c.receive.ensures.happens c.from.ensures (omega (arith)) (c.in-Some.ensures.variant.0 refl) c.in-Some.ensures.value c.receive.result (ReceiveWork c.args.at.session c.receive.result) (c.receive.ensures.shows c.args.self.now.client based);
 }
 
 pub returns-in-None : goal.returns-in-None
