@@ -1,4 +1,5 @@
 -- What a call on a repository of a run does, as a client sees it.
+use Rattle.client_port.specs.Growing.{Grew}
 use Rattle.client_port.specs.Views.{Calm, Halted, MayCome, Unsettled}
 use Rattle.client_port.specs.Works.{IsDown, IsHalted}
 use Rattle.law_client_views.specs.Standing.{unsettled_of}
@@ -38,6 +39,10 @@ pub record RunsBy (Q : Base → Type 0) (x y : Shown) : Type 0 where
 pub record WorksBy (Q : Base → Type 0) (x y : Shown) (work : Base → List Item → List Item → Unsettled → Type 0) : Type 0 where
   pub works : (b : Base) (u : Unsettled) → Q b → StandsRight b x → MayLeave (phase y) u → work b (trace_of x.trace) (trace_of y.trace) u
 
+-- It is no client's, and is growth for each.
+pub record GrowsBy (x y : Shown) : Type 0 where
+  pub grows : (b : Base) (c : ℕ) → StandsRight b x → Grew b c (unsettled_of b c (trace_of x.trace) (phase x)) (trace_of x.trace) (unsettled_of b c (trace_of y.trace) (phase y)) (trace_of y.trace)
+
 -- Nothing was done, and the repository is down.
 pub record Halts (x y : Shown) : Type 0 where
   pub halts : (u : Unsettled) → MayLeave (phase y) u → IsHalted (trace_of x.trace) (trace_of y.trace) u
@@ -58,3 +63,9 @@ SiteShows run c old new result work =
 -- The same, where each repository of the run has a base.
 abbrev pub SiteDoes : {X : Type 0} → Run → ℕ → Sited → Sited → Result X Refusal → (Base → List Item → List Item → Unsettled → Type 0) → Type 0
 SiteDoes run c old new result work = run.based ≡ true → SiteShows run c old new result work
+
+-- An event that is no client's is growth for the client c, where each repository of the run has a base.
+abbrev pub SiteGrows : Run → ℕ → Sited → Sited → Type 0
+SiteGrows run c old new =
+    run.based ≡ true →
+    Grew (run.base old.number) c (unsettled_of (run.base old.number) c (trace_of old.shown.trace) (phase old.shown)) (trace_of old.shown.trace) (unsettled_of (run.base old.number) c (trace_of new.shown.trace) (phase new.shown)) (trace_of new.shown.trace)

@@ -1,6 +1,8 @@
 //! The events of a repository of a run that are no client's.
 
 ghost use Rattle.repo_site.specs.Sited.{Happens};
+ghost use Rattle.repo_site.specs.Working.{SiteGrows};
+ghost use Rattle.std.specs.Prelude.{ℕ};
 
 use crate::happening;
 use crate::opening::Opening;
@@ -11,41 +13,46 @@ use repo_refusals::Refusal;
 
 impl<P: Parts, O: Opening> Site<P, O> {
     /// Flushes the oldest buffered page.
-    #[tactic(auto, using(crate::proofs::Sites::happened_any, crate::proofs::Sites::stays_any))]
+    #[tactic(auto, using(crate::proofs::Sites::happened_any, crate::proofs::Sites::stays_any, crate::proofs::Growing::grown))]
     pub fn flush(&mut self) -> Result<Flushed, Refusal>
         ensures happens { Happens O.run self.old self.new }
+        ensures grows { (c : ℕ) → SiteGrows O.run c self.old self.new }
     {
         happening::flush(&mut self.repo)
     }
 
     /// Makes a checkpoint.
-    #[tactic(auto, using(crate::proofs::Sites::happened_any, crate::proofs::Sites::stays_any))]
+    #[tactic(auto, using(crate::proofs::Sites::happened_any, crate::proofs::Sites::stays_any, crate::proofs::Growing::grown))]
     pub fn checkpoint(&mut self) -> Result<(), Refusal>
         ensures happens { Happens O.run self.old self.new }
+        ensures grows { (c : ℕ) → SiteGrows O.run c self.old self.new }
     {
         happening::checkpoint(&mut self.repo)
     }
 
     /// Takes it down behind so many disk calls.
-    #[tactic(auto, using(crate::proofs::Sites::happened_any, crate::proofs::Sites::stays_any))]
+    #[tactic(auto, using(crate::proofs::Sites::happened_any, crate::proofs::Sites::stays_any, crate::proofs::Growing::grown))]
     pub fn stop_after(&mut self, calls: u32)
         ensures happens { Happens O.run self.old self.new }
+        ensures grows { (c : ℕ) → SiteGrows O.run c self.old self.new }
     {
         happening::stop_after(&mut self.repo, calls);
     }
 
     /// Takes back a stop that hasn't fallen.
-    #[tactic(auto, using(crate::proofs::Sites::happened_any, crate::proofs::Sites::stays_any))]
+    #[tactic(auto, using(crate::proofs::Sites::happened_any, crate::proofs::Sites::stays_any, crate::proofs::Growing::grown))]
     pub fn disarm(&mut self)
         ensures happens { Happens O.run self.old self.new }
+        ensures grows { (c : ℕ) → SiteGrows O.run c self.old self.new }
     {
         happening::disarm(&mut self.repo);
     }
 
     /// Restarts it, with the images of its disks that a pick chooses.
-    #[tactic(auto, using(crate::proofs::Sites::happened_any, crate::proofs::Sites::stays_any))]
+    #[tactic(auto, using(crate::proofs::Sites::happened_any, crate::proofs::Sites::stays_any, crate::proofs::Growing::grown))]
     pub fn restart(&mut self, pick: u64) -> Result<(), Refusal>
         ensures happens { Happens O.run self.old self.new }
+        ensures grows { (c : ℕ) → SiteGrows O.run c self.old self.new }
     {
         happening::restart(&mut self.repo, pick)
     }

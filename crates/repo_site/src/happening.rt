@@ -1,6 +1,7 @@
-//! Events that are no client's: each is a run of events of `law_repo_runs`.
+//! Events that are no client's: each is a run of events of `law_repo_runs`, and growth for
+//! each client.
 
-ghost use Rattle.repo_site.specs.Working.{AnyBase, RunsBy};
+ghost use Rattle.repo_site.specs.Working.{AnyBase, GrowsBy, RunsBy};
 
 use disk_trait::Parts;
 use mob_flusher::Flushed;
@@ -10,6 +11,7 @@ use repo_refusals::Refusal;
 /// A page is flushed.
 pub(crate) fn flush<P: Parts>(repo: &mut Repo<P>) -> Result<Flushed, Refusal>
     ensures runs { RunsBy AnyBase repo.old repo.new }
+    ensures grows { GrowsBy repo.old repo.new }
 {
     repo.flush()
 }
@@ -17,6 +19,7 @@ pub(crate) fn flush<P: Parts>(repo: &mut Repo<P>) -> Result<Flushed, Refusal>
 /// A checkpoint is made.
 pub(crate) fn checkpoint<P: Parts>(repo: &mut Repo<P>) -> Result<(), Refusal>
     ensures runs { RunsBy AnyBase repo.old repo.new }
+    ensures grows { GrowsBy repo.old repo.new }
 {
     repo.checkpoint()
 }
@@ -24,6 +27,7 @@ pub(crate) fn checkpoint<P: Parts>(repo: &mut Repo<P>) -> Result<(), Refusal>
 /// A stop is armed, or falls at once.
 pub(crate) fn stop_after<P: Parts>(repo: &mut Repo<P>, calls: u32)
     ensures runs { RunsBy AnyBase repo.old repo.new }
+    ensures grows { GrowsBy repo.old repo.new }
 {
     repo.stop_after(calls);
 }
@@ -31,6 +35,7 @@ pub(crate) fn stop_after<P: Parts>(repo: &mut Repo<P>, calls: u32)
 /// A stop that hasn't fallen is taken back.
 pub(crate) fn disarm<P: Parts>(repo: &mut Repo<P>)
     ensures runs { RunsBy AnyBase repo.old repo.new }
+    ensures grows { GrowsBy repo.old repo.new }
 {
     repo.disarm();
 }
@@ -38,6 +43,7 @@ pub(crate) fn disarm<P: Parts>(repo: &mut Repo<P>)
 /// It is restarted, and comes up or stays down.
 pub(crate) fn restart<P: Parts>(repo: &mut Repo<P>, pick: u64) -> Result<(), Refusal>
     ensures runs { RunsBy AnyBase repo.old repo.new }
+    ensures grows { GrowsBy repo.old repo.new }
 {
     repo.restart(pick)
 }
