@@ -14,7 +14,7 @@ use simulation_setup::{Begun, Store, empty_disks, open_store, plan_of, read_disk
 use std::alloc::Global;
 use std::mem;
 use thor_value::{NoMemory, TryCopy, both};
-use top_reply::{Form, Reply, report};
+use top_reply::{Form, Reply, Running, report};
 
 /// How many clients a script has.
 fn client_count(begun: &Begun) -> u8 {
@@ -133,6 +133,7 @@ pub(crate) fn play(
     drop(traces);
     let replied = report(
         alloc,
+        Running::InTurn,
         Form::Report,
         &begun.schemas,
         store,
