@@ -23,7 +23,7 @@ use Rattle.repo_durable.specs.Kept.{is_fault}
 use Rattle.repo_refusals.specs.declared.refusal.Refusal.{Refusal}
 use Rattle.repo_sessions.specs.Sessions.{ended}
 use Rattle.repo_site.specs.Run.{Run}
-use Rattle.repo_site.specs.Sited.{StandsIn}
+use Rattle.repo_site.specs.Sited.{Sited, StandsIn}
 use Rattle.repo_site.specs.Working.{GrowsBy, SiteGrows}
 use Rattle.repo_site.proofs.Sites.{sited}
 use Rattle.repo_volatile.proofs.Lasting.{lasts_itself}
@@ -155,5 +155,5 @@ module _ (b : Base) (c : ℕ) (x y : Shown) where
 
 -- ---- on the repository of a run
 
-pub grown : (run : Run) (c number repos : ℕ) (x y : Shown) → StandsIn run number repos x → GrowsBy x y → SiteGrows run c (sited number x) (sited number y)
-grown run c number repos x y k g = λ based. g.grows (run.base number) c (k.right based)
+pub grown : (run : Run) (number repos : ℕ) (x y : Shown) (s : Sited) → StandsIn run number repos x → sited number x ≡ s → GrowsBy x y → (c : ℕ) → SiteGrows run c s (sited number y)
+grown run number repos x y s k is g = λ c. subst (λ (t : Sited). SiteGrows run c t (sited number y)) is (λ based. g.grows (run.base number) c (k.right based))
