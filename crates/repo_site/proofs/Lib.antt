@@ -2,6 +2,7 @@ pub mod Counting
 pub mod Failing
 pub mod Growing
 pub mod Leaving
+pub mod Opened
 pub mod RequestWorks
 pub mod Sending
 pub mod SessionWorks

@@ -1,7 +1,10 @@
 -- A repository of a run, and how it stands there.
+use Rattle.class_defs.specs.declared.store.Setup.{Setup}
 use Rattle.law_repo_calls.specs.Seen.{IsRun, StandsRight}
+use Rattle.law_repo_calls.specs.Vouching.{IsBase, IsNewBase}
 use Rattle.repo_core.specs.Shown.{Shown}
 use Rattle.repo_site.specs.Run.{Run}
+use Rattle.repo_state.specs.declared.held.Held.{Held}
 use Rattle.spec_history.specs.History.{Base}
 use Rattle.std.specs.Prelude.{None, true, ℕ, ◌≡◌}
 use Rattle.thor_value.specs.FiniteMap.{get}
@@ -23,6 +26,16 @@ pub record IsBaseOf (b : Base) (number repos : ℕ) : Type 0 where
 pub record StandsIn (run : Run) (number repos : ℕ) (x : Shown) : Type 0 where
   pub base : run.based ≡ true → IsBaseOf (run.base number) number repos
   pub right : run.based ≡ true → StandsRight (run.base number) x
+
+-- What was recovered of the repository of this number, of so many, says what the base says, where each has one.
+pub record BeginsAs (run : Run) (number repos : ℕ) (h : Held) : Type 0 where
+  pub base : run.based ≡ true → IsBaseOf (run.base number) number repos
+  pub begins : run.based ≡ true → IsBase (run.base number) h
+
+-- The base is that of a new store, where each has one.
+pub record BeginsNew (run : Run) (number repos : ℕ) (setup : Setup) (mob : ℕ) : Type 0 where
+  pub base : run.based ≡ true → IsBaseOf (run.base number) number repos
+  pub begins : run.based ≡ true → IsNewBase number setup mob (run.base number)
 
 -- What a call does on the repository of a run is a run of events, of none, one or two. Nothing is asked of the caller.
 pub record Happens (run : Run) (old new : Sited) : Type 0 where

@@ -3,6 +3,7 @@
 //! Each event of it is a run of the events of which `law_repo_runs` has laws, whoever calls it and whatever is answered.
 #![tactic(auto)]
 
+mod beginning;
 mod calls;
 mod clients;
 mod events;
