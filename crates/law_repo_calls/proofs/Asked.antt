@@ -1,5 +1,4 @@
 -- Calls that make an entry of a request, and calls that are refused.
-use Rattle.log_entries.specs.RequestForm.{NamesRise}
 use Rattle.log_entries.specs.declared.entry.Entry.TheVariants.{Decided, Finished, Life, One, Prepared, Upgraded}
 use Rattle.log_entries.specs.declared.entry.Entry.{Entry}
 use Rattle.log_entries.specs.declared.request.Kind.TheVariants.{App, Transform, Upgrade}
@@ -15,7 +14,7 @@ use Rattle.repo_core.specs.Shown.{Shown}
 use Rattle.repo_core.specs.Telling as core
 use Rattle.repo_core.specs.Telling.{next_epoch}
 use Rattle.law_repo_calls.proofs.Phases.{up_phase, whole_up}
-use Rattle.law_repo_calls.proofs.Requests.{may_alone, may_share, refused_so, was_making, was_refused}
+use Rattle.law_repo_calls.proofs.Requests.{may_alone, may_share, was_making, was_refused}
 use Rattle.law_repo_calls.proofs.Stepping.{LimitStays, runs_answered, runs_down, runs_one}
 use Rattle.law_repo_calls.specs.Seen.{IsRun, StandsRight, seen}
 use Rattle.law_repo_calls.specs.Vouching.{IsCounted, IsSent}
@@ -25,14 +24,12 @@ use Rattle.law_repo_runs.specs.Restarting.{Makes}
 use Rattle.repo_durable.specs.Kept.{is_fault}
 use Rattle.std.proofs.Common.{Bool, Err, Ok, OnOk, Result, ap, arith, cond, false, length, refl, subst, true, ℕ, ◌+◌, ◌-◌, ◌<◌, ◌^◌, ◌∙◌, ◌≡◌, ◌≤◌}
 use Rattle.std.proofs.Math.Nat.{min-eq_left}
-use Rattle.std.specs.Map.{keys_of}
 use Rattle.std.specs.Prelude.{IfErr, None, Some, min}
 use Rattle.repo_trace.specs.Recorded.{with_entry}
 use Rattle.repo_refusals.specs.declared.refusal.Refusal.{Refusal}
 use Rattle.two_phase.specs.Contents.{open_at}
 use Rattle.repo_volatile.specs.Telling.{CommitTold, TellsDecided}
 use Rattle.repo_volatile.specs.Volatile.{Memory, entered}
-use Rattle.validation_queue.specs.Names.{IsInOrder}
 
 -- ---- what sessions are told
 
@@ -152,16 +149,6 @@ pub request_runs : (b : Base) (x y : Shown) (s : ℕ) (q : Request) (e : Entry) 
     → IfErr result (Leaves x y (made_of (judged x.held x.memory s q) e)) → y.opened_in ≡ x.opened_in → IsRun b x y
 request_runs b x y s q e (Ok place) found counted stands none why held limit memory tells trace refused left o = request_made b x y s q e found counted stands none held limit memory tells trace o
 request_runs b x y s q e (Err r) found counted stands none why held limit memory tells trace refused left o = request_refused b x y s q e r found stands why left refused o
-
--- a request is refused that its sender can't vouch for
-pub reject_runs : (b : Base) (x y : Shown) (s : ℕ) (q : Request) (result : Result ℕ Refusal) → StandsRight b x → q.session ≡ s → IsCounted x → IsInOrder q.ros (keys_of q.writes) → NamesRise (keys_of q.writes) → OnOk result ⊥ → Stands x.is_up result y.is_up
-    → IfErr result (λ r. is_marked r ≡ true → (x.is_up ≡ true) × (judged x.held x.memory s q ≡ Some r)) → IfErr result (λ r. y.trace ≡ with_refusal x.trace s (Some q) r) → IfErr result (Leaves x y None) → y.opened_in ≡ x.opened_in → IsRun b x y
-reject_runs b x y s q (Ok place) k own counted in_order rises never u why t left o = absurd never
-reject_runs b x y s q (Err r) k own counted in_order rises never u why t left o = by x.is_up refl
-  where
-    by : (a : Bool) → x.is_up ≡ a → IsRun b x y
-    by true up = runs_answered b x y s (Some q) None r u left t tt (λ m. (up, refused_so b x k up s q own counted in_order rises r (why m).1)) o
-    by false down = runs_down b x y s (Some q) None r u left t (λ m. (why m).0) down o
 
 -- ---- a request that is prepared
 

@@ -18,7 +18,7 @@ use Rattle.repo_core.specs.Refusing.{made_of}
 use Rattle.repo_core.specs.Shown.{Shown}
 use Rattle.law_repo_calls.proofs.Phases.{agreement, limit_up}
 use Rattle.law_repo_calls.specs.Seen.{StandsRight, seen}
-use Rattle.law_repo_calls.specs.Vouching.{IsCounted, IsSent}
+use Rattle.law_repo_calls.specs.Vouching.{IsSent}
 use Rattle.law_repo_memory.proofs.Judging.{epoch-fits}
 use Rattle.law_repo_memory.specs.Agreeing.{state_of, trace_of}
 use Rattle.spec_trace.specs.Session.{session}
@@ -41,7 +41,6 @@ use Rattle.base_reasons.specs.declared.reason.Reason.TheVariants as reasons
 use Rattle.repo_refusals.specs.declared.refusal.Refusal.TheVariants as refused
 use Rattle.repo_refusals.specs.declared.refusal.Refusal.{Refusal}
 use Rattle.repo_volatile.specs.Volatile.{verdict}
-use Rattle.validation_queue.specs.Names.{IsInOrder}
 
 -- ---- what a request writes
 
@@ -98,28 +97,16 @@ alone_here b q none takes = (none, by (nat_eq q.tx.repo b.repo) refl (subst (λ 
         never : false ≡ true → ⊥
         never e = cc
 
-module _ (b : Base) (x : Shown) (k : StandsRight b x) (up : x.is_up ≡ true) (s : ℕ) (q : Request) (own : q.session ≡ s) (counted : IsCounted x) where
+module _ (b : Base) (x : Shown) (k : StandsRight b x) (up : x.is_up ≡ true) (s : ℕ) (q : Request) (alone : Bool) (may : MayRequest x.held x.memory q alone) (sent : IsSent b x s q) where
   -- the epoch that is held is the history's
   epoch : epoch_of x.held ≡ history.epoch_of (state_of b x.trace)
-  epoch = epoch-fits b x.trace x.held x.memory (agreement b x k up) (omega (arith, counted))
+  epoch = epoch-fits b x.trace x.held x.memory (agreement b x k up) (omega (arith, sent.counted))
 
   by_history : (o : Option Refusal) → verdict x.memory (epoch_of x.held) s q ≡ o → verdict x.memory (history.epoch_of (state_of b x.trace)) q.session q ≡ o
   by_history o e =
       subst (λ (n : ℕ). verdict x.memory n q.session q ≡ o) epoch
-      (subst (λ (t : ℕ). verdict x.memory (epoch_of x.held) t q ≡ o) (sym own) e)
+      (subst (λ (t : ℕ). verdict x.memory (epoch_of x.held) t q ≡ o) (sym sent.own) e)
 
-  -- what stands against it is what refuses it
-  pub refused_so : IsInOrder q.ros (keys_of q.writes) → NamesRise (keys_of q.writes) → (r : Refusal) → judged x.held x.memory s q ≡ Some r → WasRefused b (seen x) s (Some q) r
-  refused_so in_order rises r e = (own, (in_order, why (either (verdict x.memory (epoch_of x.held) s q) (full_of x.held q) r e)))
-    where
-      why : (verdict x.memory (epoch_of x.held) s q ≡ Some r) ⊎ ((verdict x.memory (epoch_of x.held) s q ≡ None) × (full_of x.held q ≡ Some r))
-          → (verdict x.memory (history.epoch_of (state_of b x.trace)) q.session q ≡ Some r) ⊎ ((verdict x.memory (history.epoch_of (state_of b x.trace)) q.session q ≡ None) × (r ≡ refused.Reason (reasons.Full b.limit)) × (b.limit < bytes_of q))
-      why (inl first) = inl (by_history (Some r) first)
-      why (inr last) =
-          let full : (r ≡ refused.Reason (reasons.Full x.held.objects.mob.limit)) × (x.held.objects.mob.limit < buffer.bytes_of q.writes) = full_so x.held.objects.mob.limit (buffer.bytes_of q.writes) r (nat_lt x.held.objects.mob.limit (buffer.bytes_of q.writes)) refl last.1 in
-          inr (by_history None last.0, full.0 ∙ ap (λ t. refused.Reason (reasons.Full t)) (limit_up b x k up), subst (λ (n : ℕ). n < bytes_of q) (limit_up b x k up) (subst (λ (n : ℕ). x.held.objects.mob.limit < n) (sym (same_bytes q rises)) full.1))
-
-module _ (b : Base) (x : Shown) (k : StandsRight b x) (up : x.is_up ≡ true) (s : ℕ) (q : Request) (alone : Bool) (may : MayRequest x.held x.memory q alone) (sent : IsSent b x s q) where
   bytes : bytes_of q ≡ buffer.bytes_of q.writes
   bytes = same_bytes q may.form.written_rises
 
@@ -127,7 +114,7 @@ module _ (b : Base) (x : Shown) (k : StandsRight b x) (up : x.is_up ≡ true) (s
   is_made none = record {
     accepted = record {
       in_order = may.in_order;
-      verdict = by_history b x k up s q sent.own sent.counted None (none_of_first (verdict x.memory (epoch_of x.held) s q) (full_of x.held q) none);
+      verdict = by_history None (none_of_first (verdict x.memory (epoch_of x.held) s q) (full_of x.held q) none);
       fits = subst (λ (n : ℕ). n ≤ b.limit) (sym bytes) (subst (λ (n : ℕ). buffer.bytes_of q.writes ≤ n) (limit_up b x k up)
           (fits_so x.held.objects.mob.limit (buffer.bytes_of q.writes) (nat_lt x.held.objects.mob.limit (buffer.bytes_of q.writes)) refl (none_of_second (verdict x.memory (epoch_of x.held) s q) (full_of x.held q) none)));
       unknown = may.unknown;
@@ -140,7 +127,14 @@ module _ (b : Base) (x : Shown) (k : StandsRight b x) (up : x.is_up ≡ true) (s
   }
 
   pub was_refused : (r : Refusal) → judged x.held x.memory s q ≡ Some r → WasRefused b (seen x) s (Some q) r
-  was_refused = refused_so b x k up s q sent.own sent.counted may.in_order may.form.written_rises
+  was_refused r e = (sent.own, (may.in_order, why (either (verdict x.memory (epoch_of x.held) s q) (full_of x.held q) r e)))
+    where
+      why : (verdict x.memory (epoch_of x.held) s q ≡ Some r) ⊎ ((verdict x.memory (epoch_of x.held) s q ≡ None) × (full_of x.held q ≡ Some r))
+          → (verdict x.memory (history.epoch_of (state_of b x.trace)) q.session q ≡ Some r) ⊎ ((verdict x.memory (history.epoch_of (state_of b x.trace)) q.session q ≡ None) × (r ≡ refused.Reason (reasons.Full b.limit)) × (b.limit < bytes_of q))
+      why (inl first) = inl (by_history (Some r) first)
+      why (inr last) =
+          let full : (r ≡ refused.Reason (reasons.Full x.held.objects.mob.limit)) × (x.held.objects.mob.limit < buffer.bytes_of q.writes) = full_so x.held.objects.mob.limit (buffer.bytes_of q.writes) r (nat_lt x.held.objects.mob.limit (buffer.bytes_of q.writes)) refl last.1 in
+          inr (by_history None last.0, full.0 ∙ ap (λ t. refused.Reason (reasons.Full t)) (limit_up b x k up), subst (λ (n : ℕ). n < bytes_of q) (limit_up b x k up) (subst (λ (n : ℕ). x.held.objects.mob.limit < n) (sym bytes) full.1))
 
   -- ---- its entry
 

@@ -6,9 +6,6 @@ ghost use Rattle.disk_trait.specs.Fused.{fused_disks};
 ghost use Rattle.repo_state.specs.Keeps.{Keeps};
 ghost use Rattle.repo_state.specs.Said.{said};
 ghost use Rattle.spec_history.specs.History.{Base};
-ghost use Rattle.log_entries.specs.RequestForm.{IsWellFormed};
-ghost use Rattle.std.specs.Map.{keys_of};
-ghost use Rattle.validation_queue.specs.Names.{IsInOrder};
 ghost use Rattle.log_codec.specs.declared.state.State.{State as AState};
 ghost use Rattle.repo_core.specs.Calls.{MayRequest};
 ghost use Rattle.law_repo_calls.specs.Seen.{IsRun, SaysHistory, StandsRight};
@@ -116,15 +113,6 @@ pub fn commit_one<P: Parts>(
     ensures { (b : Base) → StandsRight b repo.old → IsSent b repo.old session request → IsRun b repo.old repo.new }
 {
     repo.commit_one(session, request)
-}
-
-/// A request is refused that its sender can't vouch for, or the repository goes down.
-pub fn reject<P: Parts>(repo: &mut Repo<P>, session: u32, request: Request) -> Result<u64, Refusal>
-    requires form { IsWellFormed request }
-    requires in_order { IsInOrder request.ros (keys_of request.writes) }
-    ensures { (b : Base) → StandsRight b repo.old → request.session ≡ session → IsCounted repo.old → IsRun b repo.old repo.new }
-{
-    repo.reject(session, request)
 }
 
 /// A coordinator decides: this repository is the one that the transaction's timestamp names.

@@ -9,6 +9,6 @@ mod laws;
 
 pub use calls::{
     ask, checkpoint, commit_one, connect, decide, disarm, draw, fetch, finish, flush, forget,
-    format, grant, open, parts, prepare, receive, reject, restart, stop_after,
+    format, grant, open, parts, prepare, receive, restart, stop_after,
 };
 pub use laws::calls_stay_right;

@@ -19,7 +19,6 @@ mod opening;
 mod prepare;
 mod receive;
 mod refusing;
-mod reject;
 mod repo;
 mod request_form;
 mod request_looks;

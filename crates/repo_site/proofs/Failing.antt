@@ -16,9 +16,9 @@ use Rattle.session_outbox.specs.declared.answers.Asked as answer
 use Rattle.session_outbox.specs.declared.answers.Verdict.{Verdict}
 use Rattle.session_outbox.specs.declared.answers.Welcome.{Welcome}
 use Rattle.spec_history.specs.History.{Base, is_undecided, known_by}
-use Rattle.spec_trace.specs.Trace.{Item, entries}
+use Rattle.spec_trace.specs.Trace.{entries}
 use Rattle.spec_trace.specs.Verdict.{verdict}
-use Rattle.std.proofs.Common.{Bool, Err, List, Option, Result, ap, false, subst, true, ℕ, ◌≡◌}
+use Rattle.std.proofs.Common.{Bool, Err, Option, Result, ap, false, subst, true, ℕ, ◌≡◌}
 use Rattle.std.specs.Prelude.{None}
 use Rattle.thor_value.specs.declared.names.Ts.{Ts}
 
@@ -28,9 +28,6 @@ halted_so x y down whole none same = record { halts = λ u m. (ap trace_of same,
 module _ (Q : Base → Type 0) (x y : Shown) where
   pub any_runs : RunsBy AnyBase x y → RunsBy Q x y
   any_runs r = record { runs = λ b q k. r.runs b tt k }
-
-  pub any_works : (W : Base → List Item → List Item → Unsettled → Type 0) → WorksBy AnyBase x y W → WorksBy Q x y W
-  any_works W w = record { works = λ b u q k m. w.works b u tt k m }
 
   pub connect_fails : (client : ℕ) → Halts x y → WorksBy Q x y (ConnectWork client (Err refused.NoMemory))
   connect_fails client h = record { works = λ b u q k m. (tt, h.halts u m) }

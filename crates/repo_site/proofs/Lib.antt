@@ -1,5 +1,6 @@
 pub mod Counting
 pub mod Failing
+pub mod Finding
 pub mod Growing
 pub mod Leaving
 pub mod Opened

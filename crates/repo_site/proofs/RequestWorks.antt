@@ -6,11 +6,7 @@ use Rattle.client_port.specs.Works.{AnswersOf, AskWork, CommitWork, DecideWork, 
 use Rattle.law_atomic_commit.proofs.Asked.{table-answers}
 use Rattle.law_atomic_commit.specs.Asking.{answer_by}
 use Rattle.law_repo_calls.proofs.Phases.{agreement}
-use Rattle.law_repo_calls.proofs.Requests.{is_made}
 use Rattle.law_repo_calls.specs.Seen.{StandsRight, phase, seen}
-use Rattle.law_repo_calls.specs.Vouching.{IsSent}
-use Rattle.law_repo_memory.proofs.Answering.{session-answers}
-use Rattle.law_repo_memory.proofs.Judging.{accepted-by-trace}
 use Rattle.law_repo_memory.specs.Agreeing.{trace_of}
 use Rattle.law_repo_memory.specs.Running.{IsInAgreement}
 use Rattle.law_repo_memory.specs.Tables.{undecided_request}
@@ -22,7 +18,7 @@ use Rattle.log_entries.specs.declared.request.Kind.{Kind}
 use Rattle.log_entries.specs.declared.request.Request.{Request}
 use Rattle.repo_core.specs.Behind as core
 use Rattle.repo_core.specs.Behind.{IsAsked, IsVerdict, Stands, has_prepared, is_committed, is_marked, is_of_session, with_refusal}
-use Rattle.repo_core.specs.Calls.{MayRequest, judged}
+use Rattle.repo_core.specs.Calls.{judged}
 use Rattle.repo_core.specs.Refusing.{CanRefuse, GoesDown, HasNoReason, IsEnded, Leaves, made_of}
 use Rattle.repo_core.specs.Shown.{Shown}
 use Rattle.repo_durable.specs.Kept.{is_fault}
@@ -150,12 +146,6 @@ module _ (b : Base) (x y : Shown) (u : Unsettled) (k : StandsRight b x) (after :
 
   -- ---- requests
 
-  -- nothing stood against it
-  valid : (s : ℕ) (q : Request) (alone : Bool) → MayRequest x.held x.memory q alone → IsSent b x s q → judged x.held x.memory s q ≡ None → verdict b T s q ≡ None
-  valid s q alone may sent none =
-      subst (λ (t : ℕ). verdict b T t q ≡ None) sent.own
-      (accepted-by-trace b x.trace x.held x.memory q.session q a (session-answers b T x.memory.sessions (sessions b x y u k after up m)) (is_made b x k up s q alone may sent none).accepted)
-
   stopped : (e : Entry) (V : Type 0) (o : Option Refusal) → (o ≡ None → V) → GoesDown x y (made_of o e) → y.is_up ≡ false → MayHaveLeft e V u
   stopped e V None v g down = have_left e V u (left_with y u m x e g down) (v refl)
   stopped e V (Some r) v g down = have_halted e V u (halted y u m x g down)
@@ -172,45 +162,17 @@ module _ (b : Base) (x y : Shown) (u : Unsettled) (k : StandsRight b x) (after :
   pub entry_comes : (e : Entry) → y.is_up ≡ true → y.trace ≡ with_entry x.trace e → (S ≡ T ++ E e ∷ []) × (u ≡ Calm)
   entry_comes e stands t = (entered_is b x y e k t, calm y u m stands)
 
-  pub prepare_works : (s : ℕ) (q : Request) (result : Result ℕ Refusal) → MayRequest x.held x.memory q false → IsSent b x s q → Stands x.is_up result y.is_up → OnOk result (judged x.held x.memory s q ≡ None) → IfOk result (λ place. place ≡ length x.trace.history) → OnOk result (y.trace ≡ with_entry x.trace (Prepared q))
+  pub prepare_works : (s : ℕ) (q : Request) (result : Result ℕ Refusal) → (judged x.held x.memory s q ≡ None → verdict b T s q ≡ None) → Stands x.is_up result y.is_up → OnOk result (judged x.held x.memory s q ≡ None) → IfOk result (λ place. place ≡ length x.trace.history) → OnOk result (y.trace ≡ with_entry x.trace (Prepared q))
       → IfErr result (λ r. y.trace ≡ with_refusal x.trace s (Some q) r) → IfErr result (Leaves x y (made_of (judged x.held x.memory s q) (Prepared q))) → IfErr result (λ r. (n : ℕ) → r ≡ refused.Down n → ⊥) → ((n place : ℕ) → IsErrOf result (refused.Damaged n place) → GoesDown x y None) → PrepareWork s q result b T S u
-  prepare_works s q (Ok place) may sent stands none at trace refused left never damaged = (valid s q false may sent none, at ∙ ap length (sym history), entry_comes (Prepared q) stands.1 trace)
-  prepare_works s q (Err r) may sent stands none at trace refused left never damaged = request_refused s q (Prepared q) (judged x.held x.memory s q) r (valid s q false may sent) stands left refused never damaged
+  prepare_works s q (Ok place) valid stands none at trace refused left never damaged = (valid none, at ∙ ap length (sym history), entry_comes (Prepared q) stands.1 trace)
+  prepare_works s q (Err r) valid stands none at trace refused left never damaged = request_refused s q (Prepared q) (judged x.held x.memory s q) r valid stands left refused never damaged
 
-  pub commit_works : (s : ℕ) (q : Request) (result : Result ℕ Refusal) → MayRequest x.held x.memory q true → IsSent b x s q → Stands x.is_up result y.is_up → OnOk result (judged x.held x.memory s q ≡ None) → IfOk result (λ place. place ≡ length x.trace.history) → OnOk result (y.trace ≡ with_entry x.trace (core.alone_entry q.kind q))
+  pub commit_works : (s : ℕ) (q : Request) (result : Result ℕ Refusal) → (judged x.held x.memory s q ≡ None → verdict b T s q ≡ None) → Stands x.is_up result y.is_up → OnOk result (judged x.held x.memory s q ≡ None) → IfOk result (λ place. place ≡ length x.trace.history) → OnOk result (y.trace ≡ with_entry x.trace (core.alone_entry q.kind q))
       → IfErr result (λ r. y.trace ≡ with_refusal x.trace s (Some q) r) → IfErr result (Leaves x y (made_of (judged x.held x.memory s q) (core.alone_entry q.kind q))) → IfErr result (λ r. (n : ℕ) → r ≡ refused.Down n → ⊥) → ((n place : ℕ) → IsErrOf result (refused.Damaged n place) → GoesDown x y None) → CommitWork s q result b T S u
-  commit_works s q (Ok place) may sent stands none at trace refused left never damaged =
-      (valid s q true may sent none, at ∙ ap length (sym history), entry_comes (alone_entry q) stands.1 (trace ∙ ap (with_entry x.trace) (same_entry q)))
-  commit_works s q (Err r) may sent stands none at trace refused left never damaged =
-      request_refused s q (alone_entry q) (judged x.held x.memory s q) r (valid s q true may sent) stands (subst (λ (e : Entry). Leaves x y (made_of (judged x.held x.memory s q) e) r) (same_entry q) left) refused never damaged
-
-  -- a request that failed a test
-  pub rejected : (s : ℕ) (q : Request) (e : Entry) (r : Refusal) → y.is_up ≡ cond (is_fault r) false x.is_up → Leaves x y None r → y.trace ≡ with_refusal x.trace s (Some q) r → (is_marked r ≡ false → r ≡ refused.NoMemory) → RequestRefused e b T s q r S u
-  rejected s q e (refused.Reason reason) up_so left t other = behind_refusal b x y u k after up m s (Some q) reason up_so t
-  rejected s q e (refused.Down n) up_so left t other = absurd (never (other refl))
-    where
-      never : refused.Down n ≡ refused.NoMemory → ⊥
-      never e = cc
-  rejected s q e (refused.Stopped n) up_so left t other = absurd (never (other refl))
-    where
-      never : refused.Stopped n ≡ refused.NoMemory → ⊥
-      never e = cc
-  rejected s q e (refused.Damaged n place) up_so left t other = absurd (never (other refl))
-    where
-      never : refused.Damaged n place ≡ refused.NoMemory → ⊥
-      never e = cc
-  rejected s q e refused.NoMemory up_so left t other = (ap trace_of t, have_halted e (verdict b T s q ≡ None) u (halted y u m x (left.fault refl) (fallen b x y u k after up m refused.NoMemory up_so refl)))
-
-  reject_so : (s : ℕ) (q : Request) (e : Entry) (r : Refusal) → Stands {X = ℕ} x.is_up (Err r) y.is_up → Leaves x y None r → y.trace ≡ with_refusal x.trace s (Some q) r → (x.is_up ≡ true → is_marked r ≡ false → r ≡ refused.NoMemory) → RequestRefused e b T s q r S u
-  reject_so s q e r stands left t other = rejected s q e r stands left t (other up)
-
-  pub reject_prepares : (s : ℕ) (q : Request) (result : Result ℕ Refusal) → OnOk result ⊥ → Stands x.is_up result y.is_up → IfErr result (Leaves x y None) → IfErr result (λ r. y.trace ≡ with_refusal x.trace s (Some q) r) → IfErr result (λ r. x.is_up ≡ true → is_marked r ≡ false → r ≡ refused.NoMemory) → PrepareWork s q result b T S u
-  reject_prepares s q (Ok place) never stands left t other = absurd never
-  reject_prepares s q (Err r) never stands left t other = reject_so s q (Prepared q) r stands left t other
-
-  pub reject_commits : (s : ℕ) (q : Request) (result : Result ℕ Refusal) → OnOk result ⊥ → Stands x.is_up result y.is_up → IfErr result (Leaves x y None) → IfErr result (λ r. y.trace ≡ with_refusal x.trace s (Some q) r) → IfErr result (λ r. x.is_up ≡ true → is_marked r ≡ false → r ≡ refused.NoMemory) → CommitWork s q result b T S u
-  reject_commits s q (Ok place) never stands left t other = absurd never
-  reject_commits s q (Err r) never stands left t other = reject_so s q (alone_entry q) r stands left t other
+  commit_works s q (Ok place) valid stands none at trace refused left never damaged =
+      (valid none, at ∙ ap length (sym history), entry_comes (alone_entry q) stands.1 (trace ∙ ap (with_entry x.trace) (same_entry q)))
+  commit_works s q (Err r) valid stands none at trace refused left never damaged =
+      request_refused s q (alone_entry q) (judged x.held x.memory s q) r valid stands (subst (λ (e : Entry). Leaves x y (made_of (judged x.held x.memory s q) e) r) (same_entry q) left) refused never damaged
 
   -- ---- decisions and verdicts
 

@@ -3,6 +3,7 @@
 use Rattle.cached_sets.specs.Meaning.{has_page}
 use Rattle.log_entries.specs.declared.request.Request.{Request}
 use Rattle.repo_core.specs.Shown.{Shown}
+use Rattle.repo_sessions.specs.Sessions.{is_live}
 use Rattle.spec_history.specs.Participants.{takes_part}
 use Rattle.spec_history.specs.Requests.{is_upgrade}
 use Rattle.std.specs.List.{AllByRecursion, list_any}
@@ -49,3 +50,7 @@ pub record IsTested (x : Shown) (repos s : ℕ) (q : Request) : Type 0 where
   pub speaks : SpeaksOf x.held.repo q
   pub bare : IsBareUpgrade x.held.repo repos q
   pub comes : ComesFrom x s q
+
+-- The same, where the session is live: a request of one that isn't is refused.
+pub record IsTestedIf (x : Shown) (repos s : ℕ) (q : Request) : Type 0 where
+  pub tested : is_live x.memory.sessions s ≡ true → IsTested x repos s q

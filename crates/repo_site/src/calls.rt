@@ -8,7 +8,7 @@ ghost use Rattle.std.specs.Prelude.{IsTrue, true, ◌≡◌};
 
 use crate::made;
 use crate::sessions::is_there;
-use crate::testing::{is_counted, is_here, is_tested, may_decide, may_finish, may_forget};
+use crate::testing::{is_counted, is_here, may_decide, may_finish, may_forget, passes};
 use disk_trait::Parts;
 use log_entries::Request;
 use repo_core::Repo;
@@ -123,7 +123,7 @@ pub(crate) fn ask<P: Parts>(repo: &mut Repo<P>, tx: Ts) -> Result<Asked, Refusal
 }
 
 /// A request is prepared at one of so many repositories, or refused.
-#[tactic(auto, using(crate::proofs::Failing::any_runs, crate::proofs::Failing::any_works, crate::proofs::Failing::prepare_fails))]
+#[tactic(auto, using(crate::proofs::Failing::any_runs, crate::proofs::Failing::prepare_fails))]
 pub(crate) fn prepare<P: Parts>(
     repo: &mut Repo<P>,
     repos: u8,
@@ -134,19 +134,16 @@ pub(crate) fn prepare<P: Parts>(
     ensures runs { RunsBy (HasRepos repos) repo.old repo.new }
     ensures works { WorksBy (HasRepos repos) repo.old repo.new (PrepareWork session request result) }
 {
-    if !may_come(repo, session, &request, false) {
+    if !may_come(repo, session, &request, false) || !passes(repo, repos, session, &request) {
         drop(request);
         fail(repo);
         return Err(Refusal::NoMemory);
-    }
-    if !is_tested(repo, repos, session, &request) {
-        return made::reject(repo, session, request);
     }
     made::prepare(repo, repos, session, request)
 }
 
 /// A request with one participant commits at one of so many repositories, or refused.
-#[tactic(auto, using(crate::proofs::Failing::any_runs, crate::proofs::Failing::any_works, crate::proofs::Failing::commit_fails))]
+#[tactic(auto, using(crate::proofs::Failing::any_runs, crate::proofs::Failing::commit_fails))]
 pub(crate) fn commit_one<P: Parts>(
     repo: &mut Repo<P>,
     repos: u8,
@@ -157,13 +154,10 @@ pub(crate) fn commit_one<P: Parts>(
     ensures runs { RunsBy (HasRepos repos) repo.old repo.new }
     ensures works { WorksBy (HasRepos repos) repo.old repo.new (CommitWork session request result) }
 {
-    if !may_come(repo, session, &request, true) {
+    if !may_come(repo, session, &request, true) || !passes(repo, repos, session, &request) {
         drop(request);
         fail(repo);
         return Err(Refusal::NoMemory);
-    }
-    if !is_tested(repo, repos, session, &request) {
-        return made::reject(repo, session, request);
     }
     made::commit_one(repo, repos, session, request)
 }

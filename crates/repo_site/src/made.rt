@@ -1,17 +1,14 @@
 //! Calls that are made: each is a run of events, and does its work on the trace as a client is promised it.
 
 ghost use Rattle.client_port.specs.Works.{AskWork, CommitWork, ConnectWork, DecideWork, DrawWork, FetchWork, FinishWork, ForgetWork, GrantWork, PrepareWork, ReceiveWork};
-ghost use Rattle.log_entries.specs.RequestForm.{IsWellFormed};
 ghost use Rattle.law_repo_calls.specs.Vouching.{IsCounted};
 ghost use Rattle.repo_core.specs.Behind.{has_prepared};
 ghost use Rattle.repo_core.specs.Calls.{MayRequest};
-ghost use Rattle.repo_site.specs.Testing.{IsTested};
+ghost use Rattle.repo_site.specs.Testing.{IsTestedIf};
 ghost use Rattle.repo_site.specs.Working.{AnyBase, HasRepos, RunsBy, WorksBy};
-ghost use Rattle.std.specs.Map.{keys_of};
 ghost use Rattle.std.specs.Prelude.{is_some, length, not, true, ◌||◌, ◌≡◌, ◌≢◌, ◌≤◌};
 ghost use Rattle.thor_value.specs.FiniteMap.{get};
 ghost use Rattle.two_phase.specs.Contents.{keeps, open_at};
-ghost use Rattle.validation_queue.specs.Names.{IsInOrder};
 
 use disk_trait::Parts;
 use log_entries::Request;
@@ -75,7 +72,7 @@ pub(crate) fn draw<P: Parts>(repo: &mut Repo<P>, session: u32, floor: u64) -> Re
     repo.draw(session, floor)
 }
 
-/// A request that has passed all tests is prepared, or refused.
+/// A request is prepared that has passed all tests, or refused; so is one of a session that isn't live.
 pub(crate) fn prepare<P: Parts>(
     repo: &mut Repo<P>,
     repos: u8,
@@ -86,14 +83,14 @@ pub(crate) fn prepare<P: Parts>(
     requires may { MayRequest repo.old.held repo.old.memory request false }
     requires own { request.session ≡ session }
     requires counted { IsCounted repo.old }
-    requires tested { IsTested repo.old repos session request }
+    requires tested { IsTestedIf repo.old repos session request }
     ensures runs { RunsBy (HasRepos repos) repo.old repo.new }
     ensures works { WorksBy (HasRepos repos) repo.old repo.new (PrepareWork session request result) }
 {
     repo.prepare(session, request)
 }
 
-/// A request with one participant that has passed all tests commits, or is refused.
+/// A request with one participant commits that has passed all tests, or is refused; so is one of a session that isn't live.
 pub(crate) fn commit_one<P: Parts>(
     repo: &mut Repo<P>,
     repos: u8,
@@ -104,7 +101,7 @@ pub(crate) fn commit_one<P: Parts>(
     requires may { MayRequest repo.old.held repo.old.memory request true }
     requires own { request.session ≡ session }
     requires counted { IsCounted repo.old }
-    requires tested { IsTested repo.old repos session request }
+    requires tested { IsTestedIf repo.old repos session request }
     ensures runs { RunsBy (HasRepos repos) repo.old repo.new }
     ensures works { WorksBy (HasRepos repos) repo.old repo.new (CommitWork session request result) }
 {
@@ -161,22 +158,4 @@ pub(crate) fn ask<P: Parts>(repo: &mut Repo<P>, tx: Ts) -> Result<Asked, Refusal
     ensures works { WorksBy AnyBase repo.old repo.new (AskWork tx result) }
 {
     repo.ask(tx)
-}
-
-/// A request that failed a test is refused, or the repository goes down.
-pub(crate) fn reject<P: Parts>(
-    repo: &mut Repo<P>,
-    session: u32,
-    request: Request,
-) -> Result<u64, Refusal>
-    requires up { repo.old.is_up ≡ true }
-    requires form { IsWellFormed request }
-    requires in_order { IsInOrder request.ros (keys_of request.writes) }
-    requires own { request.session ≡ session }
-    requires counted { IsCounted repo.old }
-    ensures runs { RunsBy AnyBase repo.old repo.new }
-    ensures prepares { WorksBy AnyBase repo.old repo.new (PrepareWork session request result) }
-    ensures commits { WorksBy AnyBase repo.old repo.new (CommitWork session request result) }
-{
-    repo.reject(session, request)
 }

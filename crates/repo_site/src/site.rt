@@ -16,7 +16,7 @@ use std::marker::{Model, PhantomData};
 /// memory says what its trace says. No call asks anything of its caller.
 ///
 /// A request, a decision, a verdict or a place that no rightful client sends takes it down, and the answer is `NoMemory`; a
-/// request only where nothing else stands against it.
+/// request only where its session is live.
 #[derive(Drop)]
 pub struct Site<P: Parts, O: Opening> {
     pub(crate) repo: Repo<P>,

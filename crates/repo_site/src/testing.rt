@@ -2,7 +2,7 @@
 
 ghost use Rattle.law_repo_calls.specs.Vouching.{IsCounted};
 ghost use Rattle.repo_core.specs.Behind.{has_prepared};
-ghost use Rattle.repo_site.specs.Testing.{IsTested};
+ghost use Rattle.repo_site.specs.Testing.{IsTested, IsTestedIf};
 ghost use Rattle.std.specs.Prelude.{IsTrue, is_some, not, true, ◌||◌, ◌≡◌, ◌≢◌, ◌≤◌};
 ghost use Rattle.thor_value.specs.FiniteMap.{get};
 ghost use Rattle.two_phase.specs.Contents.{keeps, open_at};
@@ -16,12 +16,7 @@ use repo_core::Repo;
 use thor_value::Ts;
 
 /// Whether a request of a session passes all tests at a repository, of so many.
-pub(crate) fn is_tested<P: Parts>(
-    repo: &Repo<P>,
-    repos: u8,
-    session: u32,
-    request: &Request,
-) -> bool
+fn is_tested<P: Parts>(repo: &Repo<P>, repos: u8, session: u32, request: &Request) -> bool
     ensures { IsTrue result → IsTested repo.now repos session request.now }
 {
     if !take_part(repo.number(), repos, request) || !speaks_of(repo.number(), request) {
@@ -31,6 +26,17 @@ pub(crate) fn is_tested<P: Parts>(
         return false;
     }
     comes_from(repo, session, request)
+}
+
+/// Whether a request of a session passes all tests at a repository, of so many, or the session isn't live.
+#[tactic(auto, using(crate::proofs::Finding::gone_tested, crate::proofs::Finding::tested_so))]
+pub(crate) fn passes<P: Parts>(repo: &Repo<P>, repos: u8, session: u32, request: &Request) -> bool
+    ensures { IsTrue result → IsTestedIf repo.now repos session request.now }
+{
+    match repo.client_of(session) {
+        Some(_) => is_tested(repo, repos, session, request),
+        None => true,
+    }
 }
 
 /// Whether the number of the next upgrade is one of 32 bits.

@@ -9,6 +9,7 @@ ghost use Rattle.disk_trait.specs.AllDisks.{ReadsAs};
 ghost use Rattle.repo_opening.specs.Paged.{PutsStored};
 ghost use Rattle.std.specs.Prelude.{IfErr, IfOk, IsOk, List, OnOk, true, vec_capacity, vec_len, ◌≡◌, ◌≤◌, ℕ};
 ghost use Rattle.store_opening.specs.Joined.{AreKept, read_states};
+ghost use Rattle.store_opening.specs.Limits.{AnyHas, HasCountAbove, HasLifeAbove, PlaceHas};
 ghost use Rattle.store_opening.specs.OpenedStore.{roots_of};
 ghost use Rattle.store_opening.specs.Reading.{IsFreshIn, IsOpened, IsOpenedIn, IsStored, IsStoredIn, PutsAll, ReadAll, StandFor, epochs_in, schemas_in};
 ghost use Rattle.std.specs.Option.{option_copied};
@@ -124,22 +125,18 @@ impl<P: Parts> Found<P> {
         }
     }
 
-    /// The greatest life of a repository, on the disks.
-    pub fn greatest_life(&self) -> u32 {
-        let mut greatest = 0;
-        for place in &self.places {
-            greatest = greatest.max(life_of(place));
-        }
-        greatest
+    /// Whether a repository has a greater life than this, on the disks.
+    pub fn has_life_above(&self, limit: u32) -> bool
+        ensures { result ≡ true → (given : List P) (images : List (ℕ → List ℕ)) → HasParts P.disks given self.now → ReadAll P.disks given images → AnyHas (HasLifeAbove limit) images }
+    {
+        is_life_above(self.places.as_slice(), limit)
     }
 
-    /// The greatest sequence of a log that counts, and count of entries of a repository's history.
-    pub fn greatest_count(&self) -> u64 {
-        let mut greatest = 0;
-        for place in &self.places {
-            greatest = greatest.max(count_of(place));
-        }
-        greatest
+    /// Whether a log that counts has a greater sequence than this, or a repository's history more entries.
+    pub fn has_count_above(&self, limit: u64) -> bool
+        ensures { result ≡ true → (given : List P) (images : List (ℕ → List ℕ)) → HasParts P.disks given self.now → ReadAll P.disks given images → AnyHas (HasCountAbove limit) images }
+    {
+        is_count_above(self.places.as_slice(), limit)
     }
 
     /// The store as it is opened, each object brought up to its epoch; nothing where it is fresh.
@@ -207,21 +204,56 @@ fn opened(alloc: Global, store: &OpenStore) -> Result<Plain, NoMemory>
     eager(alloc, &store.stored, &store.schemas, &store.roots)
 }
 
-fn life_of<P: Parts>(place: &Closed<P>) -> u32 {
+/// Whether a repository has a greater life than this.
+fn has_life_above<P: Parts>(place: &Closed<P>, limit: u32) -> bool
+    ensures { result ≡ true → PlaceHas P.disks place.now (HasLifeAbove limit) }
+{
     match place {
-        Closed::Known(known) => known.recovered().state.life(),
-        Closed::Parts(_) | Closed::Fresh(_) => 0,
+        Closed::Known(known) => limit < known.recovered().state.life(),
+        Closed::Parts(_) | Closed::Fresh(_) => false,
     }
 }
 
-fn count_of<P: Parts>(place: &Closed<P>) -> u64 {
-    match place {
-        Closed::Known(known) => {
-            let recovered = known.recovered();
-            recovered.log.sequence().max(recovered.state.count())
+/// Whether one of the repositories has.
+fn is_life_above<P: Parts>(places: &[Closed<P>], limit: u32) -> bool
+    ensures { result ≡ true → (parts : List P) (images : List (ℕ → List ℕ)) → AreSeated P.disks parts places.now → ReadAll P.disks parts images → AnyHas (HasLifeAbove limit) images }
+{
+    for place in places {
+        if has_life_above(place, limit) {
+            return true;
         }
-        Closed::Parts(_) | Closed::Fresh(_) => 0,
     }
+    false
+}
+
+/// Whether a repository's log has a greater sequence than this, or its history more entries.
+fn has_count_above<P: Parts>(place: &Closed<P>, limit: u64) -> bool
+    ensures { result ≡ true → PlaceHas P.disks place.now (HasCountAbove limit) }
+{
+    match place {
+        Closed::Known(known) => counts_above(known, limit),
+        Closed::Parts(_) | Closed::Fresh(_) => false,
+    }
+}
+
+/// Whether the log that was recovered has a greater sequence than this, or the history more entries.
+fn counts_above<P: Parts>(known: &Known<P>, limit: u64) -> bool
+    ensures { result ≡ true → (part : P) (images : ℕ → List ℕ) → Same (P.disks part) (P.disks known.now) → ReadsAs (P.disks part) images → HasCountAbove limit images }
+{
+    let recovered = known.recovered();
+    limit < recovered.log.sequence() || limit < recovered.state.count()
+}
+
+/// Whether one of the repositories has.
+fn is_count_above<P: Parts>(places: &[Closed<P>], limit: u64) -> bool
+    ensures { result ≡ true → (parts : List P) (images : List (ℕ → List ℕ)) → AreSeated P.disks parts places.now → ReadAll P.disks parts images → AnyHas (HasCountAbove limit) images }
+{
+    for place in places {
+        if has_count_above(place, limit) {
+            return true;
+        }
+    }
+    false
 }
 
 /// Parts that weren't read for want of memory.
@@ -315,7 +347,10 @@ fn placed<P: Parts>(
 {
     match found {
         Some((recovered, behind)) => (Closed::Known(Known::new(part, recovered, behind)), Ok(())),
-        None => (Closed::Fresh(Settled::new(part)), may_be_fresh(repo, places)),
+        None => (
+            Closed::Fresh(Settled::new(part)),
+            may_be_fresh(repo, places),
+        ),
     }
 }
 
@@ -342,7 +377,6 @@ fn is_fresh<P: Parts>(place: &Closed<P>) -> bool
 }
 
 /// Whether repository 0 is fresh.
-#[tactic(auto, using(crate::proofs::Freshness::fresh_first, crate::proofs::Freshness::fresh_none))]
 fn begins_fresh<P: Parts>(places: &[Closed<P>]) -> bool
     ensures { result ≡ true → (parts : List P) (images : List (ℕ → List ℕ)) → AreSeated P.disks parts places.now → ReadAll P.disks parts images → IsFreshIn images }
 {

@@ -4,27 +4,13 @@
 //! answered here.
 #![tactic(auto)]
 
-mod advice;
-mod clocks;
-mod descriptors;
-mod folder;
 mod help;
-mod noting;
-mod parts;
 mod performing;
-mod read_only;
-mod standing;
-mod store_files;
 mod stored;
-mod wrong_word;
 
-use crate::advice::{NO_MEMORY, advise};
-use crate::clocks::{Clocks, Counting, Machine};
 use crate::help::{HELP, VERSION};
-use crate::parts::memory;
 use crate::performing::{Ended, perform};
 use crate::stored::perform_stored;
-use crate::wrong_word::fault_of;
 use outside::{StdSink, write_all};
 use std::io::ErrorKind;
 use std::process::ExitCode;
@@ -33,6 +19,7 @@ use std::thread::Threads;
 use std::{env, mem};
 use thor_top::Status;
 use thor_value::{NoMemory, Text, Texts};
+use top_host::{Clocks, Counting, Machine, NO_MEMORY, advise, fault_of, memory};
 use top_words::{Command, Plan, WordsFault, read_words};
 
 fn main(rt: HostRuntime) -> ExitCode {

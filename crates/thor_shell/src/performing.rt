@@ -1,7 +1,5 @@
 //! The top call, between standard input and standard output.
 
-use crate::advice::advise_behind;
-use crate::noting::NotingSink;
 use disk_trait::Parts;
 use outside::{OpenGate, StdSource};
 use std::mem;
@@ -9,6 +7,7 @@ use std::sync::Wait;
 use std::thread::Threads;
 use thor_top::{Outcome, Status, StoreParts, thor};
 use thor_value::Texts;
+use top_host::{NotingSink, advise_behind};
 
 /// How the program ended, with the parts.
 #[derive(Drop)]

@@ -12,7 +12,7 @@ use Rattle.thor_top.specs.Stages.{Foretells, IsPlayed, RepliesRun}
 use Rattle.thor_top.specs.declared.expected.Expected.{Expected}
 use Rattle.thor_value.specs.FiniteMap.{IsSorted}
 use Rattle.thor_value.specs.declared.memory.NoMemory.{NoMemory}
-use Rattle.top_judging.specs.Stages.{IsOpenedAs, IsStoredBy, RepliesUnsettled}
+use Rattle.top_judging.specs.Stages.{IsOpenedAs, RepliesUnsettled}
 use Rattle.top_judging.specs.declared.stored.OpenedStore.{OpenedStore}
 use Rattle.top_reply.specs.Replies.{run_reply}
 use Rattle.top_reply.specs.Reports.{IsReported}
@@ -21,7 +21,7 @@ use Rattle.top_reply.specs.declared.form.Form.TheVariants as form
 use Rattle.top_reply.specs.declared.reply.Reply.{Reply}
 use Rattle.top_reply.specs.declared.running.Running.{Running}
 use Rattle.top_statement.specs.Kept.{Refuses, RefusesBy, WritesNothing}
-use Rattle.top_statement.specs.Opening.{DiskBytes, IsAccepted, IsOfDisks, IsStore}
+use Rattle.top_statement.specs.Opening.{DiskBytes, FitsDisks, IsAccepted, IsOfDisks, IsStore, IsStoredBy}
 use Rattle.top_statement.specs.Top.{IsWithinLimits, RepliesTo, form_of, running_of}
 use Rattle.top_words.specs.declared.command.Command.{Command}
 use Rattle.top_words.specs.declared.command.Command.TheVariants.{Check, Gen, Play, Run}
@@ -47,9 +47,9 @@ no_form Run is = absurd (let no : None ≡ Some form.Report = is in cc)
 no_form (Gen n) is = absurd (let no : None ≡ Some form.Summary = is in cc)
 
 -- a run that is told in the form of its command is replied to the script
-pub run_replies : (D : DiskBytes) (plan : Plan) (script : Script) (f : Form) → Some f ≡ form_of plan.command → IsWithinLimits script → (r : Reply) → RepliesRun D (running_of plan.command) f plan.repos script r → RepliesTo D plan script r
-run_replies D plan script form.Report is within r told = subst (λ (w : Reply). RepliesTo D plan script w) (sym told.1.1.0) (sym is, (within, told.1.1.1))
-run_replies D plan script form.Summary is within r told = subst (λ (w : Reply). RepliesTo D plan script w) (sym told.1.1.0) (sym is, (within, told.1.1.1))
+pub run_replies : (D : DiskBytes) (plan : Plan) (script : Script) (f : Form) → Some f ≡ form_of plan.command → IsWithinLimits script → FitsDisks D script.setup → (r : Reply) → RepliesRun D (running_of plan.command) f plan.repos script r → RepliesTo D plan script r
+run_replies D plan script form.Report is within fits r told = subst (λ (w : Reply). RepliesTo D plan script w) (sym told.1.1.0) (sym is, (within, (fits, told.1.1.1)))
+run_replies D plan script form.Summary is within fits r told = subst (λ (w : Reply). RepliesTo D plan script w) (sym told.1.1.0) (sym is, (within, (fits, told.1.1.1)))
 
 -- ---- what a run writes: neither a run nor a store that couldn't be opened refuses anything
 

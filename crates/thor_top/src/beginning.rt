@@ -7,7 +7,8 @@ ghost use Rattle.std.specs.Prelude.{IfErr, IfOk, List, length, vec_len, ◌≡�
 ghost use Rattle.store_opening.specs.Counts.{HasParts, parts_in};
 ghost use Rattle.store_opening.specs.Reading.{ReadAll};
 ghost use Rattle.thor_top.specs.Stages.{Foretells, IsPlayed};
-ghost use Rattle.top_judging.specs.Stages.{IsJudged, IsStoredBy};
+ghost use Rattle.top_judging.specs.Stages.{IsJudged};
+ghost use Rattle.top_statement.specs.Opening.{IsStoredBy};
 ghost use Rattle.top_statement.specs.Kept.{WritesNothing};
 ghost use Rattle.top_statement.specs.Top.{IsForOthers, IsHanded, RepliesTo, Says, form_of, told_by};
 
@@ -37,7 +38,7 @@ fn form_of(command: Command) -> Option<Form>
 fn checked<P: Parts>(alloc: Global, plan: &Plan, script: &Script, judged: Judged<P>) -> Answered<P>
     requires command { plan.now.command ≡ Command.Check }
     requires judged { IsJudged plan.now script.now judged.found.store judged.base }
-    ensures reply { (given : List P) → IfOk result.reply (RepliesTo (ReadAll P.disks given) plan.now script.now) }
+    ensures reply { (given : List P) → IsStoredBy (ReadAll P.disks given) judged.found.store → IfOk result.reply (RepliesTo (ReadAll P.disks given) plan.now script.now) }
     ensures parts { vec_len result.parts ≡ parts_in judged.found }
     ensures same { (given : List P) → HasParts P.disks given judged.found → AreSame P.disks given result.parts.items }
 {
@@ -57,7 +58,7 @@ fn begin_judged<P: Parts>(
     ensures foretells { (given : List P) → IsStoredBy (ReadAll P.disks given) judged.found.store → IfOk result (λ run. Foretells (RepliesTo (ReadAll P.disks given) plan.now script) run.expected) }
     ensures played { IfOk result (λ run. IsPlayed plan.now.command) }
     ensures count { IfOk result (λ run. parts_of run.cluster ≡ parts_in judged.found) }
-    ensures reply { (given : List P) → IfErr result (λ a. IfOk a.reply (RepliesTo (ReadAll P.disks given) plan.now script)) }
+    ensures reply { (given : List P) → IsStoredBy (ReadAll P.disks given) judged.found.store → IfErr result (λ a. IfOk a.reply (RepliesTo (ReadAll P.disks given) plan.now script)) }
     ensures parts { IfErr result (λ a. vec_len a.parts ≡ parts_in judged.found) }
     ensures kept { (given : List P) → HasParts P.disks given judged.found → IfErr result (λ a. WritesNothing plan.now.command a.reply → AreSame P.disks given a.parts.items) }
 {

@@ -8,8 +8,8 @@ ghost use Rattle.store_opening.specs.Counts.{parts_in};
 ghost use Rattle.store_opening.specs.Reading.{IsStoredIn, ReadAll};
 ghost use Rattle.thor_top.specs.Stages.{Foretells, RepliesRun};
 ghost use Rattle.thor_value.specs.FiniteMap.{IsSorted};
-ghost use Rattle.top_judging.specs.Stages.{IsJudged, IsOpenedAs, IsStoredBy, RepliesUnsettled};
-ghost use Rattle.top_statement.specs.Opening.{IsStore};
+ghost use Rattle.top_judging.specs.Stages.{IsJudged, IsOpenedAs, RepliesUnsettled};
+ghost use Rattle.top_statement.specs.Opening.{IsStore, IsStoredBy};
 ghost use Rattle.top_statement.specs.Top.{running_of};
 
 use crate::expected::Expected;

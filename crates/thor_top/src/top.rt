@@ -41,11 +41,11 @@ pub fn thor<R: Threads + Wait + Sync, S: Source, K: Sink, P: Parts + Send, G: Ga
     // The summary of one of the generated script, by `gen`.
     ensures summary { (finished : Bool) (text : List ℕ) → result.reply ≡ Ok (Reply.Summary finished text) → SaysRun (ReadAll P.disks parts.repositories.items) Form.Summary (IsPlan words.now (vec_len parts.repositories)) (told_by S.left S.faults source.old) (told_by S.left S.faults source.new) finished text }
     // The script breaks no rule, by `check`.
-    ensures ok { result.reply ≡ Ok Reply.Accepted → SaysAccepted (IsPlan words.now (vec_len parts.repositories)) (told_by S.left S.faults source.old) (told_by S.left S.faults source.new) }
+    ensures ok { result.reply ≡ Ok Reply.Accepted → SaysAccepted (ReadAll P.disks parts.repositories.items) (IsPlan words.now (vec_len parts.repositories)) (told_by S.left S.faults source.old) (told_by S.left S.faults source.new) }
     // The bytes are no script, or the script is refused.
-    ensures rule { (refusal : Refusal) → result.reply ≡ Ok (Reply.Refused refusal) → SaysRefused (IsPlan words.now (vec_len parts.repositories)) (told_by S.left S.faults source.old) (told_by S.left S.faults source.new) refusal }
+    ensures rule { (refusal : Refusal) → result.reply ≡ Ok (Reply.Refused refusal) → SaysRefused (ReadAll P.disks parts.repositories.items) (IsPlan words.now (vec_len parts.repositories)) (told_by S.left S.faults source.old) (told_by S.left S.faults source.new) refusal }
     // A limit is passed.
-    ensures limit { (limit : ℕ) → result.reply ≡ Ok (Reply.Limit limit) → SaysLimit (IsPlan words.now (vec_len parts.repositories)) (told_by S.left S.faults source.old) (told_by S.left S.faults source.new) limit }
+    ensures limit { (limit : ℕ) → result.reply ≡ Ok (Reply.Limit limit) → SaysLimit (ReadAll P.disks parts.repositories.items) (IsPlan words.now (vec_len parts.repositories)) (told_by S.left S.faults source.old) (told_by S.left S.faults source.new) limit }
     // A disk failed while the store was opened, or has bytes that are no store's.
     ensures disk { (repo : ℕ) → result.reply ≡ Ok (Reply.DiskFault repo) → SaysDisk (IsPlan words.now (vec_len parts.repositories)) (told_by S.left S.faults source.old) (told_by S.left S.faults source.new) repo }
     ensures damage { (repo disk place : ℕ) → result.reply ≡ Ok (Reply.Damaged repo disk place) → SaysDamaged (IsPlan words.now (vec_len parts.repositories)) (told_by S.left S.faults source.old) (told_by S.left S.faults source.new) repo disk place }

@@ -8,14 +8,14 @@ use Rattle.std.proofs.Common.{◌≡◌, ◌≤◌, Err, IfOk, List, Ok, Option,
 use Rattle.std.proofs.lemmas.Option.{same_Some}
 use Rattle.std.specs.Prelude.{IfErr, IfSome}
 use Rattle.script_bank.specs.Bank.{script_text}
-use Rattle.store_opening.specs.Reading.{IsOpened, IsOpenedIn, schemas_in}
+use Rattle.store_opening.specs.Reading.{IsOpened, IsOpenedIn, IsStoredIn, schemas_in}
 use Rattle.store_opening.specs.declared.found.Store.TheVariants.{Fresh, Open}
 use Rattle.store_opening.specs.declared.found.Store.{Store}
 use Rattle.thor_value.specs.declared.memory.NoMemory.{NoMemory}
-use Rattle.top_judging.specs.Stages.{IsOpenedAs, IsRead, IsReadFrom, IsScriptFor, RepliesOver, RepliesText, RepliesUnjudged, RepliesUnopened, RepliesUnread, RepliesUnreadFor, RepliesUnsettled}
+use Rattle.top_judging.specs.Stages.{FitsStore, IsOpenedAs, IsRead, IsReadFrom, IsScriptFor, MisfitsStore, RepliesOver, RepliesRefused, RepliesRule, RepliesText, RepliesUnjudged, RepliesUnopened, RepliesUnread, RepliesUnreadFor, RepliesUnsettled}
 use Rattle.top_reply.specs.declared.reply.Reply.{Reply}
 use Rattle.top_reply.specs.declared.reply.Reply.TheVariants as reply
-use Rattle.top_statement.specs.Opening.{DiskBytes}
+use Rattle.top_statement.specs.Opening.{DiskBytes, FitsDisks, GoesWith, IsAgainst, IsStoredBy, MisfitsDisks}
 use Rattle.top_statement.specs.Top.{HasBytes, Reads, RepliesTo, Says, Told, WasRead, made_by}
 use Rattle.top_words.specs.declared.command.Plan.{Plan}
 
@@ -78,15 +78,47 @@ stored_as images setup base (Ok (Some store)) is h = subst (λ (s : Option Decla
 stored_as images setup base (Ok None) is h = tt
 stored_as images setup base (Err e) is h = tt
 
+-- ---- setup and fresh store
+
+goes_with : (setup : Option Declarations) (store : Store) (images : List (ℕ → List ℕ)) → IsStoredIn images store → FitsStore setup store → GoesWith setup images
+goes_with (Some s) Fresh images stored fits = stored
+goes_with (Some s) (Open store) images stored fits = absurd (let no : Some store.schemas ≡ None = fits in cc)
+goes_with None Fresh images stored fits = absurd (let no : None ≡ Some fits.0 = fits.1 in cc)
+goes_with None (Open store) images stored fits = record { repositories = stored.repositories; each = stored.each }
+
+is_against : (setup : Option Declarations) (store : Store) (images : List (ℕ → List ℕ)) → IsStoredIn images store → MisfitsStore setup store → IsAgainst setup images
+is_against (Some s) Fresh images stored misfits = absurd (let no : None ≡ Some misfits.0 = misfits.1 in cc)
+is_against (Some s) (Open store) images stored misfits = record { repositories = stored.repositories; each = stored.each }
+is_against None Fresh images stored misfits = stored
+is_against None (Open store) images stored misfits = absurd (let no : Some store.schemas ≡ None = misfits in cc)
+
+-- what fits the store that was found fits the disks
+pub fits_disks : (D : DiskBytes) (setup : Option Declarations) (store : Store) → IsStoredBy D store → FitsStore setup store → FitsDisks D setup
+fits_disks D setup store stored fits = record { each = λ images reads. goes_with setup store images (stored.each images reads) fits }
+
+misfits_disks : (D : DiskBytes) (setup : Option Declarations) (store : Store) → IsStoredBy D store → MisfitsStore setup store → MisfitsDisks D setup
+misfits_disks D setup store stored misfits = record { each = λ images reads. is_against setup store images (stored.each images reads) misfits }
+
+-- what is replied by a rule, where the script goes with the store
+pub rule_refused : (plan : Plan) (script : Script) (store : Store) → FitsStore script.setup store → (r : Reply) → RepliesRule plan script r → RepliesRefused plan script store r
+rule_refused plan script store fits r broken = inr (fits, broken)
+
+pub refused_unjudged : (D : DiskBytes) (plan : Plan) (script : Script) (store : Store) (r : Reply) → RepliesRefused plan script store r → RepliesUnjudged D plan script store r
+refused_unjudged D plan script store r refused = inr refused
+
 -- ---- what is replied to the script
 
 module _ (D : DiskBytes) (plan : Plan) (script : Script) where
   over_replies : (r : Reply) → RepliesOver script r → RepliesTo D plan script r
-  over_replies r over = subst (λ (w : Reply). RepliesTo D plan script w) (sym over.1.0) over.1.1
+  over_replies r over = subst (λ (w : Reply). RepliesTo D plan script w) (sym over.1.0) (inl over.1.1)
 
-  pub unjudged_replies : (r : Reply) → RepliesUnjudged plan script r → RepliesTo D plan script r
-  unjudged_replies r (inl over) = over_replies r over
-  unjudged_replies r (inr refused) = subst (λ (w : Reply). RepliesTo D plan script w) (sym refused.1.0) refused.1.1
+  pub unjudged_replies : (store : Store) → IsStoredBy D store → length script.clients ≤ 64 → length script.events ≤ 1000000 → (r : Reply) → RepliesUnjudged D plan script store r → RepliesTo D plan script r
+  unjudged_replies store stored clients events r (inl over) = subst (λ (w : Reply). RepliesTo D plan script w) (sym over.1.0)
+      (inr (record { clients = clients; events = events; store = store; stored = stored; over = over.1.1 }))
+  unjudged_replies store stored clients events r (inr (inl setup)) = subst (λ (w : Reply). RepliesTo D plan script w) (sym setup.0)
+      (setup.1.0, inl (refl, misfits_disks D script.setup store stored setup.1.1))
+  unjudged_replies store stored clients events r (inr (inr rule)) = subst (λ (w : Reply). RepliesTo D plan script w) (sym rule.1.1.0)
+      (rule.1.1.1.0, inr (fits_disks D script.setup store stored rule.0, rule.1.1.1.1))
 
   pub unopened_replies : (r : Reply) → RepliesUnopened r → RepliesTo D plan script r
   unopened_replies r (inl failed) = subst (λ (w : Reply). RepliesTo D plan script w) (sym failed.1) tt

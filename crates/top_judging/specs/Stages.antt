@@ -8,15 +8,16 @@ use Rattle.outside.specs.Streams.{IsMoreThan}
 use Rattle.script_bank.specs.Bank.{script_text}
 use Rattle.script_parse.specs.Script.{HasFew, IsRefusedText, IsWritten}
 use Rattle.script_parse.specs.declared.refusal.Refusal.{Refusal}
+use Rattle.script_parse.specs.declared.refusal.Refusal.TheVariants as refusals
 use Rattle.script_parse.specs.declared.script.Script.{Script}
 use Rattle.serial_model.specs.Replays.{AreMade}
 use Rattle.std.specs.Prelude.{◌≡◌, ◌⊎◌, ◌≤◌, ℕ, List, Option, Some, None, length}
-use Rattle.store_opening.specs.Reading.{IsOpened, IsStoredIn, schemas_in}
+use Rattle.store_opening.specs.Reading.{IsOpened, schemas_in}
 use Rattle.store_opening.specs.declared.found.Store.{Store}
 use Rattle.top_reply.specs.declared.reply.Reply.{Reply}
 use Rattle.top_reply.specs.declared.reply.Reply.TheVariants as reply
 use Rattle.top_statement.specs.Opening.{DiskBytes, IsAccepted}
-use Rattle.top_statement.specs.Top.{IsOverLimit, IsRefusalOf, IsWithinLimits, Told, WasRead}
+use Rattle.top_statement.specs.Top.{BreaksOn, IsOverFound, IsOverScript, IsWithinLimits, Told, WasRead}
 use Rattle.top_words.specs.declared.command.Plan.{Plan}
 
 -- ---- the script
@@ -28,9 +29,9 @@ pub record IsRead (bytes : List ℕ) (script : Script) : Type 0 where
   pub clients : length script.clients ≤ 64
   pub events : length script.events ≤ 1000000
 
--- what is replied to a script that passes a limit
+-- what is replied to a script that passes a limit of its own
 abbrev pub RepliesOver : Script → Reply → Type 0
-RepliesOver script r = (limit : ℕ) × ((r ≡ reply.Limit limit) × IsOverLimit script limit)
+RepliesOver script r = (limit : ℕ) × ((r ≡ reply.Limit limit) × IsOverScript script limit)
 
 -- what is replied to bytes that are no script, and to those of one that passes a limit
 abbrev pub RepliesText : List ℕ → Reply → Type 0
@@ -67,18 +68,38 @@ abbrev pub HasSchemas : Option Declarations → Store → Schemas → Type 0
 HasSchemas (Some setup) store base = Unit {0}
 HasSchemas None store base = schemas_in store ≡ Some base
 
+-- a setup goes with a fresh store, and a script without one with a store that is open
+abbrev pub FitsStore : Option Declarations → Store → Type 0
+FitsStore (Some setup) store = schemas_in store ≡ None
+FitsStore None store = (base : Schemas) × (schemas_in store ≡ Some base)
+
+abbrev pub MisfitsStore : Option Declarations → Store → Type 0
+MisfitsStore (Some setup) store = (base : Schemas) × (schemas_in store ≡ Some base)
+MisfitsStore None store = schemas_in store ≡ None
+
 -- a script that breaks no rule on the store that was found, with these schemas
 pub record IsJudged (plan : Plan) (script : Script) (store : Store) (base : Schemas) : Type 0 where
   pub accepted : IsAccepted plan.repos script base
   pub made : AreMade base
   pub within : IsWithinLimits script
+  pub fits : FitsStore script.setup store
   pub schemas : HasSchemas script.setup store base
 
--- what is replied to a script that passes a limit of the store, or is refused on it
-abbrev pub RepliesUnjudged : Plan → Script → Reply → Type 0
-RepliesUnjudged plan script r =
-    RepliesOver script r
-    ⊎ ((refusal : Refusal) × ((r ≡ reply.Refused refusal) × IsRefusalOf plan script refusal))
+-- what is replied to a script that breaks a rule
+abbrev pub RepliesRule : Plan → Script → Reply → Type 0
+RepliesRule plan script r = (refusal : Refusal) × ((r ≡ reply.Refused refusal) × (IsWithinLimits script × BreaksOn plan.repos script refusal))
+
+-- what is replied to a script that doesn't go with the store, or breaks a rule on it
+abbrev pub RepliesRefused : Plan → Script → Store → Reply → Type 0
+RepliesRefused plan script store r =
+    ((r ≡ reply.Refused refusals.Setup) × (IsWithinLimits script × MisfitsStore script.setup store))
+    ⊎ (FitsStore script.setup store × RepliesRule plan script r)
+
+-- and to one that passes a limit with the store
+abbrev pub RepliesUnjudged : DiskBytes → Plan → Script → Store → Reply → Type 0
+RepliesUnjudged DiskReads plan script store r =
+    ((limit : ℕ) × ((r ≡ reply.Limit limit) × IsOverFound DiskReads script store limit))
+    ⊎ RepliesRefused plan script store r
 
 -- what is replied where a store couldn't be read
 abbrev pub RepliesUnopened : Reply → Type 0
@@ -87,10 +108,6 @@ RepliesUnopened r = ((repo : ℕ) × (r ≡ reply.DiskFault repo)) ⊎ ((repo di
 -- what is replied where one was read and couldn't be opened then: a disk failed
 abbrev pub RepliesUnsettled : Reply → Type 0
 RepliesUnsettled r = (repo : ℕ) × (r ≡ reply.DiskFault repo)
-
--- what was found is what the disks hold
-pub record IsStoredBy (DiskReads : DiskBytes) (store : Store) : Type 0 where
-  pub each : (images : List (ℕ → List ℕ)) → DiskReads images → IsStoredIn images store
 
 -- where the script has no setup, the opened store is the one for which the disks stand
 abbrev pub IsOpenedAs : List (ℕ → List ℕ) → Option Declarations → Schemas → Plain → Type 0

@@ -5,7 +5,8 @@ ghost use Rattle.script_parse.specs.Script.{HasFew};
 ghost use Rattle.std.specs.Prelude.{IfErr, IfOk, List, length, vec_len, ◌≡◌, ◌≤◌};
 ghost use Rattle.store_opening.specs.Counts.{HasParts, parts_in};
 ghost use Rattle.store_opening.specs.Reading.{ReadAll};
-ghost use Rattle.top_judging.specs.Stages.{IsJudged, IsStoredBy, RepliesUnjudged};
+ghost use Rattle.top_judging.specs.Stages.{IsJudged, RepliesUnjudged};
+ghost use Rattle.top_statement.specs.Opening.{IsStoredBy};
 ghost use Rattle.top_statement.specs.Top.{RepliesTo};
 
 use crate::judging::base_in;
@@ -37,7 +38,7 @@ fn judged_on<P: Parts>(
     requires events { length script.now.events ≤ 1000000 }
     ensures judged { IfOk result (λ j. IsJudged plan.now script.now j.found.store j.base) }
     ensures found { IfOk result (λ j. j.found ≡ found) }
-    ensures reply { IfErr result (λ a. IfOk a.reply (RepliesUnjudged plan.now script.now)) }
+    ensures reply { (given : List P) → HasParts P.disks given found → IfErr result (λ a. IfOk a.reply (RepliesUnjudged (ReadAll P.disks given) plan.now script.now found.store)) }
     ensures parts { IfErr result (λ a. vec_len a.parts ≡ parts_in found) }
     ensures same { (given : List P) → HasParts P.disks given found → IfErr result (λ a. AreSame P.disks given a.parts.items) }
 {

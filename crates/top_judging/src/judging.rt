@@ -2,10 +2,12 @@
 
 ghost use Rattle.script_parse.specs.Script.{HasFew};
 ghost use Rattle.serial_model.specs.Replays.{AreMade};
-ghost use Rattle.std.specs.Prelude.{IfErr, IfOk, IfSome, None, length, ◌≡◌, ◌≤◌};
-ghost use Rattle.top_judging.specs.Stages.{IsJudged, RepliesUnjudged};
+ghost use Rattle.std.specs.Prelude.{IfErr, IfOk, IfSome, List, None, length, ◌≡◌, ◌≤◌};
+ghost use Rattle.store_opening.specs.Counts.{HasParts};
+ghost use Rattle.store_opening.specs.Reading.{ReadAll};
+ghost use Rattle.top_judging.specs.Stages.{IsJudged, RepliesRefused, RepliesRule, RepliesUnjudged};
 ghost use Rattle.top_statement.specs.Opening.{IsAccepted, IsBase};
-ghost use Rattle.top_statement.specs.Top.{IsOverLimit, IsRefusalOf, IsWithinLimits};
+ghost use Rattle.top_statement.specs.Top.{BreaksOn, IsOverFound, IsWithinLimits};
 
 use crate::starting::base_of;
 use class_defs::Schemas;
@@ -32,26 +34,27 @@ const COUNT_LIMIT: u64 = 2_305_843_009_213_693_952;
 fn passed_limit<P: Parts>(script: &Script, found: &Found<P>) -> Option<u64>
     requires clients { length script.now.clients ≤ 64 }
     requires events { length script.now.events ≤ 1000000 }
-    ensures passed { IfSome result (λ limit. IsOverLimit script.now limit) }
+    ensures passed { (given : List P) → HasParts P.disks given found.now → IfSome result (λ limit. IsOverFound (ReadAll P.disks given) script.now found.now.store limit) }
     ensures within { result ≡ None → IsWithinLimits script.now }
 {
     let upgrades = upgrade_count(script.clients.as_slice());
     if UPGRADE_LIMIT < found.epoch().saturating_add(upgrades) {
         return Some(UPGRADE_LIMIT as u64);
     }
-    if LIFE_LIMIT < found.greatest_life() {
+    if found.has_life_above(LIFE_LIMIT) {
         return Some(u64::from(LIFE_LIMIT));
     }
-    if COUNT_LIMIT < found.greatest_count() {
+    if found.has_count_above(COUNT_LIMIT) {
         return Some(COUNT_LIMIT);
     }
     None
 }
 
-/// The reply to a script that is refused.
+/// The reply to a script that breaks a rule.
 fn refused(plan: &Plan, script: &Script, refusal: Refusal) -> Result<Reply, NoMemory>
-    requires { IsRefusalOf plan.now script.now refusal }
-    ensures { IfOk result (RepliesUnjudged plan.now script.now) }
+    requires within { IsWithinLimits script.now }
+    requires breaks { BreaksOn plan.now.repos script.now refusal }
+    ensures { IfOk result (RepliesRule plan.now script.now) }
 {
     Ok(Reply::Refused { refusal })
 }
@@ -70,7 +73,7 @@ fn judged_on(
     ensures base { IfOk result (λ judged. judged ≡ base) }
     ensures made { IfOk result AreMade }
     ensures accepted { IfOk result (λ judged. IsAccepted plan.now.repos script.now judged) }
-    ensures reply { IfErr result (λ reply. IfOk reply (RepliesUnjudged plan.now script.now)) }
+    ensures reply { IfErr result (λ reply. IfOk reply (RepliesRule plan.now script.now)) }
 {
     match judge(alloc, last_schema(&base), script, plan.repos) {
         Ok(Some(broken)) => {
@@ -97,7 +100,7 @@ fn judged(
     ensures base { IfOk result (λ judged. judged ≡ base) }
     ensures made { IfOk result AreMade }
     ensures accepted { IfOk result (λ judged. IsAccepted plan.now.repos script.now judged) }
-    ensures reply { IfErr result (λ reply. IfOk reply (RepliesUnjudged plan.now script.now)) }
+    ensures reply { IfErr result (λ reply. IfOk reply (RepliesRule plan.now script.now)) }
 {
     if UPGRADE_LIMIT < base.upgraded.len() || !are_made(&base) {
         drop(base);
@@ -116,11 +119,13 @@ fn base_within<P: Parts>(
     requires few { HasFew script.now.setup }
     requires within { IsWithinLimits script.now }
     ensures judged { IfOk result (IsJudged plan.now script.now found.now.store) }
-    ensures reply { IfErr result (λ reply. IfOk reply (RepliesUnjudged plan.now script.now)) }
+    ensures reply { IfErr result (λ reply. IfOk reply (RepliesRefused plan.now script.now found.now.store)) }
 {
     match base_of(alloc, &script.setup, found) {
         Ok(Some(base)) => judged(alloc, plan, script, base),
-        Ok(None) => Err(refused(plan, script, Refusal::Setup)),
+        Ok(None) => Err(Ok(Reply::Refused {
+            refusal: Refusal::Setup,
+        })),
         Err(NoMemory) => Err(Err(NoMemory)),
     }
 }
@@ -136,7 +141,7 @@ pub(crate) fn base_in<P: Parts>(
     requires clients { length script.now.clients ≤ 64 }
     requires events { length script.now.events ≤ 1000000 }
     ensures judged { IfOk result (IsJudged plan.now script.now found.now.store) }
-    ensures reply { IfErr result (λ reply. IfOk reply (RepliesUnjudged plan.now script.now)) }
+    ensures reply { (given : List P) → HasParts P.disks given found.now → IfErr result (λ reply. IfOk reply (RepliesUnjudged (ReadAll P.disks given) plan.now script.now found.now.store)) }
 {
     match passed_limit(script, found) {
         Some(limit) => Err(Ok(Reply::Limit { limit })),

@@ -4,7 +4,7 @@ ghost use Rattle.script_bank.specs.Bank.{script_text};
 ghost use Rattle.std.specs.Prelude.{IfErr, IfOk, IfSome, None, length, ◌≡◌, ◌≤◌};
 ghost use Rattle.std.specs.String.{string_bytes};
 ghost use Rattle.top_judging.specs.Stages.{IsRead, IsReadFrom, IsScriptFor, RepliesOver, RepliesText, RepliesUnread, RepliesUnreadFor};
-ghost use Rattle.top_statement.specs.Top.{IsOverLimit, made_by, told_by};
+ghost use Rattle.top_statement.specs.Top.{IsOverScript, made_by, told_by};
 
 use outside::{ReadAll, Source, read_all};
 use script_bank::generate;
@@ -25,7 +25,7 @@ const EVENT_LIMIT: usize = 1_000_000;
 
 /// The limit on clients or events that a script passes.
 fn script_limit(script: &Script) -> Option<u64>
-    ensures passed { IfSome result (λ limit. IsOverLimit script.now limit) }
+    ensures passed { IfSome result (λ limit. IsOverScript script.now limit) }
     ensures clients { result ≡ None → length script.now.clients ≤ 64 }
     ensures events { result ≡ None → length script.now.events ≤ 1000000 }
 {

@@ -1,8 +1,8 @@
 //! With what a run begins: the schemas of the opened store, and the store itself.
 
-ghost use Rattle.std.specs.Prelude.{◌≡◌, ◌<◌, ◌^◌, IfOk, IfSome, length};
+ghost use Rattle.std.specs.Prelude.{◌≡◌, ◌<◌, ◌^◌, IfOk, IfSome, None, length};
 ghost use Rattle.script_parse.specs.Script.{HasFew};
-ghost use Rattle.top_judging.specs.Stages.{HasSchemas};
+ghost use Rattle.top_judging.specs.Stages.{FitsStore, HasSchemas, MisfitsStore};
 ghost use Rattle.top_statement.specs.Opening.{IsBase, first_schemas};
 
 use class_defs::{Declarations, Schemas, UpgradedSchemas};
@@ -33,10 +33,13 @@ pub(crate) fn base_of<P: Parts>(
     requires { HasFew setup.now }
     ensures base { IfOk result (λ base. IfSome base (IsBase setup.now)) }
     ensures schemas { IfOk result (λ base. IfSome base (HasSchemas setup.now found.now.store)) }
+    ensures fits { IfOk result (λ base. IfSome base (λ _. FitsStore setup.now found.now.store)) }
+    ensures misfits { IfOk result (λ base. base ≡ None → MisfitsStore setup.now found.now.store) }
 {
     match (setup, found.schemas()) {
         (Some(setup), None) => Ok(Some(first_schemas(alloc, setup)?)),
         (None, Some(schemas)) => Ok(Some(schemas.copy()?)),
-        (_, _) => Ok(None),
+        (Some(_), Some(_)) => Ok(None),
+        (None, None) => Ok(None),
     }
 }

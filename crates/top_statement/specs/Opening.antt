@@ -8,7 +8,9 @@ use Rattle.script_check.specs.Judging.{KeepsRules}
 use Rattle.script_check.specs.Opened.{opened, schema_of}
 use Rattle.script_check.specs.Upgrading.{last_schema}
 use Rattle.script_parse.specs.declared.script.Script.{Script}
-use Rattle.store_opening.specs.Reading.{IsOpened}
+use Rattle.store_opening.specs.Limits.{AnyHas}
+use Rattle.store_opening.specs.Reading.{AreOpen, IsFreshIn, IsOpened, IsStoredIn}
+use Rattle.store_opening.specs.declared.found.Store.{Store}
 
 -- the schemas of the store that a setup opens
 abbrev pub first_schemas : Declarations → Schemas
@@ -27,6 +29,34 @@ IsStore None base store = store.epoch ≡ length base.upgraded
 -- which bytes reads of the disks of all repositories give, where they tell them
 abbrev pub DiskBytes : Type 1
 DiskBytes = List (ℕ → List ℕ) → Type 0
+
+-- what was found of a store is what the disks hold
+pub record IsStoredBy (DiskReads : DiskBytes) (store : Store) : Type 0 where
+  pub each : (images : List (ℕ → List ℕ)) → DiskReads images → IsStoredIn images store
+
+-- of the repositories' disks those of one are so
+pub record OneOfDisks (DiskReads : DiskBytes) (Is : (ℕ → List ℕ) → Type 0) : Type 0 where
+  pub each : (images : List (ℕ → List ℕ)) → DiskReads images → AnyHas Is images
+
+-- ---- setup and fresh store
+
+-- A setup goes with a fresh store, and a script without one with a store that is open: repository 0 tells whether it is fresh.
+abbrev pub GoesWith : Option Declarations → List (ℕ → List ℕ) → Type 0
+GoesWith (Some setup) images = IsFreshIn images
+GoesWith None images = AreOpen images
+
+-- a setup, and a store that is open; or none, and a fresh one
+abbrev pub IsAgainst : Option Declarations → List (ℕ → List ℕ) → Type 0
+IsAgainst (Some setup) images = AreOpen images
+IsAgainst None images = IsFreshIn images
+
+pub record FitsDisks (DiskReads : DiskBytes) (setup : Option Declarations) : Type 0 where
+  pub each : (images : List (ℕ → List ℕ)) → DiskReads images → GoesWith setup images
+
+pub record MisfitsDisks (DiskReads : DiskBytes) (setup : Option Declarations) : Type 0 where
+  pub each : (images : List (ℕ → List ℕ)) → DiskReads images → IsAgainst setup images
+
+-- ---- the store
 
 -- A store that was there is the one for which the disks stand, with these schemas.
 abbrev pub IsOfDisks : DiskBytes → Option Declarations → Schemas → Plain → Type 0

@@ -1,5 +1,5 @@
 -- What the program replies (this project's): for each reply what is true where it is given.
-use Rattle.std.specs.Prelude.{◌≡◌, ◌⊎◌, ℕ, Bool, List, Option, None, Some, length, ◌≤◌, ◌<◌}
+use Rattle.std.specs.Prelude.{◌≡◌, ◌⊎◌, ◌+◌, ℕ, Bool, List, Option, None, Some, length, ◌≤◌, ◌<◌}
 use Rattle.script_bank.specs.Bank.{script_text}
 use Rattle.outside.specs.Faults.{Rose}
 use Rattle.outside.specs.Streams.{IsAtEnd, IsMoreThan, Took}
@@ -10,7 +10,10 @@ use Rattle.script_parse.specs.Script.{IsRefusedText, IsWritten}
 use Rattle.script_parse.specs.declared.refusal.Refusal.{Refusal}
 use Rattle.script_parse.specs.declared.refusal.Refusal.TheVariants as refusal
 use Rattle.script_parse.specs.declared.script.Script.{Script}
-use Rattle.top_statement.specs.Opening.{DiskBytes, IsAccepted, IsBase}
+use Rattle.store_opening.specs.Limits.{HasCountAbove, HasLifeAbove}
+use Rattle.store_opening.specs.Reading.{epochs_in}
+use Rattle.store_opening.specs.declared.found.Store.{Store}
+use Rattle.top_statement.specs.Opening.{DiskBytes, FitsDisks, IsAccepted, IsBase, IsStoredBy, MisfitsDisks, OneOfDisks}
 use Rattle.top_statement.specs.Reports.{IsReport}
 use Rattle.top_words.specs.Words.{plan_of}
 use Rattle.top_words.specs.declared.command.Command.{Command}
@@ -120,16 +123,31 @@ pub record IsWithinLimits (script : Script) : Type 0 where
   pub events : length script.events ≤ 1000000
   pub upgrades : length (upgrades_of script.clients) ≤ 1000
 
--- A limit of the store as it is opened: on upgrades, those of the script included; on lives; on sequences and on entries.
-abbrev pub IsOverStore : ℕ → Type 0
-IsOverStore limit = (limit ≡ 1000) ⊎ ((limit ≡ 4290000000) ⊎ (limit ≡ 2305843009213693952))
+-- the first limit of a script's own that is passed
+abbrev pub IsOverScript : Script → ℕ → Type 0
+IsOverScript script limit =
+    ((64 < length script.clients) × (limit ≡ 64))
+    ⊎ ((length script.clients ≤ 64) × (1000000 < length script.events) × (limit ≡ 1000000))
+
+-- A limit of a store that is passed as it is opened: on upgrades, those of the script included; on the lives of its repositories; on
+-- the sequences of their logs and the entries of their histories.
+abbrev pub IsOverFound : DiskBytes → Script → Store → ℕ → Type 0
+IsOverFound DiskReads script store limit =
+    ((limit ≡ 1000) × (1000 < epochs_in store + length (upgrades_of script.clients)))
+    ⊎ (((limit ≡ 4290000000) × OneOfDisks DiskReads (HasLifeAbove 4290000000))
+    ⊎ ((limit ≡ 2305843009213693952) × OneOfDisks DiskReads (HasCountAbove 2305843009213693952)))
+
+-- The store that the disks hold passes it, and the script passes none of its own.
+pub record IsOverStore (DiskReads : DiskBytes) (script : Script) (limit : ℕ) : Type 0 where
+  pub clients : length script.clients ≤ 64
+  pub events : length script.events ≤ 1000000
+  pub store : Store
+  pub stored : IsStoredBy DiskReads store
+  pub over : IsOverFound DiskReads script store limit
 
 -- the first limit that is passed
-abbrev pub IsOverLimit : Script → ℕ → Type 0
-IsOverLimit script limit =
-    ((64 < length script.clients) × (limit ≡ 64))
-    ⊎ (((length script.clients ≤ 64) × (1000000 < length script.events) × (limit ≡ 1000000))
-    ⊎ ((length script.clients ≤ 64) × (length script.events ≤ 1000000) × IsOverStore limit))
+abbrev pub IsOverLimit : DiskBytes → Script → ℕ → Type 0
+IsOverLimit DiskReads script limit = IsOverScript script limit ⊎ IsOverStore DiskReads script limit
 
 -- the source has more bytes than a script may have
 abbrev pub IsTooLong : Command → Told → ℕ → Type 0
@@ -139,27 +157,31 @@ IsTooLong command before limit = Reads command × (IsMoreThan 8388608 before.lef
 
 -- the command tells runs in this form, and the text is that of the script's run
 abbrev pub IsRunOf : DiskBytes → Form → Plan → Script → Bool → List ℕ → Type 0
-IsRunOf DiskReads f plan script finished text = (form_of plan.command ≡ Some f) × (IsWithinLimits script × IsReport DiskReads (running_of plan.command) f plan.repos script finished text)
+IsRunOf DiskReads f plan script finished text = (form_of plan.command ≡ Some f) × (IsWithinLimits script × (FitsDisks DiskReads script.setup × IsReport DiskReads (running_of plan.command) f plan.repos script finished text))
 
 -- the command is `check`, and the script breaks no rule on the store that was found
-abbrev pub IsCheckOf : Plan → Script → Type 0
-IsCheckOf plan script = (plan.command ≡ Check) × (IsWithinLimits script × ((base : Schemas) × IsAccepted plan.repos script base))
+abbrev pub IsCheckOf : DiskBytes → Plan → Script → Type 0
+IsCheckOf DiskReads plan script = (plan.command ≡ Check) × (IsWithinLimits script × (FitsDisks DiskReads script.setup × ((base : Schemas) × IsAccepted plan.repos script base)))
+
+-- it breaks a rule on a store with these schemas
+abbrev pub BreaksOn : ℕ → Script → Refusal → Type 0
+BreaksOn repos script r = (base : Schemas) × (IsBase script.setup base × BreaksRule (last_schema base) repos script r)
 
 -- A script is refused where it has no setup and the store is fresh, or has one and the store isn't; else where it breaks a rule
 -- on the store.
-abbrev pub IsRefused : ℕ → Script → Refusal → Type 0
-IsRefused repos script r = (r ≡ refusal.Setup) ⊎ ((base : Schemas) × (IsBase script.setup base × BreaksRule (last_schema base) repos script r))
+abbrev pub IsRefused : DiskBytes → ℕ → Script → Refusal → Type 0
+IsRefused DiskReads repos script r = ((r ≡ refusal.Setup) × MisfitsDisks DiskReads script.setup) ⊎ (FitsDisks DiskReads script.setup × BreaksOn repos script r)
 
-abbrev pub IsRefusalOf : Plan → Script → Refusal → Type 0
-IsRefusalOf plan script r = IsWithinLimits script × IsRefused plan.repos script r
+abbrev pub IsRefusalOf : DiskBytes → Plan → Script → Refusal → Type 0
+IsRefusalOf DiskReads plan script r = IsWithinLimits script × IsRefused DiskReads plan.repos script r
 
 -- a reply to a script that was read: what is true of it
 abbrev pub RepliesTo : DiskBytes → Plan → Script → Reply → Type 0
 RepliesTo DiskReads plan script (reply.Report finished text) = IsRunOf DiskReads form.Report plan script finished text
 RepliesTo DiskReads plan script (reply.Summary finished text) = IsRunOf DiskReads form.Summary plan script finished text
-RepliesTo DiskReads plan script reply.Accepted = IsCheckOf plan script
-RepliesTo DiskReads plan script (reply.Refused r) = IsRefusalOf plan script r
-RepliesTo DiskReads plan script (reply.Limit limit) = IsOverLimit script limit
+RepliesTo DiskReads plan script reply.Accepted = IsCheckOf DiskReads plan script
+RepliesTo DiskReads plan script (reply.Refused r) = IsRefusalOf DiskReads plan script r
+RepliesTo DiskReads plan script (reply.Limit limit) = IsOverLimit DiskReads script limit
 RepliesTo DiskReads plan script (reply.DiskFault repo) = Unit {0}
 RepliesTo DiskReads plan script (reply.Damaged repo disk place) = Unit {0}
 RepliesTo DiskReads plan script reply.Words = ⊥
@@ -172,16 +194,16 @@ abbrev pub SaysRun : DiskBytes → Form → (Plan → Type 0) → Told → Told 
 SaysRun DiskReads f Like before after finished text = ByPlan Like (λ plan. OfScript plan before after (λ script. IsRunOf DiskReads f plan script finished text))
 
 -- the script breaks no rule
-abbrev pub SaysAccepted : (Plan → Type 0) → Told → Told → Type 0
-SaysAccepted Like before after = ByPlan Like (λ plan. OfScript plan before after (λ script. IsCheckOf plan script))
+abbrev pub SaysAccepted : DiskBytes → (Plan → Type 0) → Told → Told → Type 0
+SaysAccepted DiskReads Like before after = ByPlan Like (λ plan. OfScript plan before after (λ script. IsCheckOf DiskReads plan script))
 
 -- the bytes are no script, or the script is refused
-abbrev pub SaysRefused : (Plan → Type 0) → Told → Told → Refusal → Type 0
-SaysRefused Like before after r = ByPlan Like (λ plan. OfBytes plan before after (λ bytes. IsRefusedText bytes r) ⊎ OfScript plan before after (λ script. IsRefusalOf plan script r))
+abbrev pub SaysRefused : DiskBytes → (Plan → Type 0) → Told → Told → Refusal → Type 0
+SaysRefused DiskReads Like before after r = ByPlan Like (λ plan. OfBytes plan before after (λ bytes. IsRefusedText bytes r) ⊎ OfScript plan before after (λ script. IsRefusalOf DiskReads plan script r))
 
 -- the script passes this limit, or the store does, or the source
-abbrev pub SaysLimit : (Plan → Type 0) → Told → Told → ℕ → Type 0
-SaysLimit Like before after limit = ByPlan Like (λ plan. OfScript plan before after (λ script. IsOverLimit script limit) ⊎ IsTooLong plan.command before limit)
+abbrev pub SaysLimit : DiskBytes → (Plan → Type 0) → Told → Told → ℕ → Type 0
+SaysLimit DiskReads Like before after limit = ByPlan Like (λ plan. OfScript plan before after (λ script. IsOverLimit DiskReads script limit) ⊎ IsTooLong plan.command before limit)
 
 -- a disk of a repository failed while the store was opened; the bytes are a script
 abbrev pub SaysDisk : (Plan → Type 0) → Told → Told → ℕ → Type 0
@@ -203,9 +225,9 @@ SaysSource Like before after = ByPlan Like (λ plan. Reads plan.command × Rose 
 abbrev pub Says : DiskBytes → (Plan → Type 0) → Type 0 → Told → Told → Reply → Type 0
 Says DiskReads Like NoPlan before after (reply.Report finished text) = SaysRun DiskReads form.Report Like before after finished text
 Says DiskReads Like NoPlan before after (reply.Summary finished text) = SaysRun DiskReads form.Summary Like before after finished text
-Says DiskReads Like NoPlan before after reply.Accepted = SaysAccepted Like before after
-Says DiskReads Like NoPlan before after (reply.Refused r) = SaysRefused Like before after r
-Says DiskReads Like NoPlan before after (reply.Limit limit) = SaysLimit Like before after limit
+Says DiskReads Like NoPlan before after reply.Accepted = SaysAccepted DiskReads Like before after
+Says DiskReads Like NoPlan before after (reply.Refused r) = SaysRefused DiskReads Like before after r
+Says DiskReads Like NoPlan before after (reply.Limit limit) = SaysLimit DiskReads Like before after limit
 Says DiskReads Like NoPlan before after (reply.DiskFault repo) = SaysDisk Like before after repo
 Says DiskReads Like NoPlan before after (reply.Damaged repo disk place) = SaysDamaged Like before after repo disk place
 Says DiskReads Like NoPlan before after reply.Words = SaysWords NoPlan before after

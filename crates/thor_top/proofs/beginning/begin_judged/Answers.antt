@@ -2,7 +2,7 @@ use Rattle.std.proofs.Common.{IfOk}
 use Rattle.store_opening.specs.Reading.{ReadAll}
 use Rattle.thor_top.proofs.StageLaws.{foretells_map, no_form, ok_always, run_replies, unsettled_writes}
 use Rattle.thor_top.specs.Stages.{Foretells, IsPlayed, RepliesRun}
-use Rattle.top_judging.proofs.StageLaws.{err_map, ok_map, unsettled_replies}
+use Rattle.top_judging.proofs.StageLaws.{err_map, fits_disks, ok_map, unsettled_replies}
 use Rattle.top_judging.specs.Stages.{RepliesUnsettled}
 use Rattle.top_statement.specs.Top.{RepliesTo, running_of}
 use Rattle.thor_top.proofs.beginning.begin_judged.Goals as goal
@@ -13,16 +13,17 @@ returns-in-Some-clause-foretells g c = λ given stored.
     let plan = c.args.plan.now in
     let form = c.in-Some.form in
     let run_told = RepliesRun D (running_of plan.command) form plan.repos c.args.script in
+    let fits = fits_disks D c.args.script.setup c.args.judged.found.store stored c.requires.fits in
     let replied = RepliesTo D plan c.args.script in
     ok_map c.open_run.result (λ run. Foretells run_told run.expected) (λ run. Foretells replied run.expected)
-    (λ run. foretells_map run_told replied run.expected (run_replies D plan c.args.script form c.in-Some.ensures c.requires.within))
+    (λ run. foretells_map run_told replied run.expected (run_replies D plan c.args.script form c.in-Some.ensures c.requires.within fits))
     (c.open_run.ensures.foretells given stored)
 
 pub returns-in-Some-clause-played : goal.returns-in-Some-clause-played
 returns-in-Some-clause-played g c = ok_always c.open_run.result (IsPlayed c.args.plan.now.command) (c.in-Some.form, c.in-Some.ensures)
 
 pub returns-in-Some-clause-reply : goal.returns-in-Some-clause-reply
-returns-in-Some-clause-reply g c = λ given.
+returns-in-Some-clause-reply g c = λ given stored.
     let D = ReadAll g.P.Parts.disks given in
     let plan = c.args.plan.now in
     err_map c.open_run.result (λ a. IfOk a.reply RepliesUnsettled) (λ a. IfOk a.reply (RepliesTo D plan c.args.script))

@@ -4,6 +4,7 @@ use Rattle.thor_value.specs.declared.memory.NoMemory.{NoMemory}
 use Rattle.top_judging.proofs.StageLaws.{err_map, ok_map, unjudged_replies, unopened_replies}
 use Rattle.top_judging.specs.Stages.{RepliesUnjudged, RepliesUnopened}
 use Rattle.top_reply.specs.declared.reply.Reply.{Reply}
+use Rattle.top_statement.specs.Opening.{IsStoredBy}
 use Rattle.top_statement.specs.Top.{RepliesTo}
 use Rattle.top_judging.proofs.finding.find.Goals as goal
 
@@ -12,9 +13,11 @@ returns-in-Ok-clause-reply g c =
     let D = ReadAll g.P.Parts.disks c.args.parts.items in
     let plan = c.args.plan.now in
     let script = c.args.script.now in
-    err_map c.judged_on.result (λ a. IfOk a.reply (RepliesUnjudged plan script)) (λ a. IfOk a.reply (RepliesTo D plan script))
-    (λ a. ok_map a.reply (RepliesUnjudged plan script) (RepliesTo D plan script) (unjudged_replies D plan script))
-    c.judged_on.ensures.reply
+    let store = c.in-Ok.found.store in
+    let stored : IsStoredBy D store = record { each = c.in-Ok.ensures.stored } in
+    err_map c.judged_on.result (λ a. IfOk a.reply (RepliesUnjudged D plan script store)) (λ a. IfOk a.reply (RepliesTo D plan script))
+    (λ a. ok_map a.reply (RepliesUnjudged D plan script store) (RepliesTo D plan script) (unjudged_replies D plan script store stored c.requires.clients c.requires.events))
+    (c.judged_on.ensures.reply c.args.parts.items c.in-Ok.ensures.found)
 
 pub returns-in-Err-clause-reply : goal.returns-in-Err-clause-reply
 returns-in-Err-clause-reply g c =

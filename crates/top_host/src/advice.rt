@@ -1,7 +1,7 @@
 //! What is told to the person at the program, beside its answer.
 
 use crate::noting::Noted;
-use thor_top::Status;
+use top_reply::Status;
 
 /// What is told where memory was not there, and no run came to its end.
 pub const NO_MEMORY: &str =
