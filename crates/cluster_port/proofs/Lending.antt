@@ -2,7 +2,7 @@
 use Rattle.client_port.specs.Growing.{Called, Grew}
 use Rattle.client_port.specs.Views.{Calm, Halted, MayCome, Opened, Unsettled, View}
 use Rattle.client_port.specs.Works.{Answered, Does, IsDown}
-use Rattle.cluster_port.specs.Lent.{AreInPlace, trace_at, unsettled_at, view_of}
+use Rattle.cluster_port.specs.Lent.{AreInPlace, Lent, trace_at, unsettled_at, view_of}
 use Rattle.law_client_views.proofs.Grown.{none_grew}
 use Rattle.law_client_views.proofs.Stopping.{does_down}
 use Rattle.law_client_views.specs.Standing.{is_client, unsettled_of}
@@ -191,3 +191,19 @@ past sites i n count out = by (slice_get_cases sites i).1
 -- none at a place
 pub none_at : {X : Type 0} (run : Run) (c : ℕ) (sites : List Sited) (r i n : ℕ) → i ≡ r → n ≡ length sites → (i < n → false ≡ true) → (result : Result X Refusal) (work : Base → List Item → List Item → Unsettled → Type 0) → IsDown r result → Does (view_of run c sites) (view_of run c sites) r result work
 none_at run c sites r i n place count out result work d = none_there run c sites r result work (ap (slice_get sites) (sym place) ∙ past sites i n count out) d
+
+-- ---- what is lent
+
+abbrev pub lent_to : ℕ → List Sited → Lent
+lent_to c sites = record { client = c; sites = sites }
+
+-- one of those that are lent, as they are seen
+pub lent_in : {X : Type 0} (run : Run) (c : ℕ) (sites : List Sited) (l : Lent) (r i n : ℕ) (old new : Sited) → lent_to c sites ≡ l → AreInPlace sites → Happens run old new → i ≡ r → n ≡ length sites → i < n → old ≡ get_or sites i old → (result : Result X Refusal) (work : Base → List Item → List Item → Unsettled → Type 0)
+    → SiteShows run c old new result work → Does (view_of run l.client l.sites) (view_of run c (slice_set sites i new)) r result work
+lent_in run c sites l r i n old new is a happens place count within found result work h =
+    subst (λ (k : Lent). Does (view_of run k.client k.sites) (view_of run c (slice_set sites i new)) r result work) is (lent_at run c sites r i n old new a happens place count within found result work h)
+
+-- none of them
+pub none_in : {X : Type 0} (run : Run) (c : ℕ) (sites : List Sited) (l : Lent) (r i n : ℕ) → lent_to c sites ≡ l → i ≡ r → n ≡ length sites → (i < n → false ≡ true) → (result : Result X Refusal) (work : Base → List Item → List Item → Unsettled → Type 0) → IsDown r result → Does (view_of run l.client l.sites) (view_of run c sites) r result work
+none_in run c sites l r i n is place count out result work d =
+    subst (λ (k : Lent). Does (view_of run k.client k.sites) (view_of run c sites) r result work) is (none_at run c sites r i n place count out result work d)

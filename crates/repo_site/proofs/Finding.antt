@@ -1,6 +1,6 @@
 -- What a request has found that has passed all tests, or whose session isn't live.
 use Rattle.base_reasons.specs.declared.reason.Reason.TheVariants as reasons
-use Rattle.law_repo_calls.proofs.Asked.{Found, no_life_alone}
+use Rattle.law_repo_calls.proofs.Asked.{Found, IsNoLife}
 use Rattle.law_repo_calls.proofs.Requests.{is_made, may_alone, may_share, was_refused}
 use Rattle.law_repo_calls.specs.Seen.{StandsRight, seen}
 use Rattle.law_repo_calls.specs.Vouching.{IsCounted, IsSent}
@@ -10,6 +10,8 @@ use Rattle.law_repo_memory.specs.Agreeing.{state_of, trace_of}
 use Rattle.law_repo_calls.proofs.Phases.{agreement, right_up}
 use Rattle.law_repo_runs.specs.Happening.{MayMake, WasRefused}
 use Rattle.log_entries.specs.declared.entry.Entry.TheVariants.{Prepared}
+use Rattle.log_entries.specs.declared.request.Kind.TheVariants.{App, Transform, Upgrade}
+use Rattle.log_entries.specs.declared.request.Kind.{Kind}
 use Rattle.log_entries.specs.declared.request.Request.{Request}
 use Rattle.repo_core.specs.Behind.{alone_entry, epoch_of}
 use Rattle.repo_core.specs.Calls.{MayRequest, full_of, judged}
@@ -85,9 +87,14 @@ module _ (b : Base) (x : Shown) (number repos s : ℕ) (q : Request) (alone : Bo
       subst (λ (n : ℕ). traced.verdict b (trace_of x.trace) n q ≡ None) own
       (accepted-by-trace b x.trace x.held x.memory q.session q (agreement b x k up) (session-answers b (trace_of x.trace) x.memory.sessions (right_up b x k up).stands.1) (is_made b x k up s q alone may sent none).accepted)
 
+no_life : (kind : Kind) (q : Request) → IsNoLife (alone_entry kind q)
+no_life App q = tt
+no_life Transform q = tt
+no_life (Upgrade text) q = tt
+
 pub found_if_alone : (b : Base) (x : Shown) (number repos s : ℕ) (q : Request) → IsBaseOf b number repos → StandsRight b x → MayRequest x.held x.memory q true → q.session ≡ s → IsCounted x → IsTestedIf x repos s q → Found b x s q (alone_entry q.kind q)
 found_if_alone b x number repos s q base k may own counted t = record {
-  no_life = no_life_alone q.kind q;
+  no_life = no_life q.kind q;
   may = λ up none. may_alone b x k up s q true may (sent_if b x number repos s q true base k up may own counted t (live_of_none x s q none)) refl none q.kind refl;
   refused = λ up r e. refused_if b x number repos s q true base k up may own counted t r e;
 }

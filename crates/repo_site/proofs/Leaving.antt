@@ -111,11 +111,11 @@ module _ (b : Base) (x y : Shown) (u : Unsettled) (k : StandsRight b x) (after :
   pub sessions : SessionsAgree b T x.memory.sessions
   sessions = (right_up b x k up).stands.1
 
-  fallen : (r : Refusal) → y.is_up ≡ cond (is_fault r) false x.is_up → is_fault r ≡ true → y.is_up ≡ false
+  pub fallen : (r : Refusal) → y.is_up ≡ cond (is_fault r) false x.is_up → is_fault r ≡ true → y.is_up ≡ false
   fallen r u f = u ∙ ap (λ (t : Bool). cond t false x.is_up) f
 
-  standing : (r : Refusal) → y.is_up ≡ cond (is_fault r) false x.is_up → is_fault r ≡ false → y.is_up ≡ true
-  standing r u f = u ∙ (ap (λ (t : Bool). cond t false x.is_up) f ∙ up)
+  pub stays_up : (r : Refusal) → y.is_up ≡ cond (is_fault r) false x.is_up → is_fault r ≡ false → y.is_up ≡ true
+  stays_up r u f = u ∙ (ap (λ (t : Bool). cond t false x.is_up) f ∙ up)
 
   pub is_down_never : (W : Refusal → Type 0) (D : Type 0) (n : ℕ) → CanRefuse x W D (refused.Down n) → ⊥
   is_down_never W D n why = never_both x.is_up up (why.down n refl).0
@@ -128,7 +128,7 @@ module _ (b : Base) (x y : Shown) (u : Unsettled) (k : StandsRight b x) (after :
   pub unmarked : (s : ℕ) (D : Type 0) (r : Refusal) → y.is_up ≡ cond (is_fault r) false x.is_up → Leaves x y None r → y.trace ≡ x.trace → CanRefuse x (IsGone x.memory s) D r → RefusedUnmarked b T s r S u
   unmarked s D (refused.Reason q) stands left same why =
       let g : IsGone x.memory s (refused.Reason q) = (why.reason q refl).1 in
-      subst (λ (v : Unsettled). RefusedUnmarked b T s (refused.Reason q) S v) (sym (calm y u m (standing (refused.Reason q) stands refl)))
+      subst (λ (v : Unsettled). RefusedUnmarked b T s (refused.Reason q) S v) (sym (calm y u m (stays_up (refused.Reason q) stands refl)))
       (subst (λ (R : List Item). RefusedUnmarked b T s (refused.Reason q) R Calm) (sym (ap trace_of same))
       (subst (λ (r : Refusal). RefusedUnmarked b T s r T Calm) (sym g.0) (is_gone b T x.memory.sessions s sessions g.1)))
   unmarked s D (refused.Down n) stands left same why = absurd (is_down_never (IsGone x.memory s) D n why)

@@ -19,5 +19,5 @@ opened_in run number repos h view (Err e) r up trace begins = tt
 
 pub formatted_in : (run : Run) (number repos : ℕ) (setup : Setup) (mob : ℕ) {P E : Type 0} (view : P → Shown) (result : Result P E) → BeginsNew run number repos setup mob → IfOk result (λ x. (view x).is_up ≡ true) → IfOk result (λ x. (view x).trace ≡ with_entry nothing (Life 1))
     → IfOk result (λ x. IsNew number repos setup mob (view x)) → IfOk result (λ x. StandsIn run number repos (view x))
-formatted_in run number repos setup mob {P} {E} view (Ok x) r up trace new = record { base = r.base; right = λ based. formatted_right (run.base number) number repos setup mob {P} {E} view (Ok x) (r.begins based) up trace new }
+formatted_in run number repos setup mob {P} {E} view (Ok x) r up trace new = record { base = r.base; right = λ based. formatted_right (run.base number) number repos setup mob {P = P} {E = E} view (Ok x) (r.begins based) up trace new }
 formatted_in run number repos setup mob view (Err e) r up trace new = tt

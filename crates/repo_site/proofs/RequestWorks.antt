@@ -25,7 +25,7 @@ use Rattle.repo_durable.specs.Kept.{is_fault}
 use Rattle.repo_refusals.specs.declared.refusal.Refusal.TheVariants as refused
 use Rattle.repo_refusals.specs.declared.refusal.Refusal.{Refusal}
 use Rattle.repo_sessions.specs.Sessions.{has_session}
-use Rattle.repo_site.proofs.Leaving.{behind_refusal, calm, entered_is, fallen, halted, have_halted, have_left, idle, is_down_never, left_with, marked_is, outage, sessions, standing}
+use Rattle.repo_site.proofs.Leaving.{behind_refusal, calm, entered_is, fallen, halted, have_halted, have_left, idle, is_down_never, left_with, marked_is, outage, sessions, stays_up}
 use Rattle.repo_site.specs.Working.{MayLeave}
 use Rattle.repo_trace.specs.Recorded.{with_entry, with_mark}
 use Rattle.session_outbox.specs.declared.answers.Asked as answer
@@ -114,6 +114,13 @@ and_one true true h e = cc
 and_one true false h e = cc
 and_one false y h e = refl
 
+abbrev err_of : (X : Type 0) → Refusal → Result X Refusal
+err_of X e = Err e
+
+-- what is so of an answer that is damaged
+damaged_by : (X : Type 0) (r : Refusal) (G : Type 0) → ((n place : ℕ) → IsErrOf {T = X} (Err r) (refused.Damaged n place) → G) → (n place : ℕ) → r ≡ refused.Damaged n place → G
+damaged_by X r G f n place is = f n place (ap (err_of X) is)
+
 -- one that is up isn't refused since it is down
 pub only_down : {X : Type 0} (x : Shown) (W : Refusal → Type 0) (D : Type 0) (result : Result X Refusal) → IfErr result (CanRefuse x W D) → x.is_up ≡ true → IfErr result (λ r. (n : ℕ) → r ≡ refused.Down n → ⊥)
 only_down x W D (Ok t) why up = tt
@@ -165,14 +172,14 @@ module _ (b : Base) (x y : Shown) (u : Unsettled) (k : StandsRight b x) (after :
   pub prepare_works : (s : ℕ) (q : Request) (result : Result ℕ Refusal) → (judged x.held x.memory s q ≡ None → verdict b T s q ≡ None) → Stands x.is_up result y.is_up → OnOk result (judged x.held x.memory s q ≡ None) → IfOk result (λ place. place ≡ length x.trace.history) → OnOk result (y.trace ≡ with_entry x.trace (Prepared q))
       → IfErr result (λ r. y.trace ≡ with_refusal x.trace s (Some q) r) → IfErr result (Leaves x y (made_of (judged x.held x.memory s q) (Prepared q))) → IfErr result (λ r. (n : ℕ) → r ≡ refused.Down n → ⊥) → ((n place : ℕ) → IsErrOf result (refused.Damaged n place) → GoesDown x y None) → PrepareWork s q result b T S u
   prepare_works s q (Ok place) valid stands none at trace refused left never damaged = (valid none, at ∙ ap length (sym history), entry_comes (Prepared q) stands.1 trace)
-  prepare_works s q (Err r) valid stands none at trace refused left never damaged = request_refused s q (Prepared q) (judged x.held x.memory s q) r valid stands left refused never damaged
+  prepare_works s q (Err r) valid stands none at trace refused left never damaged = request_refused s q (Prepared q) (judged x.held x.memory s q) r valid stands left refused never (damaged_by ℕ r (GoesDown x y None) damaged)
 
   pub commit_works : (s : ℕ) (q : Request) (result : Result ℕ Refusal) → (judged x.held x.memory s q ≡ None → verdict b T s q ≡ None) → Stands x.is_up result y.is_up → OnOk result (judged x.held x.memory s q ≡ None) → IfOk result (λ place. place ≡ length x.trace.history) → OnOk result (y.trace ≡ with_entry x.trace (core.alone_entry q.kind q))
       → IfErr result (λ r. y.trace ≡ with_refusal x.trace s (Some q) r) → IfErr result (Leaves x y (made_of (judged x.held x.memory s q) (core.alone_entry q.kind q))) → IfErr result (λ r. (n : ℕ) → r ≡ refused.Down n → ⊥) → ((n place : ℕ) → IsErrOf result (refused.Damaged n place) → GoesDown x y None) → CommitWork s q result b T S u
   commit_works s q (Ok place) valid stands none at trace refused left never damaged =
       (valid none, at ∙ ap length (sym history), entry_comes (alone_entry q) stands.1 (trace ∙ ap (with_entry x.trace) (same_entry q)))
   commit_works s q (Err r) valid stands none at trace refused left never damaged =
-      request_refused s q (alone_entry q) (judged x.held x.memory s q) r valid stands (subst (λ (e : Entry). Leaves x y (made_of (judged x.held x.memory s q) e) r) (same_entry q) left) refused never damaged
+      request_refused s q (alone_entry q) (judged x.held x.memory s q) r valid stands (subst (λ (e : Entry). Leaves x y (made_of (judged x.held x.memory s q) e) r) (same_entry q) left) refused never (damaged_by ℕ r (GoesDown x y None) damaged)
 
   -- ---- decisions and verdicts
 
@@ -220,7 +227,7 @@ module _ (b : Base) (x y : Shown) (u : Unsettled) (k : StandsRight b x) (after :
       → IfErr result (Leaves x y (cond (has_session x.memory.sessions s) (cond (has_prepared x.held s t) (Some (Decided t c)) None) None)) → IfErr result (CanRefuse x (IsEnded x.memory s) D) → ((n place : ℕ) → IsErrOf result (refused.Damaged n place) → GoesDown x y None) → DecideWork s t c result b T S u
   decide_works s t c D (Ok v) own test stands live trace is same left why damaged =
       (sym (unended_answer b T x.memory.sessions s (sessions b x y u k after up m)) ∙ live, is.tx, subst (λ (p : Bool). Decides p t c v b T S u) (prepared_is s t) (decided_so s t c v own test stands.1 trace is (has_prepared x.held s t) refl))
-  decide_works s t c D (Err r) own test stands live trace is same left why damaged = by r stands left why damaged
+  decide_works s t c D (Err r) own test stands live trace is same left why damaged = by r stands left why (damaged_by Verdict r (GoesDown x y None) damaged)
     where
       entry_of : (l : Bool) → cond l (cond (has_prepared x.held s t) (Some (Decided t c)) None) None ≡ cond (l && has_prepared x.held s t) (Some (Decided t c)) None
       entry_of true = refl
@@ -247,7 +254,7 @@ module _ (b : Base) (x y : Shown) (u : Unsettled) (k : StandsRight b x) (after :
           → ((n place : ℕ) → r ≡ refused.Damaged n place → GoesDown x y None) → DecideWork s t c (Err r) b T S u
       by (refused.Reason q) up_so left why damaged =
           let g : IsEnded x.memory s (refused.Reason q) = (why.reason q refl).1 in
-          (reason_is q g.0, ended_in (session b T s) (sym (unended_answer b T x.memory.sessions s (sessions b x y u k after up m)) ∙ g.1), (ap trace_of same, calm y u m (standing b x y u k after up m (refused.Reason q) up_so refl)))
+          (reason_is q g.0, ended_in (session b T s) (sym (unended_answer b T x.memory.sessions s (sessions b x y u k after up m)) ∙ g.1), (ap trace_of same, calm y u m (stays_up b x y u k after up m (refused.Reason q) up_so refl)))
         where
           reason_is : (q : Reason) → refused.Reason q ≡ refused.Reason (reasons.Gone s) → q ≡ reasons.Gone s
           reason_is q e = cc
@@ -276,7 +283,7 @@ module _ (b : Base) (x y : Shown) (u : Unsettled) (k : StandsRight b x) (after :
           a_place : {A : Type 0} {l : A} → Some l ≡ None → ⊥
           a_place n = cc
   finish_works t c D (Err r) stands place trace same left why damaged =
-      outage_with (Finished t c) (is_undecided (known_by b (entries T) t) ≡ true) (is_some (open_at x.held.table t)) r (λ e. sym (open_is t) ∙ e) stands left same (never_down HasNoReason D r why) (λ q e. (why.reason q e).1) damaged
+      outage_with (Finished t c) (is_undecided (known_by b (entries T) t) ≡ true) (is_some (open_at x.held.table t)) r (λ e. sym (open_is t) ∙ e) stands left same (never_down HasNoReason D r why) (λ q e. (why.reason q e).1) (damaged_by (Option ℕ) r (GoesDown x y None) damaged)
 
   pub forget_works : (t : Ts) (result : Result (Unit {0}) Refusal) → Stands x.is_up result y.is_up → OnOk result (y.trace ≡ with_mark x.trace (the.Forgot t)) → OnErr result (y.trace ≡ x.trace) → IfErr result (Leaves x y None) → IfErr result (CanRefuse x HasNoReason ⊥) → ForgetWork t result b T S u
   forget_works t (Ok d) stands trace same left why = (marked_is x y (the.Forgot t) trace, calm y u m stands.1)

@@ -21,7 +21,7 @@ use Rattle.spec_history.specs.Requests.{has_written, is_upgrade}
 use Rattle.spec_history.specs.Sound.{Vouches}
 use Rattle.spec_trace.specs.Exact.{WritesOnPages}
 use Rattle.spec_trace.specs.Session.{Session, session, session_lives}
-use Rattle.std.proofs.Common.{Bool, List, [], ap, arith, cond, length, refl, subst, sym, true, ℕ, ◌+◌, ◌<◌, ◌∙◌, ◌≡◌, ◌≤◌, ◌∷◌}
+use Rattle.std.proofs.Common.{Bool, List, [], ap, arith, cond, false, length, refl, subst, sym, true, ℕ, ◌+◌, ◌<◌, ◌∙◌, ◌≡◌, ◌≤◌, ◌∷◌}
 use Rattle.std.specs.List.{AllByRecursion, list_any, range_with_len}
 use Rattle.std.specs.Option.{IsSomeAnd}
 use Rattle.std.specs.Prelude.{None, Option, Some, nat_eq, suc, zero, ◌&&◌, ◌≢◌}
@@ -48,13 +48,16 @@ all_range : (P : ℕ → Type 0) (a n : ℕ) → ((r : ℕ) → a ≤ r → r < 
 all_range P a zero f = tt
 all_range P a (suc n) f = (f a (from_itself a) (below_more a n), all_range P (a + 1) n (λ r l m. f r (from_before a r l) (below_next a n r m)))
 
+from_nothing : (r n : ℕ) → r < 0 + n → r < n
+from_nothing r n l = omega (arith, l)
+
 bare_so : (b : Base) (n repos : ℕ) (q : Request) → n ≡ b.repo → b.repos ≡ repos → IsBare n repos q → parts.IsBareUpgrade b q
 bare_so b n repos q here all bare = record {
   reads = bare.reads;
   writes = bare.writes;
   creates = bare.creates;
   answers = bare.answers;
-  wide = all_range (λ r. takes_part b.repo q r ≡ true) 0 b.repos (λ r from below. subst (λ (m : ℕ). takes_part m q r ≡ true) here (bare.wide r (subst (λ (m : ℕ). r < m) all below)));
+  wide = all_range (λ r. takes_part b.repo q r ≡ true) 0 b.repos (λ r from below. subst (λ (m : ℕ). takes_part m q r ≡ true) here (bare.wide r (subst (λ (m : ℕ). r < m) all (from_nothing r b.repos below))));
 }
 
 -- ---- of a session
@@ -80,7 +83,7 @@ module _ (b : Base) (x : Shown) (number repos s : ℕ) (q : Request) (alone : Bo
 
   participants : (t : IsTested x repos s q) → HasParticipants b q
   participants t = record {
-    others = subst (λ (n : ℕ). AllByRecursion (λ r. (r < n) × (r ≢ b.repo)) q.others) (sym base.repos) (subst (λ (n : ℕ). AllByRecursion (λ r. (r < repos) × (r ≢ n)) q.others) a.held.repo t.parts.others);
+    others = subst (λ (n : ℕ). AllByRecursion (λ r. (r < n) × (r ≢ b.repo)) q.others) (sym base.count) (subst (λ (n : ℕ). AllByRecursion (λ r. (r < repos) × (r ≢ n)) q.others) a.held.repo t.parts.others);
     coordinator = subst (λ (n : ℕ). list_any (nat_eq q.tx.repo) (n ∷ q.others) ≡ true) a.held.repo t.parts.coordinator;
     least = (subst (λ (n : ℕ). q.tx.repo ≤ n) a.held.repo t.parts.itself, t.parts.least);
   }
@@ -96,7 +99,7 @@ module _ (b : Base) (x : Shown) (number repos s : ℕ) (q : Request) (alone : Bo
     within = written_is_read q may.in_order;
     here = each_read (λ y. y.repo ≡ b.repo) q (subst (λ (n : ℕ). AllByRecursion (λ y. y.repo ≡ n) q.ros) a.held.repo t.speaks.here);
     versions = t.speaks.versions;
-    upgrades = λ u. bare_so b x.held.repo repos q a.held.repo base.repos (t.bare u);
+    upgrades = λ u. bare_so b x.held.repo repos q a.held.repo base.count (t.bare u);
   }
 
   paged : (t : IsTested x repos s q) → WritesOnPages b (trace_of x.trace) s q

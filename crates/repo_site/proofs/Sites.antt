@@ -32,10 +32,10 @@ module _ (run : Run) (number repos : ℕ) (x y : Shown) (k : StandsIn run number
   -- ---- what happened, from what was seen
 
   happens : RunsBy (HasRepos repos) x y → Happens run (sited number x) (sited number y)
-  happens r = record { number = refl; run = λ based. r.runs (run.base number) (number, k.base based) (k.right based) }
+  happens r = record { number = refl; does = λ based. r.runs (run.base number) (number, k.base based) (k.right based) }
 
   happens_any : RunsBy AnyBase x y → Happens run (sited number x) (sited number y)
-  happens_any r = record { number = refl; run = λ based. r.runs (run.base number) tt (k.right based) }
+  happens_any r = record { number = refl; does = λ based. r.runs (run.base number) tt (k.right based) }
 
   pub happened : (s : Sited) → sited number x ≡ s → RunsBy (HasRepos repos) x y → Happens run s (sited number y)
   happened s is r = subst (λ (t : Sited). Happens run t (sited number y)) is (happens r)
@@ -67,7 +67,7 @@ module _ (run : Run) (number repos : ℕ) (x y : Shown) (k : StandsIn run number
 -- ---- one that is down
 
 pub still : (run : Run) (number : ℕ) (x : Shown) (s : Sited) → sited number x ≡ s → Happens run s (sited number x)
-still run number x s is = subst (λ (t : Sited). Happens run t (sited number x)) is (record { number = refl; run = λ based. runs_same (run.base number) x x refl })
+still run number x s is = subst (λ (t : Sited). Happens run t (sited number x)) is (record { number = refl; does = λ based. runs_same (run.base number) x x refl })
 
 if_down : (t : Bool) (U D : Type 0) → t ≡ false → D → IfUp t U D
 if_down false U D e d = d
@@ -76,8 +76,8 @@ if_down true U D e d = absurd (never e)
     never : true ≡ false → ⊥
     never n = cc
 
-down_shows : {X : Type 0} (run : Run) (c number : ℕ) (x : Shown) (W : Base → List Item → List Item → Unsettled → Type 0) → x.is_up ≡ false → SiteDoes {X = X} run c (sited number x) (sited number x) (Err (refused.Down number)) W
-down_shows run c number x W down = λ based. if_down x.is_up _ _ down (refl, refl)
+down_shows : (X : Type 0) (run : Run) (c number : ℕ) (x : Shown) (W : Base → List Item → List Item → Unsettled → Type 0) → x.is_up ≡ false → SiteDoes {X = X} run c (sited number x) (sited number x) (Err (refused.Down number)) W
+down_shows X run c number x W down = λ based. if_down x.is_up _ _ down (refl, refl)
 
-pub shown_down : {X : Type 0} (run : Run) (number : ℕ) (x : Shown) (s : Sited) (W : Base → List Item → List Item → Unsettled → Type 0) → sited number x ≡ s → x.is_up ≡ false → (c : ℕ) → SiteDoes {X = X} run c s (sited number x) (Err (refused.Down number)) W
-shown_down {X} run number x s W is down = λ c. subst (λ (t : Sited). SiteDoes {X = X} run c t (sited number x) (Err (refused.Down number)) W) is (down_shows run c number x W down)
+pub shown_down : (X : Type 0) (run : Run) (number : ℕ) (x : Shown) (s : Sited) (W : Base → List Item → List Item → Unsettled → Type 0) → sited number x ≡ s → x.is_up ≡ false → (c : ℕ) → SiteDoes {X = X} run c s (sited number x) (Err (refused.Down number)) W
+shown_down X run number x s W is down = λ c. subst (λ (t : Sited). SiteDoes {X = X} run c t (sited number x) (Err (refused.Down number)) W) is (down_shows X run c number x W down)

@@ -25,7 +25,7 @@ use Rattle.two_phase.specs.Contents.{keeps}
 -- ---- behind an event
 
 pub stays : (run : Run) (number repos : ℕ) (x y : Shown) → StandsIn run number repos x → Happens run (record { number = number; shown = x }) (record { number = number; shown = y }) → StandsIn run number repos y
-stays run number repos x y k h = record { base = k.base; right = λ based. stands_on (run.base number) x y (k.right based) (h.run based) }
+stays run number repos x y k h = record { base = k.base; right = λ based. stands_on (run.base number) x y (k.right based) (h.does based) }
 
 -- ---- what it says
 

@@ -1,4 +1,5 @@
 -- What holds of each object that a request writes.
+use Rattle.class_defs.proofs.SameNames.{same_itself}
 use Rattle.log_entries.specs.declared.request.Request.{Request}
 use Rattle.spec_history.specs.Requests.{has_read, has_written}
 use Rattle.std.proofs.Common.{Bool, List, [], ap, cond, refl, subst, sym, true, ◌≡◌, ◌∙◌, ◌∷◌}
@@ -7,15 +8,17 @@ use Rattle.std.specs.List.{AllByRecursion}
 use Rattle.std.specs.Map.{keys_of}
 use Rattle.std.specs.Option.{is_some}
 use Rattle.std.specs.Ordering.{eq_by_cmp}
-use Rattle.std.specs.Prelude.{None, Option, Some, false, ◌&&◌}
+use Rattle.std.specs.Prelude.{None, Option, Some, false, ◌&&◌, ◌||◌}
 use Rattle.thor_value.proofs.FiniteMap.{get-insert}
 use Rattle.thor_value.proofs.NameOrders.{oref_exact, oref_total}
 use Rattle.thor_value.specs.FiniteMap.{Map, empty, get, has, insert, overwrite}
-use Rattle.thor_value.specs.Names.{oref_cmp}
+use Rattle.thor_value.specs.Names.{oref_cmp, same_oref}
 use Rattle.thor_value.specs.declared.names.Oref.{Oref}
 use Rattle.thor_value.specs.declared.values.Obj.{Obj}
-use Rattle.validation_queue.proofs.Ordered.{all_read}
-use Rattle.validation_queue.specs.Names.{IsInOrder, all_among, is_among}
+use Rattle.validation_queue.specs.Names.{IsInOrder, is_among}
+
+abbrev none_written : Map oref_cmp Obj
+none_written = empty
 
 module _ (P : Oref → Type 0) where
   -- what is so of each name that stood there, and of each that is written, is so of each that stands there then
@@ -30,36 +33,45 @@ module _ (P : Oref → Type 0) where
       added : (y : Oref) → has (insert m w.0 w.1) y ≡ true → P y
       added y h = by y (eq_by_cmp oref_cmp y w.0) refl (sym (ap is_some (get-insert oref_total m w.0 w.1 y)) ∙ h)
 
-  none_there : (y : Oref) → has {R = oref_cmp} {X = Obj} empty y ≡ true → P y
+  none_there : (y : Oref) → has none_written y ≡ true → P y
   none_there y e = let no : false ≡ true = e in cc
 
   pub each_written : (q : Request) → AllByRecursion (λ w. P w.0) q.writes → (x : Oref) → has_written q x ≡ true → P x
-  each_written q all = over q.writes empty none_there all
+  each_written q all = over q.writes none_written none_there all
 
-first_so : (a b : Bool) → a && b ≡ true → a ≡ true
+pub first_so : (a b : Bool) → a && b ≡ true → a ≡ true
 first_so true b e = refl
 first_so false b e = let no : false ≡ true = e in cc
 
-second_so : (a b : Bool) → a && b ≡ true → b ≡ true
+pub second_so : (a b : Bool) → a && b ≡ true → b ≡ true
 second_so true b e = e
 second_so false b e = let no : false ≡ true = e in cc
 
-read_each : (names : List Oref) (ws : List (Oref × Obj)) → all_among names (keys_of ws) ≡ true → AllByRecursion (λ w. is_among names w.0 ≡ true) ws
-read_each names [] e = tt
-read_each names (w ∷ ws) e = (first_so (is_among names w.0) (all_among names (keys_of ws)) e, read_each names ws (second_so (is_among names w.0) (all_among names (keys_of ws)) e))
+or_first : (a b : Bool) → a ≡ true → (a || b) ≡ true
+or_first true b e = refl
+or_first false b e = let no : false ≡ true = e in cc
+
+or_second : (a b : Bool) → b ≡ true → (a || b) ≡ true
+or_second true b e = refl
+or_second false b e = e
+
+-- what is so of each name among the written ones is so of each that is written
+each_among : (P : Oref → Type 0) (ws : List (Oref × Obj)) → ((x : Oref) → is_among (keys_of ws) x ≡ true → P x) → AllByRecursion (λ w. P w.0) ws
+each_among P [] f = tt
+each_among P (w ∷ ws) f = (f w.0 (or_first (same_oref w.0 w.0) (is_among (keys_of ws) w.0) (same_itself w.0)), each_among P ws (λ x m. f x (or_second (same_oref x w.0) (is_among (keys_of ws) x) m)))
 
 -- a request in order read what it wrote
 pub written_is_read : (q : Request) → IsInOrder q.ros (keys_of q.writes) → (x : Oref) → has_written q x ≡ true → has_read q x ≡ true
-written_is_read q o = each_written (λ x. has_read q x ≡ true) q (read_each q.ros q.writes (all_read q.ros (keys_of q.writes) o))
+written_is_read q o = each_written (λ x. has_read q x ≡ true) q (each_among (λ x. has_read q x ≡ true) q.writes o.within)
+
+read_one : (P : Oref → Type 0) (n : Oref) (ns : List Oref) (x : Oref) → P n → (is_among ns x ≡ true → P x) → (t : Bool) → eq_by_cmp oref_cmp x n ≡ t → (t || is_among ns x) ≡ true → P x
+read_one P n ns x here rest true same k = subst P (sym (tells_apart oref_exact x n same)) here
+read_one P n ns x here rest false other k = rest k
+
+read_by : (P : Oref → Type 0) (names : List Oref) → AllByRecursion P names → (x : Oref) → is_among names x ≡ true → P x
+read_by P [] a x e = let no : false ≡ true = e in cc
+read_by P (n ∷ ns) a x e = read_one P n ns x a.0 (read_by P ns a.1 x) (eq_by_cmp oref_cmp x n) refl e
 
 -- what is so of each that it read is so of one that it read
 pub each_read : (P : Oref → Type 0) (q : Request) → AllByRecursion P q.ros → (x : Oref) → has_read q x ≡ true → P x
-each_read P q all = by q.ros all
-  where
-    by : (names : List Oref) → AllByRecursion P names → (x : Oref) → is_among names x ≡ true → P x
-    by [] a x e = let no : false ≡ true = e in cc
-    by (n ∷ ns) a x e = one (eq_by_cmp oref_cmp x n) refl e
-      where
-        one : (t : Bool) → eq_by_cmp oref_cmp x n ≡ t → cond t true (is_among ns x) ≡ true → P x
-        one true same k = subst P (sym (tells_apart oref_exact x n same)) a.0
-        one false other k = by ns a.1 x k
+each_read P q all = read_by P q.ros all

@@ -18,8 +18,8 @@ pub record Sited : Type 0 where
 -- What the base says with which the repository of this number began, of so many repositories: no transaction that an earlier
 -- run left prepared has still to be settled.
 pub record IsBaseOf (b : Base) (number repos : ℕ) : Type 0 where
-  pub number : b.repo ≡ number
-  pub repos : b.repos ≡ repos
+  pub own : b.repo ≡ number
+  pub count : b.repos ≡ repos
   pub left : (t : Ts) → get b.left t ≡ None
 
 -- The repository of this number stands right by the base with which it began, where each has one.
@@ -40,4 +40,4 @@ pub record BeginsNew (run : Run) (number repos : ℕ) (setup : Setup) (mob : ℕ
 -- What a call does on the repository of a run is a run of events, of none, one or two. Nothing is asked of the caller.
 pub record Happens (run : Run) (old new : Sited) : Type 0 where
   pub number : new.number ≡ old.number
-  pub run : run.based ≡ true → IsRun (run.base old.number) old.shown new.shown
+  pub does : run.based ≡ true → IsRun (run.base old.number) old.shown new.shown

@@ -18,27 +18,23 @@ ghost use Rattle.thor_value.specs.declared.names.Ts.{Ts};
 ghost use Rattle.two_phase.specs.Contents.{keeps};
 
 /// A request that has passed all tests owes nothing by itself: what no repository could believe before is tested.
-#[tactic(auto, using(crate::proofs::Sending::is_sent))]
 pub fn tested_requests_are_sent()
     ensures { (b : Base) (x : Shown) (number repos s : ℕ) (q : Request) (alone : Bool) → IsBaseOf b number repos → StandsRight b x →
         x.is_up ≡ true → MayRequest x.held x.memory q alone → q.session ≡ s → IsCounted x → IsTested x repos s q → IsSent b x s q }
 {}
 
 /// What a repository coordinates by its number it coordinates by its base.
-#[tactic(auto, using(crate::proofs::Standing::same_number))]
 pub fn decided_here()
     ensures { (b : Base) (x : Shown) → StandsRight b x → x.is_up ≡ true → x.held.repo ≡ b.repo }
 {}
 
 /// The decision that a repository keeps of a transaction of this run was made here in this run.
-#[tactic(auto, using(crate::proofs::Standing::was_kept))]
 pub fn forgotten_was_kept()
     ensures { (b : Base) (x : Shown) (t : Ts) → StandsRight b x → x.is_up ≡ true → keeps (get x.held.table.transactions t) ≡ true →
         x.opened_in ≤ t.life → WasKept b x t }
 {}
 
 /// Behind each event a repository of a run stands right; so its history is sound, and its trace exact.
-#[tactic(auto, using(crate::proofs::Standing::stays, crate::proofs::Standing::is_sound, crate::proofs::Standing::is_exact))]
 pub fn sites_stay_right()
     ensures right { (run : Run) (number repos : ℕ) (x y : Shown) → StandsIn run number repos x →
         Happens run (record { number = number; shown = x }) (record { number = number; shown = y }) → StandsIn run number repos y }

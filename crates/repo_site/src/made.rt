@@ -6,7 +6,7 @@ ghost use Rattle.repo_core.specs.Behind.{has_prepared};
 ghost use Rattle.repo_core.specs.Calls.{MayRequest};
 ghost use Rattle.repo_site.specs.Testing.{IsTestedIf};
 ghost use Rattle.repo_site.specs.Working.{AnyBase, HasRepos, RunsBy, WorksBy};
-ghost use Rattle.std.specs.Prelude.{is_some, length, not, true, ◌||◌, ◌≡◌, ◌≢◌, ◌≤◌};
+ghost use Rattle.std.specs.Prelude.{false, is_some, length, not, true, ◌||◌, ◌≡◌, ◌≢◌, ◌≤◌};
 ghost use Rattle.thor_value.specs.FiniteMap.{get};
 ghost use Rattle.two_phase.specs.Contents.{keeps, open_at};
 

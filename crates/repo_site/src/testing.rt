@@ -29,7 +29,6 @@ fn is_tested<P: Parts>(repo: &Repo<P>, repos: u8, session: u32, request: &Reques
 }
 
 /// Whether a request of a session passes all tests at a repository, of so many, or the session isn't live.
-#[tactic(auto, using(crate::proofs::Finding::gone_tested, crate::proofs::Finding::tested_so))]
 pub(crate) fn passes<P: Parts>(repo: &Repo<P>, repos: u8, session: u32, request: &Request) -> bool
     ensures { IsTrue result → IsTestedIf repo.now repos session request.now }
 {

@@ -1,16 +1,17 @@
 use Rattle.client_port.specs.Works.{CommitWork}
-use Rattle.cluster_port.proofs.Lending.{lent_at, none_at}
+use Rattle.cluster_port.proofs.Lending.{lent_in, none_in}
 use Rattle.repo_refusals.specs.declared.refusal.Refusal.TheVariants as refused
 use Rattle.std.proofs.Common.{arith, refl}
 use Rattle.std.specs.Prelude.{Err}
+use Rattle.std.specs.Vec.{vec_len}
 use Rattle.cluster_port.proofs.lent.LentSitesPort.commit_one.Goals as goal
 
 pub returns-in-Some : goal.returns-in-Some
 returns-in-Some g c = record {
-  call = λ based. lent_at g.O.Opening.run c.args.self.now.client c.args.self.now.sites c.args.at.repo c.from.result _ c.in-Some.site.now c.commit_one.new.self c.self.invariant c.commit_one.ensures.happens c.from.ensures (omega (arith)) (c.in-Some.ensures.variant.0 refl) c.in-Some.ensures.value c.commit_one.result (CommitWork c.args.at.session c.args.request c.commit_one.result) (c.commit_one.ensures.shows c.args.self.now.client based);
+  call = λ based. lent_in g.O.Opening.run c.self.inside.client c.self.inside.sites.items c.args.self.now c.args.at.repo c.from.result (vec_len c.self.inside.sites) c.in-Some.site.now c.commit_one.new.self c.self.view_is c.self.invariant c.commit_one.ensures.happens c.from.ensures (omega (arith, c.self.inside.sites.ok.0)) (c.in-Some.ensures.variant.0 refl) c.in-Some.ensures.value c.commit_one.result (CommitWork c.args.at.session c.args.request c.commit_one.result) (c.commit_one.ensures.shows c.self.inside.client based);
 }
 
 pub returns-in-None : goal.returns-in-None
 returns-in-None g c = record {
-  call = λ _. none_at g.O.Opening.run c.args.self.now.client c.args.self.now.sites c.args.at.repo c.from.result _ c.from.ensures (omega (arith)) c.in-None.ensures.variant.1 (Err (refused.Down c.args.at.repo)) (CommitWork c.args.at.session c.args.request (Err (refused.Down c.args.at.repo))) refl;
+  call = λ _. none_in g.O.Opening.run c.self.inside.client c.self.inside.sites.items c.args.self.now c.args.at.repo c.from.result (vec_len c.self.inside.sites) c.self.view_is c.from.ensures (omega (arith, c.self.inside.sites.ok.0)) c.in-None.ensures.variant.1 (Err (refused.Down c.args.at.repo)) (CommitWork c.args.at.session c.args.request (Err (refused.Down c.args.at.repo))) refl;
 }
