@@ -84,11 +84,11 @@ creates = record {
 exact_made : exact only (take 6 whole)
 exact_made = exact-end only (take 5 whole) (E (One made)) has_page creates
 
-connects : ItemIsExact only (take 6 whole) (M (the.Connected 2 2))
-connects = search rules
+connects_later : ItemIsExact only (take 6 whole) (M (the.Connected 2 2))
+connects_later = search rules
 
 exact_whole : exact only whole
-exact_whole = exact-end only (take 6 whole) (M (the.Connected 2 2)) exact_made connects
+exact_whole = exact-end only (take 6 whole) (M (the.Connected 2 2)) exact_made connects_later
 
 sound_whole : sound only (entries whole)
 sound_whole = (decides_sound only (entries whole)).0 refl

@@ -16,9 +16,12 @@ commands:
             the restarts, and writes a report
   gen N     runs a generated script (a bank under load, N from 1 to 1000, with 100 items
             for each) and writes a summary in the place of a report; reads no script
+  audit     reads a script, one byte 30 and a report, which may come from anyone, and tells whether the
+            report is true of the script: `legal`, or its first line that isn't
 
 options, each at most once, as `--name value` or `--name=value`:
   --repos N     repositories, 1 to 8 (without it 1)
+for all but audit:
   --store DIR   keeps the store in files of this folder, which has to be there;
                 without it the store is in memory and gone at the end
 for play, run and gen alone:
@@ -30,7 +33,7 @@ for play, run and gen alone:
   --version     writes the version
 
 exit status:
-  0  done: but for check, every item is done or ended in a fault
+  0  done: but for check and audit, every item is done or ended in a fault
   1  an item was refused, or what became of it isn't known
   2  the words are not a command           output: words
   3  the script is refused                 output: script LINE RULE
@@ -40,6 +43,8 @@ exit status:
   7  the files are no store                output: damaged REPOSITORY FILE PLACE
   8  a limit is passed                     output: limit NUMBER
   9  memory was not there, or the run failed its own check
+ 10  what is to be audited is no report    output: report LINE
+ 11  the report isn't true of the script   output: entry LINE or item LINE
   126, 127  of the launcher: a build failed; the toolchain isn't there
 
 variables of the launcher in a checkout, which builds the program:
@@ -47,7 +52,8 @@ variables of the launcher in a checkout, which builds the program:
                      one job, where 6 GB of memory are free
   KILNTAUPE_WAIT=1   waits for the proved program, and tells how far it is
 
-`tools/why FILE` says where a script is refused, and why.
+`tools/why FILE` says where a script is refused, and why; `tools/audit SCRIPT REPORT` audits two files
+and says what disagrees.
 The language of scripts is in docs/LANGUAGE.md, the report in docs/REPORT.md, and README.md
 has a first script.
 ";

@@ -11,7 +11,7 @@ use Rattle.top_statement.specs.Opening.{DiskBytes}
 use Rattle.top_statement.specs.Top.{ByPlan, IsForOthers, IsHanded, IsNoPlan, IsPlan, Says, Told, form_of}
 use Rattle.top_words.specs.Words.{plan_of}
 use Rattle.top_words.specs.declared.command.Command.{Command}
-use Rattle.top_words.specs.declared.command.Command.TheVariants.{Check}
+use Rattle.top_words.specs.declared.command.Command.TheVariants.{Audit, Check}
 use Rattle.top_words.specs.declared.command.Plan.{Plan}
 
 -- ---- the plan
@@ -30,6 +30,9 @@ module _ (D : DiskBytes) (L M : Plan → Type 0) (N O : Type 0) (f : (p : Plan) 
   says_map (reply.Damaged repo disk place) says = by_other L M _ f says
   says_map reply.Words says = (g says.0, says.1)
   says_map reply.SourceFault says = by_other L M _ f says
+  says_map reply.Legal says = by_other L M _ f says
+  says_map (reply.Disagrees at) says = by_other L M _ f says
+  says_map (reply.NoReport line) says = by_other L M _ f says
 
 handed_is : (words : List (List ℕ)) (count : ℕ) (plan : Plan) → plan_of words ≡ Some plan → (p : Plan) → IsHanded plan count p → IsPlan words count p
 handed_is words count plan is p handed = record { words_are = subst (λ (q : Plan). plan_of words ≡ Some q) (sym handed.same) is; repos_are = handed.repos_are }
@@ -52,6 +55,12 @@ writes_nothing c r refuses = inr refuses
 
 pub check_writes : (c : Command) (r : Result Reply NoMemory) → c ≡ Check → WritesNothing c r
 check_writes c r is = inl (ap (λ (d : Command). form_of d) is)
+
+pub audit_writes : (c : Command) (r : Result Reply NoMemory) → c ≡ Audit → WritesNothing c r
+audit_writes c r is = inl (ap (λ (d : Command). form_of d) is)
+
+pub one_audit : (words : List (List ℕ)) (plan p : Plan) → plan_of words ≡ Some plan → plan_of words ≡ Some p → p.command ≡ Audit → plan.command ≡ Audit
+one_audit words plan p is is_p audit = subst (λ (q : Plan). q.command ≡ Audit) (same_Some p plan (sym is_p ∙ is)) audit
 
 pub one_check : (words : List (List ℕ)) (plan p : Plan) → plan_of words ≡ Some plan → plan_of words ≡ Some p → p.command ≡ Check → plan.command ≡ Check
 one_check words plan p is is_p check = subst (λ (q : Plan). q.command ≡ Check) (same_Some p plan (sym is_p ∙ is)) check

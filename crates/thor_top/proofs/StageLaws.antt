@@ -8,10 +8,11 @@ use Rattle.std.proofs.Common.{◌≡◌, Err, IfOk, List, Ok, Option, Result, So
 use Rattle.std.specs.Prelude.{Bool, IfSome}
 use Rattle.store_opening.specs.Reading.{IsStoredIn}
 use Rattle.store_opening.specs.declared.found.Store.{Store}
-use Rattle.thor_top.specs.Stages.{Foretells, IsPlayed, RepliesRun}
+use Rattle.thor_top.specs.Stages.{Foretells, IsForStore, IsPlayed, RepliesRun}
 use Rattle.thor_top.specs.declared.expected.Expected.{Expected}
 use Rattle.thor_value.specs.FiniteMap.{IsSorted}
 use Rattle.thor_value.specs.declared.memory.NoMemory.{NoMemory}
+use Rattle.top_judging.specs.Origins.{IsScriptFor}
 use Rattle.top_judging.specs.Stages.{IsOpenedAs, RepliesUnsettled}
 use Rattle.top_judging.specs.declared.stored.OpenedStore.{OpenedStore}
 use Rattle.top_reply.specs.Replies.{run_reply}
@@ -22,9 +23,9 @@ use Rattle.top_reply.specs.declared.reply.Reply.{Reply}
 use Rattle.top_reply.specs.declared.running.Running.{Running}
 use Rattle.top_statement.specs.Kept.{Refuses, RefusesBy, WritesNothing}
 use Rattle.top_statement.specs.Opening.{DiskBytes, FitsDisks, IsAccepted, IsOfDisks, IsStore, IsStoredBy}
-use Rattle.top_statement.specs.Top.{IsWithinLimits, RepliesTo, form_of, running_of}
+use Rattle.top_statement.specs.Top.{IsWithinLimits, RepliesTo, Told, form_of, origin_of, running_of}
 use Rattle.top_words.specs.declared.command.Command.{Command}
-use Rattle.top_words.specs.declared.command.Command.TheVariants.{Check, Gen, Play, Run}
+use Rattle.top_words.specs.declared.command.Command.TheVariants.{Audit, Check, Gen, Play, Run}
 use Rattle.top_words.specs.declared.command.Plan.{Plan}
 
 pub prepared_as : {B E : Type 0} (images : List (ℕ → List ℕ)) (setup : Option Declarations) (base : Schemas) (found : Option OpenedStore) (opened : OpenedStore) (second : Result B E) (r : Result (OpenedStore × B) E) → found ≡ Some opened
@@ -40,11 +41,20 @@ pub ok_always : {A E : Type 0} (r : Result A E) (P : Type 0) → P → IfOk r (�
 ok_always (Ok a) P p = p
 ok_always (Err e) P p = tt
 
-pub no_form : (c : Command) → None ≡ form_of c → c ≡ Check
-no_form Check is = refl
-no_form Play is = absurd (let no : None ≡ Some form.Report = is in cc)
-no_form Run is = absurd (let no : None ≡ Some form.Report = is in cc)
-no_form (Gen n) is = absurd (let no : None ≡ Some form.Summary = is in cc)
+pub no_form : (c : Command) → IsForStore c → None ≡ form_of c → c ≡ Check
+no_form Check store is = refl
+no_form Play store is = absurd (let no : None ≡ Some form.Report = is in cc)
+no_form Run store is = absurd (let no : None ≡ Some form.Report = is in cc)
+no_form (Gen n) store is = absurd (let no : None ≡ Some form.Summary = is in cc)
+no_form Audit store is = absurd store
+
+-- a command that has a script takes it to the store
+pub for_store : (c : Command) (repos : ℕ) (before after : Told) (script : Script) → IsScriptFor (origin_of c) repos before after script → IsForStore c
+for_store Check repos before after script from = tt
+for_store Play repos before after script from = tt
+for_store Run repos before after script from = tt
+for_store (Gen n) repos before after script from = tt
+for_store Audit repos before after script from = from
 
 -- a run that is told in the form of its command is replied to the script
 pub run_replies : (D : DiskBytes) (plan : Plan) (script : Script) (f : Form) → Some f ≡ form_of plan.command → IsWithinLimits script → FitsDisks D script.setup → (r : Reply) → RepliesRun D (running_of plan.command) f plan.repos script r → RepliesTo D plan script r

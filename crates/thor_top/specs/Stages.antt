@@ -12,7 +12,7 @@ use Rattle.top_statement.specs.Opening.{DiskBytes}
 use Rattle.top_statement.specs.Reports.{IsReport}
 use Rattle.top_statement.specs.Top.{form_of}
 use Rattle.top_words.specs.declared.command.Command.{Command}
-use Rattle.top_words.specs.declared.command.Command.TheVariants.{Check, Gen, Play, Run}
+use Rattle.top_words.specs.declared.command.Command.TheVariants.{Audit, Check, Gen, Play, Run}
 
 -- Whatever is replied of a run of which this is expected says so.
 pub record Foretells (Says : Reply → Type 0) (e : Expected) : Type 0 where
@@ -29,6 +29,15 @@ IsInTurn Check = Unit {0}
 IsInTurn Play = Unit {0}
 IsInTurn Run = ⊥
 IsInTurn (Gen n) = Unit {0}
+IsInTurn Audit = Unit {0}
+
+-- the command takes a script to the store of the parts
+abbrev pub IsForStore : Command → Type 0
+IsForStore Check = Unit {0}
+IsForStore Play = Unit {0}
+IsForStore Run = Unit {0}
+IsForStore (Gen n) = Unit {0}
+IsForStore Audit = ⊥
 
 -- the command runs a script
 abbrev pub IsPlayed : Command → Type 0

@@ -6,7 +6,7 @@ ghost use Rattle.store_opening.specs.Reading.{ReadAll};
 ghost use Rattle.top_statement.specs.Kept.{RefusesBy, WritesNothing};
 ghost use Rattle.top_statement.specs.Top.{IsForOthers, IsHanded, IsNoPlan, IsPlan, Says, told_by};
 ghost use Rattle.top_words.specs.Words.{plan_of};
-ghost use Rattle.top_words.specs.declared.command.Command.TheVariants.{Check};
+ghost use Rattle.top_words.specs.declared.command.Command.TheVariants.{Audit, Check};
 ghost use Rattle.top_words.specs.declared.command.Plan.{Plan};
 
 use crate::beginning::begin;
@@ -89,7 +89,7 @@ fn answer_plan<R: Threads + Wait + Sync, S: Source, P: Parts + Send, G: Gate + S
 {
     match plan.command {
         Command::Run => answer_on_threads(alloc, runtime, plan, source, parts),
-        Command::Check | Command::Play | Command::Gen { n: _ } => {
+        Command::Check | Command::Play | Command::Gen { n: _ } | Command::Audit => {
             answer_in_turn(alloc, plan, source, parts)
         }
     }
@@ -107,6 +107,7 @@ pub(crate) fn answer<R: Threads + Wait + Sync, S: Source, P: Parts + Send, G: Ga
     ensures parts { vec_len result.parts ≡ vec_len parts }
     ensures kept { RefusesBy result.reply → AreSame P.disks parts.items result.parts.items }
     ensures checked { (plan : Plan) → plan_of words.now ≡ Some plan → plan.command ≡ Check → AreSame P.disks parts.items result.parts.items }
+    ensures audited { (plan : Plan) → plan_of words.now ≡ Some plan → plan.command ≡ Audit → AreSame P.disks parts.items result.parts.items }
 {
     match read_words(alloc, words) {
         Ok(plan) => answer_plan(alloc, runtime, &plan, source, parts),

@@ -6,7 +6,7 @@ ghost use Rattle.script_parse.specs.Script.{HasFew};
 ghost use Rattle.std.specs.Prelude.{IfErr, IfOk, List, length, vec_len, ◌≡◌, ◌≤◌};
 ghost use Rattle.store_opening.specs.Counts.{HasParts, parts_in};
 ghost use Rattle.store_opening.specs.Reading.{ReadAll};
-ghost use Rattle.thor_top.specs.Stages.{Foretells, IsPlayed};
+ghost use Rattle.thor_top.specs.Stages.{Foretells, IsForStore, IsPlayed};
 ghost use Rattle.top_judging.specs.Stages.{IsJudged};
 ghost use Rattle.top_statement.specs.Opening.{IsStoredBy};
 ghost use Rattle.top_statement.specs.Kept.{WritesNothing};
@@ -31,6 +31,7 @@ fn form_of(command: Command) -> Option<Form>
         Command::Play => Some(Form::Report),
         Command::Run => Some(Form::Report),
         Command::Gen { n: _ } => Some(Form::Summary),
+        Command::Audit => None,
     }
 }
 
@@ -54,7 +55,8 @@ fn begin_judged<P: Parts>(
     script: Script,
     judged: Judged<P>,
 ) -> Result<OpenRun<P>, Answered<P>>
-    requires { IsJudged plan.now script judged.found.store judged.base }
+    requires judged { IsJudged plan.now script judged.found.store judged.base }
+    requires store { IsForStore plan.now.command }
     ensures foretells { (given : List P) → IsStoredBy (ReadAll P.disks given) judged.found.store → IfOk result (λ run. Foretells (RepliesTo (ReadAll P.disks given) plan.now script) run.expected) }
     ensures played { IfOk result (λ run. IsPlayed plan.now.command) }
     ensures count { IfOk result (λ run. parts_of run.cluster ≡ parts_in judged.found) }
@@ -79,6 +81,7 @@ fn begin_script<P: Parts>(
     script: Script,
     parts: Vec<P>,
 ) -> Result<OpenRun<P>, Answered<P>>
+    requires store { IsForStore plan.now.command }
     requires few { HasFew script.setup }
     requires clients { length script.clients ≤ 64 }
     requires events { length script.events ≤ 1000000 }
@@ -99,7 +102,7 @@ fn begin_script<P: Parts>(
 }
 
 /// Begins what a plan asks for, on the parts: the store is open for the script's run. Else the reply, with the parts:
-/// where words, script or store are refused, and behind a check, their disks are as they were.
+/// where words, script or store are refused, and behind a check or an audit, their disks are as they were.
 pub(crate) fn begin<S: Source, P: Parts>(
     alloc: Global,
     plan: &Plan,

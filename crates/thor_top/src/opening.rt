@@ -39,7 +39,9 @@ fn running_of(command: Command) -> Running
 {
     match command {
         Command::Run => Running::OnThreads,
-        Command::Check | Command::Play | Command::Gen { n: _ } => Running::InTurn,
+        Command::Check | Command::Play | Command::Gen { n: _ } | Command::Audit => {
+            Running::InTurn
+        }
     }
 }
 

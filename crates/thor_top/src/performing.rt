@@ -8,7 +8,7 @@ ghost use Rattle.thor_top.specs.Stages.{IsInTurn};
 ghost use Rattle.top_statement.specs.Kept.{RefusesBy};
 ghost use Rattle.top_statement.specs.Top.{IsForOthers, IsHanded, Says, told_by};
 ghost use Rattle.top_statement.specs.Written.{Wrote};
-ghost use Rattle.top_words.specs.declared.command.Command.TheVariants.{Check};
+ghost use Rattle.top_words.specs.declared.command.Command.TheVariants.{Audit, Check};
 
 use crate::answering::answer_in_turn;
 use disk_trait::Parts;
@@ -41,9 +41,10 @@ pub fn perform<S: Source, K: Sink, P: Parts>(
     ensures nothing { result.status ≡ Status.NoMemory → K.taken sink.new ≡ K.taken sink.old }
     // No part is lost.
     ensures parts { vec_len result.parts.repositories ≡ vec_len parts.repositories }
-    // Where something is refused, and after a check, the disks have what they had.
+    // Where something is refused, and after a check or an audit, the disks have what they had.
     ensures refused { RefusesBy result.reply → AreSame P.disks parts.repositories.items result.parts.repositories.items }
     ensures checked { plan.command ≡ Check → AreSame P.disks parts.repositories.items result.parts.repositories.items }
+    ensures audited { plan.command ≡ Audit → AreSame P.disks parts.repositories.items result.parts.repositories.items }
 {
     let StoreParts { repositories } = parts;
     let answered = answer_in_turn(alloc, &plan, source, repositories);

@@ -1,13 +1,14 @@
+ghost use Rattle.audit_check.specs.declared.disagreement.Disagreement.{Disagreement};
 ghost use Rattle.outside.specs.Faults.{Rose};
 ghost use Rattle.repo_opening.specs.Same.{AreSame};
 ghost use Rattle.script_parse.specs.declared.refusal.Refusal.{Refusal};
 ghost use Rattle.std.specs.Prelude.{Bool, List, Ok, Some, vec_len, ℕ, ◌≡◌};
 ghost use Rattle.store_opening.specs.Reading.{ReadAll};
 ghost use Rattle.top_statement.specs.Kept.{RefusesBy};
-ghost use Rattle.top_statement.specs.Top.{IsNoPlan, IsPlan, SaysAccepted, SaysDamaged, SaysDisk, SaysLimit, SaysRefused, SaysRun, SaysSource, SaysWords, told_by};
+ghost use Rattle.top_statement.specs.Top.{IsNoPlan, IsPlan, SaysAccepted, SaysDamaged, SaysDisagrees, SaysDisk, SaysLegal, SaysLimit, SaysNoReport, SaysRefused, SaysRun, SaysSource, SaysWords, told_by};
 ghost use Rattle.top_statement.specs.Written.{Wrote};
 ghost use Rattle.top_words.specs.Words.{plan_of};
-ghost use Rattle.top_words.specs.declared.command.Command.TheVariants.{Check};
+ghost use Rattle.top_words.specs.declared.command.Command.TheVariants.{Audit, Check};
 ghost use Rattle.top_words.specs.declared.command.Plan.{Plan};
 
 use crate::answering::{Runtime, answer};
@@ -25,8 +26,9 @@ use top_statement::{Outcome, StoreParts, write_answer};
 ///
 /// `check` tells whether the script breaks a rule. `play` runs it, one event after the other, and `run` does with a
 /// thread for each client; of a schedule it takes the restarts alone. `gen` runs the generated script of a number
-/// without reading the source, and writes a summary. The text that is written ends in a newline. The parts come
-/// back in every case. A check leaves their disks as they were, and so does what refuses words, script or store.
+/// without reading the source, and writes a summary. `audit` reads a script, one byte 30 and a report, and tells whether the report is
+/// true of the script. The text that is written ends in a newline. The parts come back in every case. A check or an audit leaves
+/// their disks as they were, and so does what refuses words, script or store.
 pub fn thor<R: Threads + Wait + Sync, S: Source, K: Sink, P: Parts + Send, G: Gate + Sync>(
     rt: &R,
     alloc: Global,
@@ -51,6 +53,12 @@ pub fn thor<R: Threads + Wait + Sync, S: Source, K: Sink, P: Parts + Send, G: Ga
     ensures damage { (repo disk place : ℕ) → result.reply ≡ Ok (Reply.Damaged repo disk place) → SaysDamaged (IsPlan words.now (vec_len parts.repositories)) (told_by S.left S.faults source.old) (told_by S.left S.faults source.new) repo disk place }
     // The words are no plan.
     ensures words { result.reply ≡ Ok Reply.Words → SaysWords (IsNoPlan words.now (vec_len parts.repositories)) (told_by S.left S.faults source.old) (told_by S.left S.faults source.new) }
+    // The report behind the script is true of it, by `audit`: it tells one serial history of the script's items, which is legal from
+    // the store that the setup opens, and answers each item once and each client's in its order. Or this is its first line that isn't
+    // so; or what stands there is no report.
+    ensures legal { result.reply ≡ Ok Reply.Legal → SaysLegal (IsPlan words.now (vec_len parts.repositories)) (told_by S.left S.faults source.old) (told_by S.left S.faults source.new) }
+    ensures disagrees { (at : Disagreement) → result.reply ≡ Ok (Reply.Disagrees at) → SaysDisagrees (IsPlan words.now (vec_len parts.repositories)) (told_by S.left S.faults source.old) (told_by S.left S.faults source.new) at }
+    ensures no_report { (line : ℕ) → result.reply ≡ Ok (Reply.NoReport line) → SaysNoReport (IsPlan words.now (vec_len parts.repositories)) (told_by S.left S.faults source.old) (told_by S.left S.faults source.new) line }
     // The source failed, which it counted.
     ensures source { result.reply ≡ Ok Reply.SourceFault → SaysSource (IsPlan words.now (vec_len parts.repositories)) (told_by S.left S.faults source.old) (told_by S.left S.faults source.new) }
     // The sink took the text of the reply, and the status is the reply's; or a front of it, and the sink failed, which it
@@ -60,9 +68,10 @@ pub fn thor<R: Threads + Wait + Sync, S: Source, K: Sink, P: Parts + Send, G: Ga
     ensures nothing { result.status ≡ Status.NoMemory → K.taken sink.new ≡ K.taken sink.old }
     // No part is lost.
     ensures parts { vec_len result.parts.repositories ≡ vec_len parts.repositories }
-    // Where something is refused, and after any check, the disks have what they had.
+    // Where something is refused, and after any check or audit, the disks have what they had.
     ensures refused { RefusesBy result.reply → AreSame P.disks parts.repositories.items result.parts.repositories.items }
     ensures checked { (plan : Plan) → plan_of words.now ≡ Some plan → plan.command ≡ Check → AreSame P.disks parts.repositories.items result.parts.repositories.items }
+    ensures audited { (plan : Plan) → plan_of words.now ≡ Some plan → plan.command ≡ Audit → AreSame P.disks parts.repositories.items result.parts.repositories.items }
 {
     let runtime = Runtime { rt, gate };
     let StoreParts { repositories } = parts;

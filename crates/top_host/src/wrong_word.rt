@@ -8,13 +8,15 @@ use top_words::{WordsFault, read_words};
 /// A word that is right wherever a value is wanted.
 const A_VALUE: &[u8] = b"1";
 
-const COMMANDS: &str = "a command: check, play, run or gen N";
+const COMMANDS: &str = "a command: check, play, run, gen N or audit";
 
 const OPTIONS: &str =
     "an option that wasn't given yet: --tries 1 to 100, --mob 1 to 16777216, --cache 1 to 4096, --repos 1 to 8, --store FOLDER";
 
 const OPTIONS_OF_CHECK: &str =
     "an option of check that wasn't given yet: --repos 1 to 8, --store FOLDER";
+
+const OPTIONS_OF_AUDIT: &str = "the option of audit where it wasn't given yet: --repos 1 to 8";
 
 /// What to tell of words that are no command. The wrong word is the first behind which no words make one; where there is
 /// none, a word is missing at the end.
@@ -40,7 +42,8 @@ fn fault_at(
     right: &'static str,
 ) -> Result<String, NoMemory> {
     let wrong = str::from_utf8(word.as_slice()).unwrap_or("");
-    let is_file = !wrong.starts_with('-') && (right == OPTIONS || right == OPTIONS_OF_CHECK);
+    let is_file = !wrong.starts_with('-')
+        && (right == OPTIONS || right == OPTIONS_OF_CHECK || right == OPTIONS_OF_AUDIT);
     match reading_command(words) {
         Some(command) if is_file => Ok(format!(in alloc;
             "scripts come by standard input: {command} < FILE; the word {wrong:?} is wrong here, and what fits is {right} (--help tells more)"
@@ -57,6 +60,7 @@ fn reading_command(words: &[Text]) -> Option<&'static str> {
         b"check" => Some("check"),
         b"play" => Some("play"),
         b"run" => Some("run"),
+        b"audit" => Some("audit"),
         _ => None,
     }
 }
@@ -91,6 +95,7 @@ fn right_behind(alloc: Global, words: &[Text]) -> Result<&'static str, NoMemory>
     }
     Ok(match first.as_slice() {
         b"check" => OPTIONS_OF_CHECK,
+        b"audit" => OPTIONS_OF_AUDIT,
         _ => OPTIONS,
     })
 }

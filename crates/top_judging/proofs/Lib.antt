@@ -1,2 +1,3 @@
+pub mod AuditLaws
 pub mod BaseLaws
 pub mod StageLaws

@@ -3,20 +3,28 @@ use Rattle.class_defs.specs.declared.declarations.Declarations.{Declarations}
 use Rattle.class_defs.specs.declared.store.Plain.{Plain}
 use Rattle.class_defs.specs.declared.store.Schemas.{Schemas}
 use Rattle.script_parse.specs.Script.{HasFew, IsWritten}
+use Rattle.script_parse.specs.declared.refusal.Refusal.TheVariants as refusals
 use Rattle.script_parse.specs.declared.script.Script.{Script}
 use Rattle.std.proofs.Common.{◌≡◌, ◌≤◌, Err, IfOk, List, Ok, Option, Result, Some, None, inl, inr, length, refl, subst, sym, ℕ}
 use Rattle.std.proofs.lemmas.Option.{same_Some}
 use Rattle.std.specs.Prelude.{IfErr, IfSome}
+use Rattle.outside.specs.Faults.{Rose}
+use Rattle.outside.specs.Streams.{IsMoreThan}
 use Rattle.script_bank.specs.Bank.{script_text}
 use Rattle.store_opening.specs.Reading.{IsOpened, IsOpenedIn, IsStoredIn, schemas_in}
 use Rattle.store_opening.specs.declared.found.Store.TheVariants.{Fresh, Open}
 use Rattle.store_opening.specs.declared.found.Store.{Store}
 use Rattle.thor_value.specs.declared.memory.NoMemory.{NoMemory}
-use Rattle.top_judging.specs.Stages.{FitsStore, IsOpenedAs, IsRead, IsReadFrom, IsScriptFor, MisfitsStore, RepliesOver, RepliesRefused, RepliesRule, RepliesText, RepliesUnjudged, RepliesUnopened, RepliesUnread, RepliesUnreadFor, RepliesUnsettled}
+use Rattle.top_judging.specs.Audits.{RepliesAccepted, RepliesAudit, RepliesAudited, RepliesParts, RepliesReport, RepliesSource}
+use Rattle.top_judging.specs.Origins.{IsScriptFor, RepliesUnreadFor}
+use Rattle.top_judging.specs.Stages.{FitsStore, IsOpenedAs, IsRead, IsReadFrom, MisfitsStore, RepliesOver, RepliesRefused, RepliesRule, RepliesText, RepliesUnjudged, RepliesUnopened, RepliesUnread, RepliesUnsettled}
 use Rattle.top_reply.specs.declared.reply.Reply.{Reply}
 use Rattle.top_reply.specs.declared.reply.Reply.TheVariants as reply
-use Rattle.top_statement.specs.Opening.{DiskBytes, FitsDisks, GoesWith, IsAgainst, IsStoredBy, MisfitsDisks}
-use Rattle.top_statement.specs.Top.{HasBytes, Reads, RepliesTo, Says, Told, WasRead, made_by}
+use Rattle.top_statement.specs.Audits.{audited_of, report_part, script_part}
+use Rattle.top_statement.specs.Opening.{DiskBytes, FitsDisks, FreshBytes, GoesWith, IsAgainst, IsStoredBy, MisfitsDisks}
+use Rattle.top_statement.specs.Top.{Front, Generated, HasBytes, IsFromSource, IsOverLimit, IsRefusalOf, Origin, Reads, RepliesTo, Says, Told, WasRead, Whole, disks_for, origin_of}
+use Rattle.top_words.specs.declared.command.Command.{Command}
+use Rattle.top_words.specs.declared.command.Command.TheVariants.{Audit, Check, Gen, Play, Run}
 use Rattle.top_words.specs.declared.command.Plan.{Plan}
 
 -- ---- replies
@@ -130,38 +138,136 @@ module _ (D : DiskBytes) (plan : Plan) (script : Script) where
 -- ---- what is said by a plan
 
 module _ (D : DiskBytes) (Like : Plan → Type 0) (NoPlan : Type 0) (plan : Plan) (is : Like plan) (before after : Told) where
-  -- its script was read, and this is replied to it
-  replied : (script : Script) (bytes : List ℕ) → HasBytes (made_by plan.command) plan.repos before after bytes → IsWritten bytes script → (r : Reply) → RepliesTo D plan script r → Says D Like NoPlan before after r
-  replied script bytes has written (reply.Report finished text) says = record { plan = plan; is = is; says = record { script = script; bytes = bytes; has = has; written = written; says = says } }
-  replied script bytes has written (reply.Summary finished text) says = record { plan = plan; is = is; says = record { script = script; bytes = bytes; has = has; written = written; says = says } }
-  replied script bytes has written reply.Accepted says = record { plan = plan; is = is; says = record { script = script; bytes = bytes; has = has; written = written; says = says } }
-  replied script bytes has written (reply.Refused refusal) says = record { plan = plan; is = is; says = inr (record { script = script; bytes = bytes; has = has; written = written; says = says }) }
-  replied script bytes has written (reply.Limit limit) says = record { plan = plan; is = is; says = inl (record { script = script; bytes = bytes; has = has; written = written; says = says }) }
-  replied script bytes has written (reply.DiskFault repo) says = record { plan = plan; is = is; says = record { script = script; bytes = bytes; has = has; written = written; says = says } }
-  replied script bytes has written (reply.Damaged repo disk place) says = record { plan = plan; is = is; says = record { script = script; bytes = bytes; has = has; written = written; says = says } }
-  replied script bytes has written reply.Words says = absurd says
-  replied script bytes has written reply.SourceFault says = absurd says
+  -- its script was read, and this is replied to it on the store to which the command takes it
+  replied : ((P : DiskBytes → Type 0) → P D → P (disks_for plan.command D)) → (script : Script) (bytes : List ℕ) → HasBytes (origin_of plan.command) plan.repos before after bytes → IsWritten bytes script → (r : Reply) → RepliesTo D plan script r → Says D Like NoPlan before after r
+  replied same script bytes has written (reply.Report finished text) says = record { plan = plan; is = is; says = record { script = script; bytes = bytes; has = has; written = written; says = says } }
+  replied same script bytes has written (reply.Summary finished text) says = record { plan = plan; is = is; says = record { script = script; bytes = bytes; has = has; written = written; says = says } }
+  replied same script bytes has written reply.Accepted says = record { plan = plan; is = is; says = record { script = script; bytes = bytes; has = has; written = written; says = says } }
+  replied same script bytes has written (reply.Refused refusal) says = record { plan = plan; is = is; says = inr (record { script = script; bytes = bytes; has = has; written = written; says = same (λ E. IsRefusalOf E plan script refusal) says }) }
+  replied same script bytes has written (reply.Limit limit) says = record { plan = plan; is = is; says = inl (record { script = script; bytes = bytes; has = has; written = written; says = same (λ E. IsOverLimit E script limit) says }) }
+  replied same script bytes has written (reply.DiskFault repo) says = record { plan = plan; is = is; says = record { script = script; bytes = bytes; has = has; written = written; says = says } }
+  replied same script bytes has written (reply.Damaged repo disk place) says = record { plan = plan; is = is; says = record { script = script; bytes = bytes; has = has; written = written; says = says } }
+  replied same script bytes has written reply.Words says = absurd says
+  replied same script bytes has written reply.SourceFault says = absurd says
+  replied same script bytes has written reply.Legal says = absurd says
+  replied same script bytes has written (reply.Disagrees at) says = absurd says
+  replied same script bytes has written (reply.NoReport line) says = absurd says
 
-  has_script : (m : Option ℕ) (script : Script) → IsScriptFor m plan.repos before after script → (bytes : List ℕ) × (HasBytes m plan.repos before after bytes × IsWritten bytes script)
-  has_script None script from = (from.bytes, (from.was, from.read.written))
-  has_script (Some n) script from = (script_text n plan.repos, ((from.0, refl), from.1.written))
+  -- a command that has a script takes it to the store of the parts
+  same_disks : (c : Command) (script : Script) → IsScriptFor (origin_of c) plan.repos before after script → (P : DiskBytes → Type 0) → P D → P (disks_for c D)
+  same_disks Check script from P p = p
+  same_disks Play script from P p = p
+  same_disks Run script from P p = p
+  same_disks (Gen n) script from P p = p
+  same_disks Audit script from P p = absurd from
 
-  pub script_says : (script : Script) → IsScriptFor (made_by plan.command) plan.repos before after script → (r : Reply) → RepliesTo D plan script r → Says D Like NoPlan before after r
-  script_says script from r says = let had = has_script (made_by plan.command) script from in replied script had.0 had.1.0 had.1.1 r says
+  has_script : (m : Origin) (script : Script) → IsScriptFor m plan.repos before after script → (bytes : List ℕ) × (HasBytes m plan.repos before after bytes × IsWritten bytes script)
+  has_script Whole script from = (from.bytes, (from.was, from.read.written))
+  has_script Front script from = absurd from
+  has_script (Generated n) script from = (script_text n plan.repos, ((from.0, refl), from.1.written))
+
+  pub script_says : (script : Script) → IsScriptFor (origin_of plan.command) plan.repos before after script → (r : Reply) → RepliesTo D plan script r → Says D Like NoPlan before after r
+  script_says script from r says = let had = has_script (origin_of plan.command) script from in replied (same_disks plan.command script from) script had.0 had.1.0 had.1.1 r says
 
   -- it has no script, and this is replied
-  text_says : (bytes : List ℕ) → HasBytes (made_by plan.command) plan.repos before after bytes → (r : Reply) → RepliesText bytes r → Says D Like NoPlan before after r
+  text_says : (bytes : List ℕ) → HasBytes (origin_of plan.command) plan.repos before after bytes → (r : Reply) → RepliesText bytes r → Says D Like NoPlan before after r
   text_says bytes has r (inl none) = subst (λ (w : Reply). Says D Like NoPlan before after w) (sym none.1.0) (record { plan = plan; is = is; says = inl (record { bytes = bytes; has = has; says = none.1.1 }) })
-  text_says bytes has r (inr over) = replied over.0 bytes has over.1.0 r (over_replies D plan over.0 r over.1.1)
+  text_says bytes has r (inr over) = subst (λ (w : Reply). Says D Like NoPlan before after w) (sym over.1.1.1.0)
+      (record { plan = plan; is = is; says = inl (record { script = over.0; bytes = bytes; has = has; written = over.1.0; says = inl over.1.1.1.1 }) })
 
-  unread_says : Reads plan.command → (r : Reply) → RepliesUnread before after r → Says D Like NoPlan before after r
-  unread_says reads r (inl none) = text_says none.0 (subst (λ (m : Option ℕ). HasBytes m plan.repos before after none.0) (sym reads) none.1.0) r none.1.1
-  unread_says reads r (inr (inl long)) = subst (λ (w : Reply). Says D Like NoPlan before after w) (sym long.0) (record { plan = plan; is = is; says = inr (reads, (long.1, refl)) })
-  unread_says reads r (inr (inr failed)) = subst (λ (w : Reply). Says D Like NoPlan before after w) (sym failed.0) (record { plan = plan; is = is; says = (reads, failed.1) })
+  over_says : Reads plan.command → IsMoreThan 8388608 before.left → (r : Reply) → r ≡ reply.Limit 8388608 → Says D Like NoPlan before after r
+  over_says reads long r same = subst (λ (w : Reply). Says D Like NoPlan before after w) (sym same) (record { plan = plan; is = is; says = inr (reads, (long, refl)) })
 
-  none_says_at : (m : Option ℕ) → made_by plan.command ≡ m → (r : Reply) → RepliesUnreadFor m plan.repos before after r → Says D Like NoPlan before after r
-  none_says_at None made r none = unread_says made r none
-  none_says_at (Some n) made r none = text_says (script_text n plan.repos) (subst (λ (m : Option ℕ). HasBytes m plan.repos before after (script_text n plan.repos)) (sym made) (none.0, refl)) r none.1
+  failed_says : Reads plan.command → Rose before.faults after.faults → (r : Reply) → r ≡ reply.SourceFault → Says D Like NoPlan before after r
+  failed_says reads rose r same = subst (λ (w : Reply). Says D Like NoPlan before after w) (sym same) (record { plan = plan; is = is; says = (reads, rose) })
 
-  pub none_says : (r : Reply) → RepliesUnreadFor (made_by plan.command) plan.repos before after r → Says D Like NoPlan before after r
-  none_says r none = none_says_at (made_by plan.command) refl r none
+  unread_says : origin_of plan.command ≡ Whole → (r : Reply) → RepliesUnread before after r → Says D Like NoPlan before after r
+  unread_says whole r (inl none) = text_says none.0 (subst (λ (m : Origin). HasBytes m plan.repos before after none.0) (sym whole) none.1.0) r none.1.1
+  unread_says whole r (inr (inl long)) = over_says (subst IsFromSource (sym whole) tt) long.1 r long.0
+  unread_says whole r (inr (inr failed)) = failed_says (subst IsFromSource (sym whole) tt) failed.1 r failed.0
+
+  -- ---- an audit
+
+  module _ (front : origin_of plan.command ≡ Front) where
+    has_front : (bytes : List ℕ) → WasRead before.left after.left bytes → HasBytes (origin_of plan.command) plan.repos before after (script_part bytes)
+    has_front bytes was = subst (λ (m : Origin). HasBytes m plan.repos before after (script_part bytes)) (sym front) (bytes, (was, refl))
+
+    is_audit : (c : Command) → origin_of c ≡ Front → c ≡ Audit
+    is_audit Check e = let bad : Whole ≡ Front = e in cc
+    is_audit Play e = let bad : Whole ≡ Front = e in cc
+    is_audit Run e = let bad : Whole ≡ Front = e in cc
+    is_audit (Gen n) e = let bad : Generated n ≡ Front = e in cc
+    is_audit Audit e = refl
+
+    report_says : (bytes : List ℕ) → WasRead before.left after.left bytes → (script : Script) → IsWritten (script_part bytes) script → (r : Reply) → RepliesAccepted plan script (report_part bytes) r → Says D Like NoPlan before after r
+    report_says bytes was script written r accepted = by_reply accepted.replies
+      where
+        by_reply : RepliesReport (audited_of accepted.setup script) (report_part bytes) r → Says D Like NoPlan before after r
+        by_reply (inl legal) = subst (λ (w : Reply). Says D Like NoPlan before after w) (sym legal.0) (record { plan = plan; is = is; says = record { audits = is_audit plan.command front; bytes = bytes; was = was; script = script; written = written; within = accepted.within; setup = accepted.setup; has_setup = accepted.has_setup; accepted = accepted.accepted; says = legal.1 } })
+        by_reply (inr (inl disagrees)) = subst (λ (w : Reply). Says D Like NoPlan before after w) (sym disagrees.1.0) (record { plan = plan; is = is; says = record { audits = is_audit plan.command front; bytes = bytes; was = was; script = script; written = written; within = accepted.within; setup = accepted.setup; has_setup = accepted.has_setup; accepted = accepted.accepted; says = disagrees.1.1 } })
+        by_reply (inr (inr none)) = subst (λ (w : Reply). Says D Like NoPlan before after w) (sym none.1.0) (record { plan = plan; is = is; says = record { audits = is_audit plan.command front; bytes = bytes; was = was; script = script; written = written; within = accepted.within; setup = accepted.setup; has_setup = accepted.has_setup; accepted = accepted.accepted; says = none.1.1 } })
+
+    fresh : IsStoredBy FreshBytes Fresh
+    fresh = record { each = λ images reads. reads }
+
+    unjudged_says : (bytes : List ℕ) → HasBytes (origin_of plan.command) plan.repos before after bytes → (script : Script) → IsRead bytes script → (r : Reply) → RepliesUnjudged FreshBytes plan script Fresh r → Says D Like NoPlan before after r
+    unjudged_says bytes has script read r (inl over) = subst (λ (w : Reply). Says D Like NoPlan before after w) (sym over.1.0)
+        (record {
+          plan = plan;
+          is = is;
+          says = inl (record {
+            script = script;
+            bytes = bytes;
+            has = has;
+            written = read.written;
+            says = subst (λ (c : Command). IsOverLimit (disks_for c D) script over.0) (sym (is_audit plan.command front))
+                (unjudged_replies FreshBytes plan script Fresh fresh read.clients read.events (reply.Limit over.0) (inl (over.0, (refl, over.1.1))));
+          });
+        })
+    unjudged_says bytes has script read r (inr (inl setup)) = subst (λ (w : Reply). Says D Like NoPlan before after w) (sym setup.0)
+        (record {
+          plan = plan;
+          is = is;
+          says = inr (record {
+            script = script;
+            bytes = bytes;
+            has = has;
+            written = read.written;
+            says = subst (λ (c : Command). IsRefusalOf (disks_for c D) plan script refusals.Setup) (sym (is_audit plan.command front))
+                (unjudged_replies FreshBytes plan script Fresh fresh read.clients read.events (reply.Refused refusals.Setup) (inr (inl (refl, setup.1))));
+          });
+        })
+    unjudged_says bytes has script read r (inr (inr rule)) = subst (λ (w : Reply). Says D Like NoPlan before after w) (sym rule.1.1.0)
+        (record {
+          plan = plan;
+          is = is;
+          says = inr (record {
+            script = script;
+            bytes = bytes;
+            has = has;
+            written = read.written;
+            says = subst (λ (c : Command). IsRefusalOf (disks_for c D) plan script rule.1.0) (sym (is_audit plan.command front))
+                (unjudged_replies FreshBytes plan script Fresh fresh read.clients read.events (reply.Refused rule.1.0) (inr (inr (rule.0, (rule.1.0, (refl, rule.1.1.1))))));
+          });
+        })
+
+    audit_says : (bytes : List ℕ) → WasRead before.left after.left bytes → (script : Script) → IsRead (script_part bytes) script → (r : Reply) → RepliesAudit plan script (report_part bytes) r → Says D Like NoPlan before after r
+    audit_says bytes was script read r (inl none) = unjudged_says (script_part bytes) (has_front bytes was) script read r none
+    audit_says bytes was script read r (inr accepted) = report_says bytes was script read.written r accepted
+
+    parts_say : (bytes : List ℕ) → WasRead before.left after.left bytes → (r : Reply) → RepliesAudited plan bytes r → Says D Like NoPlan before after r
+    parts_say bytes was r (inl none) = text_says (script_part bytes) (has_front bytes was) r none
+    parts_say bytes was r (inr read) = audit_says bytes was read.0 read.1.0 r read.1.1
+
+    source_says : (r : Reply) → RepliesSource plan before after r → Says D Like NoPlan before after r
+    source_says r (inl read) = parts_say read.0 read.1.0 r read.1.1
+    source_says r (inr (inl long)) = over_says (subst IsFromSource (sym front) tt) long.1 r long.0
+    source_says r (inr (inr failed)) = failed_says (subst IsFromSource (sym front) tt) failed.1 r failed.0
+
+  none_says_at : (m : Origin) → origin_of plan.command ≡ m → (r : Reply) → RepliesUnreadFor m plan before after r → Says D Like NoPlan before after r
+  none_says_at Whole made r none = unread_says made r none
+  none_says_at Front made r none = source_says made r none
+  none_says_at (Generated n) made r none = text_says (script_text n plan.repos) (subst (λ (m : Origin). HasBytes m plan.repos before after (script_text n plan.repos)) (sym made) (none.0, refl)) r none.1
+
+  pub none_says : (r : Reply) → RepliesUnreadFor (origin_of plan.command) plan before after r → Says D Like NoPlan before after r
+  none_says r none = none_says_at (origin_of plan.command) refl r none

@@ -5,7 +5,6 @@ use Rattle.class_defs.specs.declared.store.Plain.{Plain}
 use Rattle.class_defs.specs.declared.store.Schemas.{Schemas}
 use Rattle.outside.specs.Faults.{Rose}
 use Rattle.outside.specs.Streams.{IsMoreThan}
-use Rattle.script_bank.specs.Bank.{script_text}
 use Rattle.script_parse.specs.Script.{HasFew, IsRefusedText, IsWritten}
 use Rattle.script_parse.specs.declared.refusal.Refusal.{Refusal}
 use Rattle.script_parse.specs.declared.refusal.Refusal.TheVariants as refusals
@@ -51,15 +50,6 @@ RepliesUnread before after r =
     ((bytes : List ℕ) × (WasRead before.left after.left bytes × RepliesText bytes r))
     ⊎ (((r ≡ reply.Limit 8388608) × IsMoreThan 8388608 before.left)
     ⊎ ((r ≡ reply.SourceFault) × Rose before.faults after.faults))
-
--- the script of the source, or the generated one of this number
-abbrev pub IsScriptFor : Option ℕ → ℕ → Told → Told → Script → Type 0
-IsScriptFor None repos before after script = IsReadFrom before after script
-IsScriptFor (Some n) repos before after script = (after ≡ before) × IsRead (script_text n repos) script
-
-abbrev pub RepliesUnreadFor : Option ℕ → ℕ → Told → Told → Reply → Type 0
-RepliesUnreadFor None repos before after r = RepliesUnread before after r
-RepliesUnreadFor (Some n) repos before after r = (after ≡ before) × RepliesText (script_text n repos) r
 
 -- ---- the store
 

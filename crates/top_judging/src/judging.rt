@@ -22,7 +22,7 @@ use top_reply::Reply;
 use top_words::Plan;
 
 /// The most upgrades that a store may have, those of the script included.
-const UPGRADE_LIMIT: usize = 1_000;
+pub(crate) const UPGRADE_LIMIT: usize = 1_000;
 
 /// The greatest life of a repository as it is opened.
 const LIFE_LIMIT: u32 = 4_290_000_000;
@@ -89,7 +89,7 @@ fn judged_on(
 }
 
 /// The schemas of the store, where a script breaks no rule under them; else the reply.
-fn judged(
+pub(crate) fn judged(
     alloc: Global,
     plan: &Plan,
     script: &Script,

@@ -1,6 +1,7 @@
 //! What a plan comes to before its run: its script, and the store that was found, on which the script breaks no rule.
 #![tactic(auto)]
 
+mod auditing;
 mod finding;
 mod judging;
 mod reading;

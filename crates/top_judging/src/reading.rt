@@ -3,9 +3,11 @@
 ghost use Rattle.script_bank.specs.Bank.{script_text};
 ghost use Rattle.std.specs.Prelude.{IfErr, IfOk, IfSome, None, length, ◌≡◌, ◌≤◌};
 ghost use Rattle.std.specs.String.{string_bytes};
-ghost use Rattle.top_judging.specs.Stages.{IsRead, IsReadFrom, IsScriptFor, RepliesOver, RepliesText, RepliesUnread, RepliesUnreadFor};
-ghost use Rattle.top_statement.specs.Top.{IsOverScript, made_by, told_by};
+ghost use Rattle.top_judging.specs.Origins.{IsScriptFor, RepliesUnreadFor};
+ghost use Rattle.top_judging.specs.Stages.{IsRead, IsReadFrom, RepliesOver, RepliesText, RepliesUnread};
+ghost use Rattle.top_statement.specs.Top.{IsOverScript, origin_of, told_by};
 
+use crate::auditing::audit_source;
 use outside::{ReadAll, Source, read_all};
 use script_bank::generate;
 use script_parse::{ReadError, Script, read_script};
@@ -55,7 +57,7 @@ fn within_limits(script: Script) -> Result<Script, Result<Reply, NoMemory>>
 }
 
 /// The script that bytes are; else the reply.
-fn read_bytes(alloc: Global, bytes: &[u8]) -> Result<Script, Result<Reply, NoMemory>>
+pub(crate) fn read_bytes(alloc: Global, bytes: &[u8]) -> Result<Script, Result<Reply, NoMemory>>
     ensures script { IfOk result (IsRead bytes.now) }
     ensures reply { IfErr result (λ reply. IfOk reply (RepliesText bytes.now)) }
 {
@@ -102,17 +104,18 @@ fn generated_script(alloc: Global, n: u16, repos: u8) -> Result<Script, Result<R
     }
 }
 
-/// The script that a plan asks for; else the reply.
+/// The script that a plan asks for; else the reply. An audit runs no script, so it has a reply.
 pub fn script_of<S: Source>(
     alloc: Global,
     plan: &Plan,
     source: &mut S,
 ) -> Result<Script, Result<Reply, NoMemory>>
-    ensures script { IfOk result (IsScriptFor (made_by plan.now.command) plan.now.repos (told_by S.left S.faults source.old) (told_by S.left S.faults source.new)) }
-    ensures reply { IfErr result (λ reply. IfOk reply (RepliesUnreadFor (made_by plan.now.command) plan.now.repos (told_by S.left S.faults source.old) (told_by S.left S.faults source.new))) }
+    ensures script { IfOk result (IsScriptFor (origin_of plan.now.command) plan.now.repos (told_by S.left S.faults source.old) (told_by S.left S.faults source.new)) }
+    ensures reply { IfErr result (λ reply. IfOk reply (RepliesUnreadFor (origin_of plan.now.command) plan.now (told_by S.left S.faults source.old) (told_by S.left S.faults source.new))) }
 {
     match plan.command {
         Command::Check | Command::Play | Command::Run => read_source(alloc, source),
         Command::Gen { n } => generated_script(alloc, n, plan.repos),
+        Command::Audit => Err(audit_source(alloc, plan, source)),
     }
 }

@@ -13,7 +13,7 @@ use store_opening::Found;
 use thor_value::{NoMemory, TryCopy};
 
 /// The schemas of the store that a setup opens.
-fn first_schemas(alloc: Global, setup: &Declarations) -> Result<Schemas, NoMemory>
+pub(crate) fn first_schemas(alloc: Global, setup: &Declarations) -> Result<Schemas, NoMemory>
     requires { length setup.now.roots < 2 ^ 32 }
     ensures { IfOk result (λ base. base ≡ first_schemas setup.now) }
 {

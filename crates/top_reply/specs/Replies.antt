@@ -1,7 +1,7 @@
 -- The status and the text of a reply (this project's).
 use Rattle.script_parse.specs.Refusals.{refusal_text}
 use Rattle.std.specs.Prelude.{Bool, false, true, ℕ, List, [], ◌∷◌, codes, ◌++◌}
-use Rattle.top_reply.specs.Texts.{damaged_text, disk_text, limit_text}
+use Rattle.top_reply.specs.Texts.{damaged_text, disagreement_text, disk_text, limit_text, no_report_text}
 use Rattle.top_reply.specs.declared.form.Form.{Form}
 use Rattle.top_reply.specs.declared.form.Form.TheVariants as form
 use Rattle.top_reply.specs.declared.reply.Reply.{Reply}
@@ -25,6 +25,9 @@ status_of (reply.DiskFault repo) = status.DiskFault
 status_of (reply.Damaged repo disk place) = status.Damaged
 status_of reply.Words = status.Words
 status_of reply.SourceFault = status.SourceFault
+status_of reply.Legal = status.Done
+status_of (reply.Disagrees at) = status.Disagrees
+status_of (reply.NoReport line) = status.Report
 
 -- the text that is written
 abbrev pub text_of : Reply → List ℕ
@@ -37,6 +40,9 @@ text_of (reply.DiskFault repo) = disk_text repo
 text_of (reply.Damaged repo disk place) = damaged_text repo disk place
 text_of reply.Words = codes "words" ++ 10 ∷ []
 text_of reply.SourceFault = codes "source" ++ 10 ∷ []
+text_of reply.Legal = codes "legal" ++ 10 ∷ []
+text_of (reply.Disagrees at) = disagreement_text at
+text_of (reply.NoReport line) = no_report_text line
 
 -- the reply that tells a run in a form
 abbrev pub run_reply : Form → Bool → List ℕ → Reply

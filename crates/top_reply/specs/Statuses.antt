@@ -14,3 +14,5 @@ code_of status.DiskFault = 6
 code_of status.Damaged = 7
 code_of status.Limit = 8
 code_of status.NoMemory = 9
+code_of status.Report = 10
+code_of status.Disagrees = 11

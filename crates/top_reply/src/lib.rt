@@ -13,4 +13,6 @@ pub use form::Form;
 pub use reply::Reply;
 pub use running::Running;
 pub use status::Status;
-pub use texts::{damaged_text, disk_text, limit_text, status_of};
+pub use texts::{
+    damaged_text, disagreement_text, disk_text, limit_text, no_report_text, status_of,
+};

@@ -1,5 +1,6 @@
 //! What the program replies, as data.
 
+use audit_check::Disagreement;
 use script_parse::Refusal;
 use thor_value::Text;
 
@@ -25,4 +26,10 @@ pub enum Reply {
     Words,
     /// The source failed.
     SourceFault,
+    /// The report is true of the script.
+    Legal,
+    /// The report isn't true of the script, and this is its first line that isn't.
+    Disagrees { at: Disagreement },
+    /// What should be a report is none: it stops to be one on this line, counted from 1.
+    NoReport { line: u32 },
 }

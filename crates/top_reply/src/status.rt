@@ -25,6 +25,10 @@ pub enum Status {
     Limit,
     /// Memory was not there, or the run didn't pass the check of its own history.
     NoMemory,
+    /// What is to be audited is no report.
+    Report,
+    /// The report that is audited isn't true of the script.
+    Disagrees,
 }
 
 impl Status {
@@ -43,6 +47,8 @@ impl Status {
             Status::Damaged => 7,
             Status::Limit => 8,
             Status::NoMemory => 9,
+            Status::Report => 10,
+            Status::Disagrees => 11,
         }
     }
 }

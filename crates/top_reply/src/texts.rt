@@ -2,10 +2,11 @@
 
 ghost use Rattle.std.specs.Prelude.{◌≡◌, IfOk};
 ghost use Rattle.top_reply.specs.Replies.{status_of, status_of_run};
-ghost use Rattle.top_reply.specs.Texts.{damaged_text, disk_text, limit_text};
+ghost use Rattle.top_reply.specs.Texts.{damaged_text, disagreement_text, disk_text, limit_text, no_report_text};
 
 use crate::reply::Reply;
 use crate::status::Status;
+use audit_check::Disagreement;
 use std::alloc::Global;
 use std::fmt::Write;
 use thor_value::{NoMemory, Text};
@@ -35,6 +36,9 @@ pub fn status_of(reply: &Reply) -> Status
         Reply::Damaged { .. } => Status::Damaged,
         Reply::Words => Status::Words,
         Reply::SourceFault => Status::SourceFault,
+        Reply::Legal => Status::Done,
+        Reply::Disagrees { .. } => Status::Disagrees,
+        Reply::NoReport { .. } => Status::Report,
     }
 }
 
@@ -65,5 +69,28 @@ pub fn damaged_text(alloc: Global, repo: u8, disk: u8, place: u64) -> Result<Tex
 {
     let mut out = String::new(alloc);
     write!(out, "damaged {repo} {disk} {place}\n")?;
+    Ok(Text::from_vec(out.into_bytes()))
+}
+
+/// The text where a report isn't true of its script.
+#[tactic(auto, using(std::proofs::Common::append_assoc))]
+pub fn disagreement_text(alloc: Global, at: Disagreement) -> Result<Text, NoMemory>
+    ensures { IfOk result (λ text. text ≡ disagreement_text at) }
+{
+    let mut out = String::new(alloc);
+    match at {
+        Disagreement::Entry { index } => write!(out, "entry {index}\n")?,
+        Disagreement::Item { index } => write!(out, "item {index}\n")?,
+    }
+    Ok(Text::from_vec(out.into_bytes()))
+}
+
+/// The text where what should be a report is none.
+#[tactic(auto, using(std::proofs::Common::append_assoc))]
+pub fn no_report_text(alloc: Global, line: u32) -> Result<Text, NoMemory>
+    ensures { IfOk result (λ text. text ≡ no_report_text line) }
+{
+    let mut out = String::new(alloc);
+    write!(out, "report {line}\n")?;
     Ok(Text::from_vec(out.into_bytes()))
 }

@@ -24,6 +24,9 @@ never_sink (reply.DiskFault repo) e = cc
 never_sink (reply.Damaged repo disk place) e = cc
 never_sink reply.Words e = cc
 never_sink reply.SourceFault e = cc
+never_sink reply.Legal e = cc
+never_sink (reply.Disagrees at) e = cc
+never_sink (reply.NoReport line) e = cc
 
 never_memory : (r : Reply) → status_of r ≡ status.NoMemory → ⊥
 never_memory (reply.Report true text) e = cc
@@ -37,6 +40,9 @@ never_memory (reply.DiskFault repo) e = cc
 never_memory (reply.Damaged repo disk place) e = cc
 never_memory reply.Words e = cc
 never_memory reply.SourceFault e = cc
+never_memory reply.Legal e = cc
+never_memory (reply.Disagrees at) e = cc
+never_memory (reply.NoReport line) e = cc
 
 -- where the sink failed it counted that
 pub rose_of : (r : Result Reply NoMemory) (had taken : Option (List ℕ)) (before after : ℕ) (s : Status) → Wrote r had taken before after s → s ≡ status.SinkFault → Rose before after

@@ -7,7 +7,7 @@ use Rattle.top_reply.specs.declared.reply.Reply.TheVariants as reply
 use Rattle.thor_value.specs.declared.memory.NoMemory.{NoMemory}
 use Rattle.top_statement.specs.Top.{form_of}
 
--- the words, the script or the store is refused, or the script couldn't be read
+-- the words, the script, the store or a report is refused, or the script couldn't be read
 abbrev pub Refuses : Reply → Type 0
 Refuses (reply.Report finished text) = ⊥
 Refuses (reply.Summary finished text) = ⊥
@@ -18,6 +18,9 @@ Refuses (reply.DiskFault repo) = ⊥
 Refuses (reply.Damaged repo disk place) = Unit {0}
 Refuses reply.Words = Unit {0}
 Refuses reply.SourceFault = Unit {0}
+Refuses reply.Legal = ⊥
+Refuses (reply.Disagrees at) = Unit {0}
+Refuses (reply.NoReport line) = Unit {0}
 
 -- what is to be written refuses something
 abbrev pub RefusesBy : Result Reply NoMemory → Type 0

@@ -1,3 +1,4 @@
+pub mod Audits
 pub mod Kept
 pub mod Opening
 pub mod Reports

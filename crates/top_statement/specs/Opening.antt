@@ -30,6 +30,10 @@ IsStore None base store = store.epoch ≡ length base.upgraded
 abbrev pub DiskBytes : Type 1
 DiskBytes = List (ℕ → List ℕ) → Type 0
 
+-- those of a fresh store
+abbrev pub FreshBytes : DiskBytes
+FreshBytes images = IsFreshIn images
+
 -- what was found of a store is what the disks hold
 pub record IsStoredBy (DiskReads : DiskBytes) (store : Store) : Type 0 where
   pub each : (images : List (ℕ → List ℕ)) → DiskReads images → IsStoredIn images store

@@ -3,6 +3,9 @@ use Rattle.std.specs.Prelude.{◌≡◌, ◌⊎◌, ◌+◌, ℕ, Bool, List, Op
 use Rattle.script_bank.specs.Bank.{script_text}
 use Rattle.outside.specs.Faults.{Rose}
 use Rattle.outside.specs.Streams.{IsAtEnd, IsMoreThan, Took}
+use Rattle.audit_check.specs.declared.audited.Audited.{Audited}
+use Rattle.audit_check.specs.declared.disagreement.Disagreement.{Disagreement}
+use Rattle.class_defs.specs.declared.declarations.Declarations.{Declarations}
 use Rattle.class_defs.specs.declared.store.Schemas.{Schemas}
 use Rattle.script_check.specs.Judging.{BreaksRule}
 use Rattle.script_check.specs.Upgrading.{last_schema, upgrades_of}
@@ -13,11 +16,12 @@ use Rattle.script_parse.specs.declared.script.Script.{Script}
 use Rattle.store_opening.specs.Limits.{HasCountAbove, HasLifeAbove}
 use Rattle.store_opening.specs.Reading.{epochs_in}
 use Rattle.store_opening.specs.declared.found.Store.{Store}
-use Rattle.top_statement.specs.Opening.{DiskBytes, FitsDisks, IsAccepted, IsBase, IsStoredBy, MisfitsDisks, OneOfDisks}
+use Rattle.top_statement.specs.Audits.{DisagreesAt, IsNoReport, IsTrueReport, audited_of, report_part, script_part}
+use Rattle.top_statement.specs.Opening.{DiskBytes, FitsDisks, FreshBytes, IsAccepted, IsBase, IsStoredBy, MisfitsDisks, OneOfDisks, first_schemas}
 use Rattle.top_statement.specs.Reports.{IsReport}
 use Rattle.top_words.specs.Words.{plan_of}
 use Rattle.top_words.specs.declared.command.Command.{Command}
-use Rattle.top_words.specs.declared.command.Command.TheVariants.{Check, Play, Run, Gen}
+use Rattle.top_words.specs.declared.command.Command.TheVariants.{Audit, Check, Play, Run, Gen}
 use Rattle.top_words.specs.declared.command.Plan.{Plan}
 use Rattle.top_reply.specs.declared.form.Form.{Form}
 use Rattle.top_reply.specs.declared.form.Form.TheVariants as form
@@ -44,22 +48,35 @@ pub record WasRead (before after : Option (List ℕ)) (bytes : List ℕ) : Type 
   pub at_end : IsAtEnd after
   pub short : length bytes ≤ 8388608
 
--- the number of the generated script that a command runs; the others read theirs from the source
-abbrev pub made_by : Command → Option ℕ
-made_by Check = None
-made_by Play = None
-made_by Run = None
-made_by (Gen n) = Some n
+-- where a script comes from: it is all that the source gives, or what stands there before the first byte 30; or it is the
+-- generated one of a number
+pub data Origin : Type 0 where
+  Whole : Origin
+  Front : Origin
+  Generated : ℕ → Origin
+
+abbrev pub origin_of : Command → Origin
+origin_of Check = Whole
+origin_of Play = Whole
+origin_of Run = Whole
+origin_of (Gen n) = Generated n
+origin_of Audit = Front
+
+abbrev pub IsFromSource : Origin → Type 0
+IsFromSource Whole = Unit {0}
+IsFromSource Front = Unit {0}
+IsFromSource (Generated n) = ⊥
 
 -- the command reads its script from the source
 abbrev pub Reads : Command → Type 0
-Reads command = made_by command ≡ None
+Reads command = IsFromSource (origin_of command)
 
--- The bytes that are taken for a script: the source is read to its end; or they are those of the generated one, and the source
--- is as it was.
-abbrev pub HasBytes : Option ℕ → ℕ → Told → Told → List ℕ → Type 0
-HasBytes None repos before after bytes = WasRead before.left after.left bytes
-HasBytes (Some n) repos before after bytes = (after ≡ before) × (bytes ≡ script_text n repos)
+-- The bytes that are taken for a script: the source is read to its end, and they are its bytes, or those before the first byte 30;
+-- or they are those of the generated one, and the source is as it was.
+abbrev pub HasBytes : Origin → ℕ → Told → Told → List ℕ → Type 0
+HasBytes Whole repos before after bytes = WasRead before.left after.left bytes
+HasBytes Front repos before after bytes = (whole : List ℕ) × (WasRead before.left after.left whole × (bytes ≡ script_part whole))
+HasBytes (Generated n) repos before after bytes = (after ≡ before) × (bytes ≡ script_text n repos)
 
 -- how a command tells a run, where it makes one
 abbrev pub form_of : Command → Option Form
@@ -67,6 +84,7 @@ form_of Check = None
 form_of Play = Some form.Report
 form_of Run = Some form.Report
 form_of (Gen n) = Some form.Summary
+form_of Audit = None
 
 -- how a command performs a run, where it makes one
 abbrev pub running_of : Command → Running
@@ -74,20 +92,51 @@ running_of Check = InTurn
 running_of Play = InTurn
 running_of Run = OnThreads
 running_of (Gen n) = InTurn
+running_of Audit = InTurn
+
+-- which bytes the disks give of the store to which a command takes its script: those of the parts, or for an audit those of a fresh one
+abbrev pub disks_for : Command → DiskBytes → DiskBytes
+disks_for Check DiskReads = DiskReads
+disks_for Play DiskReads = DiskReads
+disks_for Run DiskReads = DiskReads
+disks_for (Gen n) DiskReads = DiskReads
+disks_for Audit DiskReads = FreshBytes
 
 -- these bytes were taken for a script, and this is true of them
 pub record OfBytes (plan : Plan) (before after : Told) (Of : List ℕ → Type 0) : Type 0 where
   pub bytes : List ℕ
-  pub has : HasBytes (made_by plan.command) plan.repos before after bytes
+  pub has : HasBytes (origin_of plan.command) plan.repos before after bytes
   pub says : Of bytes
 
 -- they are this script, and this is true of it
 pub record OfScript (plan : Plan) (before after : Told) (Of : Script → Type 0) : Type 0 where
   pub script : Script
   pub bytes : List ℕ
-  pub has : HasBytes (made_by plan.command) plan.repos before after bytes
+  pub has : HasBytes (origin_of plan.command) plan.repos before after bytes
   pub written : IsWritten bytes script
   pub says : Of script
+
+-- ---- limits
+
+-- at most 64 clients, at most 1,000,000 events, and at most 1,000 upgrades
+pub record IsWithinLimits (script : Script) : Type 0 where
+  pub clients : length script.clients ≤ 64
+  pub events : length script.events ≤ 1000000
+  pub upgrades : length (upgrades_of script.clients) ≤ 1000
+
+-- The command is `audit`. The source was read to its end, and its bytes before the first byte 30 are a script with a setup that
+-- breaks no rule on the store that this opens; and this is true of what a report is judged by, and of the bytes behind that byte.
+pub record OfReport (plan : Plan) (before after : Told) (Of : Audited → Option (List ℕ) → Type 0) : Type 0 where
+  pub audits : plan.command ≡ Audit
+  pub bytes : List ℕ
+  pub was : WasRead before.left after.left bytes
+  pub script : Script
+  pub written : IsWritten (script_part bytes) script
+  pub within : IsWithinLimits script
+  pub setup : Declarations
+  pub has_setup : script.setup ≡ Some setup
+  pub accepted : IsAccepted plan.repos script (first_schemas setup)
+  pub says : Of (audited_of setup script) (report_part bytes)
 
 -- ---- which plan
 
@@ -115,13 +164,7 @@ pub record ByPlan (Like : Plan → Type 0) (Of : Plan → Type 0) : Type 0 where
   pub is : Like plan
   pub says : Of plan
 
--- ---- limits
-
--- at most 64 clients, at most 1,000,000 events, and at most 1,000 upgrades
-pub record IsWithinLimits (script : Script) : Type 0 where
-  pub clients : length script.clients ≤ 64
-  pub events : length script.events ≤ 1000000
-  pub upgrades : length (upgrades_of script.clients) ≤ 1000
+-- ---- the limit that is passed
 
 -- the first limit of a script's own that is passed
 abbrev pub IsOverScript : Script → ℕ → Type 0
@@ -186,6 +229,9 @@ RepliesTo DiskReads plan script (reply.DiskFault repo) = Unit {0}
 RepliesTo DiskReads plan script (reply.Damaged repo disk place) = Unit {0}
 RepliesTo DiskReads plan script reply.Words = ⊥
 RepliesTo DiskReads plan script reply.SourceFault = ⊥
+RepliesTo DiskReads plan script reply.Legal = ⊥
+RepliesTo DiskReads plan script (reply.Disagrees at) = ⊥
+RepliesTo DiskReads plan script (reply.NoReport line) = ⊥
 
 -- ---- what is said, reply by reply
 
@@ -199,11 +245,11 @@ SaysAccepted DiskReads Like before after = ByPlan Like (λ plan. OfScript plan b
 
 -- the bytes are no script, or the script is refused
 abbrev pub SaysRefused : DiskBytes → (Plan → Type 0) → Told → Told → Refusal → Type 0
-SaysRefused DiskReads Like before after r = ByPlan Like (λ plan. OfBytes plan before after (λ bytes. IsRefusedText bytes r) ⊎ OfScript plan before after (λ script. IsRefusalOf DiskReads plan script r))
+SaysRefused DiskReads Like before after r = ByPlan Like (λ plan. OfBytes plan before after (λ bytes. IsRefusedText bytes r) ⊎ OfScript plan before after (λ script. IsRefusalOf (disks_for plan.command DiskReads) plan script r))
 
 -- the script passes this limit, or the store does, or the source
 abbrev pub SaysLimit : DiskBytes → (Plan → Type 0) → Told → Told → ℕ → Type 0
-SaysLimit DiskReads Like before after limit = ByPlan Like (λ plan. OfScript plan before after (λ script. IsOverLimit DiskReads script limit) ⊎ IsTooLong plan.command before limit)
+SaysLimit DiskReads Like before after limit = ByPlan Like (λ plan. OfScript plan before after (λ script. IsOverLimit (disks_for plan.command DiskReads) script limit) ⊎ IsTooLong plan.command before limit)
 
 -- a disk of a repository failed while the store was opened; the bytes are a script
 abbrev pub SaysDisk : (Plan → Type 0) → Told → Told → ℕ → Type 0
@@ -221,6 +267,19 @@ SaysWords NoPlan before after = NoPlan × (after ≡ before)
 abbrev pub SaysSource : (Plan → Type 0) → Told → Told → Type 0
 SaysSource Like before after = ByPlan Like (λ plan. Reads plan.command × Rose before.faults after.faults)
 
+-- the report is true of the script: it tells one legal serial history of the script's items, which answers each of them once and
+-- each client's in its order
+abbrev pub SaysLegal : (Plan → Type 0) → Told → Told → Type 0
+SaysLegal Like before after = ByPlan Like (λ plan. OfReport plan before after IsTrueReport)
+
+-- the report isn't true of the script, and this is its first line that isn't
+abbrev pub SaysDisagrees : (Plan → Type 0) → Told → Told → Disagreement → Type 0
+SaysDisagrees Like before after at = ByPlan Like (λ plan. OfReport plan before after (λ a part. DisagreesAt a part at))
+
+-- what stands behind the script is no report, and stops to be one on this line
+abbrev pub SaysNoReport : (Plan → Type 0) → Told → Told → ℕ → Type 0
+SaysNoReport Like before after line = ByPlan Like (λ plan. OfReport plan before after (λ a part. IsNoReport part line))
+
 -- What is true where the program gives a reply, where there is a plan like this, or none.
 abbrev pub Says : DiskBytes → (Plan → Type 0) → Type 0 → Told → Told → Reply → Type 0
 Says DiskReads Like NoPlan before after (reply.Report finished text) = SaysRun DiskReads form.Report Like before after finished text
@@ -232,3 +291,6 @@ Says DiskReads Like NoPlan before after (reply.DiskFault repo) = SaysDisk Like b
 Says DiskReads Like NoPlan before after (reply.Damaged repo disk place) = SaysDamaged Like before after repo disk place
 Says DiskReads Like NoPlan before after reply.Words = SaysWords NoPlan before after
 Says DiskReads Like NoPlan before after reply.SourceFault = SaysSource Like before after
+Says DiskReads Like NoPlan before after reply.Legal = SaysLegal Like before after
+Says DiskReads Like NoPlan before after (reply.Disagrees at) = SaysDisagrees Like before after at
+Says DiskReads Like NoPlan before after (reply.NoReport line) = SaysNoReport Like before after line

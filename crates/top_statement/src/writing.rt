@@ -11,7 +11,10 @@ use outside::{Sink, write_all};
 use script_parse::refusal_text;
 use std::alloc::Global;
 use thor_value::{NoMemory, Text};
-use top_reply::{Reply, Status, damaged_text, disk_text, limit_text, status_of};
+use top_reply::{
+    Reply, Status, damaged_text, disagreement_text, disk_text, limit_text, no_report_text,
+    status_of,
+};
 
 /// Writes bytes.
 fn put<K: Sink>(sink: &mut K, bytes: &[u8]) -> Result<(), Unwritten>
@@ -49,6 +52,9 @@ fn write_reply<K: Sink>(alloc: Global, sink: &mut K, reply: &Reply) -> Result<()
         }
         Reply::Words => put(sink, b"words\n"),
         Reply::SourceFault => put(sink, b"source\n"),
+        Reply::Legal => put(sink, b"legal\n"),
+        Reply::Disagrees { at } => put_text(sink, disagreement_text(alloc, *at)),
+        Reply::NoReport { line } => put_text(sink, no_report_text(alloc, *line)),
     }
 }
 

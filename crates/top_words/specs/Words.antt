@@ -4,7 +4,7 @@ use Rattle.std.specs.Prelude.{◌≡◌, ℕ, ◌+◌, ◌&&◌, ◌||◌, ◌==
 use Rattle.std.specs.Str.{bytes_eq, is_utf8}
 use Rattle.script_text.specs.Numbers.{digits_value}
 use Rattle.top_words.specs.declared.command.Command.{Command}
-use Rattle.top_words.specs.declared.command.Command.TheVariants.{Check, Play, Run, Gen}
+use Rattle.top_words.specs.declared.command.Command.TheVariants.{Audit, Check, Play, Run, Gen}
 use Rattle.top_words.specs.declared.command.Given.{Given}
 use Rattle.top_words.specs.declared.command.Plan.{Plan}
 use Rattle.top_words.specs.declared.command.WordsFault.{WordsFault}
@@ -92,12 +92,13 @@ plan_by command given = record {
   cache = unwrap_or given.cache 64;
 }
 
--- `check` takes the repositories and the folder alone
+-- `check` takes the repositories and the folder alone, `audit` the repositories alone
 abbrev pub plan_for : Command → Given → Option Plan
 plan_for Play given = Some (plan_by Play given)
 plan_for Run given = Some (plan_by Run given)
 plan_for (Gen n) given = Some (plan_by (Gen n) given)
 plan_for Check given = if is_some given.tries || is_some given.mob || is_some given.cache then None else Some (plan_by Check given)
+plan_for Audit given = if is_some given.tries || is_some given.mob || is_some given.cache || is_some given.store then None else Some (plan_by Audit given)
 
 -- the plan of a command behind which these words are the options
 abbrev pub plan_with : Command → List (List ℕ) → Option Plan
@@ -107,7 +108,8 @@ abbrev pub command_named : List ℕ → Option Command
 command_named word =
     if bytes_eq word (codes "check") then Some Check
     else (if bytes_eq word (codes "play") then Some Play
-    else (if bytes_eq word (codes "run") then Some Run else None))
+    else (if bytes_eq word (codes "run") then Some Run
+    else (if bytes_eq word (codes "audit") then Some Audit else None)))
 
 -- `gen` is followed by one number, 1 to 1,000, and then by the options
 abbrev pub plan_of_gen : List (List ℕ) → Option Plan

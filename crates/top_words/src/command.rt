@@ -21,6 +21,8 @@ pub enum Command {
     Run,
     /// To run the generated script of this number, 1 to 1,000, and to add its accounts up.
     Gen { n: u16 },
+    /// To tell whether a report is true of a script.
+    Audit,
 }
 
 /// What the words of the program ask for.
@@ -248,6 +250,9 @@ fn plan_for(command: Command, given: Given) -> Option<Plan>
     if command == Command::Check && !bare {
         return None;
     }
+    if command == Command::Audit && !(bare && given.store.is_none()) {
+        return None;
+    }
     Some(Plan {
         command,
         repos: given.repos.unwrap_or(1),
@@ -265,6 +270,7 @@ fn command_named(word: &[u8]) -> Option<Command>
         b"check" => Some(Command::Check),
         b"play" => Some(Command::Play),
         b"run" => Some(Command::Run),
+        b"audit" => Some(Command::Audit),
         _ => None,
     }
 }
@@ -370,6 +376,7 @@ fn is_command(parsed: &Parsed<'_>, command: Command) -> bool {
         Command::Gen { n } => {
             parsed.command == "gen" && number_or(1_000, parsed.number, 0) == Some(u32::from(n))
         }
+        Command::Audit => parsed.command == "audit",
     }
 }
 
@@ -397,7 +404,7 @@ fn is_parsed(alloc: Global, words: &[Text], plan: &Plan) -> Result<bool, NoMemor
 /// What the words ask for, which aren't those of the program's name.
 ///
 /// `gen` is followed by one number. Each option is given at most once, as two words or as one with `=`. `check`
-/// takes the repositories and the folder alone. The list of words decides; `clap` reads what it takes, and where that is
+/// takes the repositories and the folder alone, `audit` the repositories alone. The list of words decides; `clap` reads what it takes, and where that is
 /// another plan nothing is answered: the fault is that of want of memory.
 pub fn read_words(alloc: Global, words: &[Text]) -> Result<Plan, WordsFault>
     ensures { Gives (spec.plan_of words.now) result }

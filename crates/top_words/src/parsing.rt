@@ -6,7 +6,10 @@ use std::alloc::{AllocError, Global};
 use std::str;
 use thor_value::{NoMemory, Text};
 
-/// The options that every command has.
+/// The option that every command has.
+const OF_ALL: [&str; 1] = ["repos"];
+
+/// Those that a command has that looks at a store.
 const OF_STORES: [&str; 2] = ["repos", "store"];
 
 /// Those that a command has besides that makes a run.
@@ -47,6 +50,7 @@ fn run_command<'a>(alloc: Global, name: &'a str) -> Result<Parser<'a>, AllocErro
 /// The program's words.
 fn parser<'a>(alloc: Global) -> Result<Parser<'a>, AllocError> {
     let check = with_options(alloc, Parser::new(alloc, "check"), &OF_STORES)?;
+    let audit = with_options(alloc, Parser::new(alloc, "audit"), &OF_ALL)?;
     let number = Arg::new(alloc, "number")
         .required(true)
         .action(ArgAction::Set);
@@ -55,6 +59,7 @@ fn parser<'a>(alloc: Global) -> Result<Parser<'a>, AllocError> {
         .subcommand(check)?
         .subcommand(run_command(alloc, "play")?)?
         .subcommand(run_command(alloc, "run")?)?
+        .subcommand(audit)?
         .subcommand(generated)
 }
 

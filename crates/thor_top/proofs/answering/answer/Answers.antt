@@ -1,6 +1,6 @@
 use Rattle.std.proofs.Common.{Err, IfOk, Result, refl, subst, sym, vec_len}
 use Rattle.store_opening.specs.Reading.{ReadAll}
-use Rattle.thor_top.proofs.ReplyLaws.{check_writes, no_words, one_check, words_say, writes_nothing}
+use Rattle.thor_top.proofs.ReplyLaws.{audit_writes, check_writes, no_words, one_audit, one_check, words_say, writes_nothing}
 use Rattle.thor_value.specs.declared.memory.NoMemory.{NoMemory}
 use Rattle.top_judging.proofs.StageLaws.{ok_map}
 use Rattle.top_reply.specs.declared.reply.Reply.{Reply}
@@ -25,6 +25,9 @@ returns-in-Ok-clause-kept g c = λ refuses. c.answer_plan.ensures.kept (writes_n
 
 pub returns-in-Ok-clause-checked : goal.returns-in-Ok-clause-checked
 returns-in-Ok-clause-checked g c = λ p is check. c.answer_plan.ensures.kept (check_writes c.in-Ok.plan.command c.answer_plan.result.reply (one_check c.args.words.now c.in-Ok.plan p c.in-Ok.ensures is check))
+
+pub returns-in-Ok-clause-audited : goal.returns-in-Ok-clause-audited
+returns-in-Ok-clause-audited g c = λ p is audit. c.answer_plan.ensures.kept (audit_writes c.in-Ok.plan.command c.answer_plan.result.reply (one_audit c.args.words.now c.in-Ok.plan p c.in-Ok.ensures is audit))
 
 pub returns-in-Err-Words-clause-reply : goal.returns-in-Err-Words-clause-reply
 returns-in-Err-Words-clause-reply g c =

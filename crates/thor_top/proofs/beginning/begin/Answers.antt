@@ -1,12 +1,12 @@
 use Rattle.std.proofs.Common.{IfOk, Result, arith, refl, subst, sym, vec_len, ◌≡◌}
 use Rattle.store_opening.specs.Reading.{ReadAll}
-use Rattle.thor_top.proofs.StageLaws.{foretells_map}
+use Rattle.thor_top.proofs.StageLaws.{for_store, foretells_map}
 use Rattle.thor_top.specs.Stages.{Foretells}
 use Rattle.thor_value.specs.declared.memory.NoMemory.{NoMemory}
 use Rattle.top_judging.proofs.StageLaws.{err_map, none_says, ok_map, script_says}
-use Rattle.top_judging.specs.Stages.{RepliesUnreadFor}
+use Rattle.top_judging.specs.Origins.{RepliesUnreadFor}
 use Rattle.top_reply.specs.declared.reply.Reply.{Reply}
-use Rattle.top_statement.specs.Top.{IsForOthers, IsHanded, RepliesTo, Says, Told, made_by, told_by}
+use Rattle.top_statement.specs.Top.{IsForOthers, IsHanded, RepliesTo, Says, Told, origin_of, told_by}
 use Rattle.thor_top.proofs.beginning.begin.Goals as goal
 
 pub returns-then-not-are_parts_of-clause-reply : goal.returns-then-not-are_parts_of-clause-reply
@@ -62,4 +62,10 @@ returns-in-Err-clause-reply g c =
     let handed : IsHanded plan count plan = record { same = refl; repos_are = repos } in
     let says = Says D (IsHanded plan count) (IsForOthers plan count) before after in
     subst (λ (q : Result Reply NoMemory). IfOk q says) (sym c.untouched-in-Err.ensures.reply)
-    (ok_map c.in-Err.reply (RepliesUnreadFor (made_by plan.command) plan.repos before after) says (none_says D (IsHanded plan count) (IsForOthers plan count) plan handed before after) c.in-Err.ensures.reply)
+    (ok_map c.in-Err.reply (RepliesUnreadFor (origin_of plan.command) plan before after) says (none_says D (IsHanded plan count) (IsForOthers plan count) plan handed before after) c.in-Err.ensures.reply)
+
+pub begin_script-requires-clause-store : goal.begin_script-requires-clause-store
+begin_script-requires-clause-store g c =
+    let before : Told = told_by g.S.Source.left g.S.Source.faults c.args.source.now in
+    let after : Told = told_by g.S.Source.left g.S.Source.faults c.script_of.new.source in
+    for_store c.args.plan.now.command c.args.plan.now.repos before after c.in-Ok.script c.in-Ok.ensures.script

@@ -13,10 +13,10 @@ returns-in-Some-clause-foretells g c = λ given stored.
     let plan = c.args.plan.now in
     let form = c.in-Some.form in
     let run_told = RepliesRun D (running_of plan.command) form plan.repos c.args.script in
-    let fits = fits_disks D c.args.script.setup c.args.judged.found.store stored c.requires.fits in
+    let fits = fits_disks D c.args.script.setup c.args.judged.found.store stored c.requires.judged.fits in
     let replied = RepliesTo D plan c.args.script in
     ok_map c.open_run.result (λ run. Foretells run_told run.expected) (λ run. Foretells replied run.expected)
-    (λ run. foretells_map run_told replied run.expected (run_replies D plan c.args.script form c.in-Some.ensures c.requires.within fits))
+    (λ run. foretells_map run_told replied run.expected (run_replies D plan c.args.script form c.in-Some.ensures c.requires.judged.within fits))
     (c.open_run.ensures.foretells given stored)
 
 pub returns-in-Some-clause-played : goal.returns-in-Some-clause-played
@@ -35,7 +35,7 @@ returns-in-Some-clause-kept g c = λ given has.
     (λ a failed. λ writes. absurd (unsettled_writes c.args.plan.now.command a.reply (c.in-Some.form, c.in-Some.ensures) failed writes)) c.open_run.ensures.reply
 
 pub checked-answered-requires-clause-command : goal.checked-answered-requires-clause-command
-checked-answered-requires-clause-command g c = no_form c.args.plan.now.command c.in-None.ensures
+checked-answered-requires-clause-command g c = no_form c.args.plan.now.command c.requires.store c.in-None.ensures
 
 pub returns-in-None-clause-kept : goal.returns-in-None-clause-kept
 returns-in-None-clause-kept g c = λ given has writes. c.checked-answered.ensures.same given has

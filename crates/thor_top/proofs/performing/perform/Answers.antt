@@ -1,4 +1,4 @@
-use Rattle.thor_top.proofs.ReplyLaws.{check_writes, writes_nothing}
+use Rattle.thor_top.proofs.ReplyLaws.{audit_writes, check_writes, writes_nothing}
 use Rattle.top_statement.proofs.WrittenLaws.{refuses_of, said_of}
 use Rattle.thor_top.proofs.performing.perform.Goals as goal
 
@@ -13,3 +13,7 @@ returns-clause-refused g c = λ refuses. rw c.write_answer.ensures.parts
 pub returns-clause-checked : goal.returns-clause-checked
 returns-clause-checked g c = λ check. rw c.write_answer.ensures.parts
     (c.answer_in_turn-answered.ensures.kept (check_writes c.args.plan.command c.answer_in_turn-answered.result.reply check))
+
+pub returns-clause-audited : goal.returns-clause-audited
+returns-clause-audited g c = λ audit. rw c.write_answer.ensures.parts
+    (c.answer_in_turn-answered.ensures.kept (audit_writes c.args.plan.command c.answer_in_turn-answered.result.reply audit))

@@ -36,3 +36,15 @@ returns-clause-refused g c = λ refuses. rw c.write_answer.ensures.parts
 
 pub returns-clause-checked : goal.returns-clause-checked
 returns-clause-checked g c = λ p is check. rw c.write_answer.ensures.parts (c.answer-answered.ensures.checked p is check)
+
+pub returns-clause-audited : goal.returns-clause-audited
+returns-clause-audited g c = λ p is audit. rw c.write_answer.ensures.parts (c.answer-answered.ensures.audited p is audit)
+
+pub returns-clause-legal : goal.returns-clause-legal
+returns-clause-legal g c = gives c.answer-answered.result.reply c.write_answer.result.reply reply.Legal _ c.write_answer.ensures.reply c.answer-answered.ensures.reply
+
+pub returns-clause-disagrees : goal.returns-clause-disagrees
+returns-clause-disagrees g c = λ at. gives c.answer-answered.result.reply c.write_answer.result.reply (reply.Disagrees at) _ c.write_answer.ensures.reply c.answer-answered.ensures.reply
+
+pub returns-clause-no_report : goal.returns-clause-no_report
+returns-clause-no_report g c = λ line. gives c.answer-answered.result.reply c.write_answer.result.reply (reply.NoReport line) _ c.write_answer.ensures.reply c.answer-answered.ensures.reply

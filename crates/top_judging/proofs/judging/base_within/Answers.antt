@@ -1,5 +1,5 @@
 use Rattle.top_judging.proofs.StageLaws.{err_reply_map, rule_refused}
-use Rattle.top_judging.specs.Stages.{RepliesRefused, RepliesRule}
+use Rattle.top_judging.specs.Stages.{FitsStore, RepliesRefused, RepliesRule}
 use Rattle.top_judging.proofs.judging.base_within.Goals as goal
 
 pub returns-in-Ok-Some-clause-reply : goal.returns-in-Ok-Some-clause-reply
@@ -7,4 +7,5 @@ returns-in-Ok-Some-clause-reply g c =
     let plan = c.args.plan.now in
     let script = c.args.script.now in
     let store = c.args.found.now.store in
-    err_reply_map c.judged.result (RepliesRule plan script) (RepliesRefused plan script store) (rule_refused plan script store c.in-Ok-Some.ensures.fits) c.judged.ensures.reply
+    let fits : FitsStore script.setup store = rw c.in-Ok-Some.field-0-is at c.in-Ok-Some.ensures.fits in
+    err_reply_map c.judged.result (RepliesRule plan script) (RepliesRefused plan script store) (rule_refused plan script store fits) c.judged.ensures.reply

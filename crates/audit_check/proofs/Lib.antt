@@ -1,0 +1,4 @@
+pub mod Told
+pub mod Found
+pub mod Rightness
+pub mod Agreeing

@@ -1,0 +1,4 @@
+pub mod Agreement
+pub mod Items
+pub mod Lines
+pub mod Standings
