@@ -30,7 +30,7 @@ python3 - "$(ls -S "$work"/counts.* | head -1)" "$*" <<'END'
 import re
 import sys
 
-PHASES = [("reading", "thor_top::reading::script_of"), ("checking", "thor_top::judging::judged"),
+PHASES = [("reading", "top_judging::reading::script_of"), ("checking", "top_judging::judging::judged"),
           ("running", "cluster_core::cluster::Cluster::turn"), ("the check of the report", "thor_top::telling::reported")]
 names, own, whole, calls, edge = {}, {}, {}, {}, None
 
