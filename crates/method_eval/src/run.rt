@@ -12,7 +12,7 @@ use crate::types::{method_of, type_named, type_of};
 use crate::world::World;
 use class_defs::{
     Block, DEPTH_LIMIT, Expr, ExprType, Exprs, Flow, Machine, Method, Receiver, Stmt, combined,
-    number,
+    literal_value, number, push_printed,
 };
 use std::mem;
 use thor_value::{Fault, Oref, Value, Values};
@@ -54,7 +54,7 @@ fn node(world: &World<'_>, inner: u32, machine: &mut Machine, expr: &Expr) -> Re
     ensures { Does result machine.new (node (reading world.now) inner expr.now machine.old) }
 {
     match expr {
-        Expr::Int { value, line: _ } => Ok(Value::Int(*value)),
+        Expr::Literal { value, line: _ } => Ok(literal_value(*value)),
         Expr::Null { line: _ } => Ok(Value::Null),
         Expr::This { line: _ } => Ok(match &machine.this {
             Some(this) => Value::Ref(this.oref),
@@ -321,7 +321,7 @@ fn statement(
         Stmt::Print { value } => {
             take_step(machine)?;
             let value = value_of(world, inner, machine, value)?;
-            machine.printed.push(number(value))?;
+            push_printed(value, &mut machine.printed)?;
             Ok(Flow::Next)
         }
         Stmt::Evaluate { value } => {
