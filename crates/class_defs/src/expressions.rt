@@ -1,5 +1,6 @@
 ghost use Rattle.std.specs.Prelude.{◌≡◌, IfOk};
 
+use crate::literals::Literal;
 use thor_value::{Boxed, NoMemory, Sequence, Text, TryCopy};
 
 /// A name as it stands in the text.
@@ -43,8 +44,9 @@ pub enum Operator {
 /// opening parenthesis, the name of the called method, the class behind `new`.
 #[derive(Debug, Drop)]
 pub enum Expr {
-    Int {
-        value: i64,
+    /// A number or a text.
+    Literal {
+        value: Literal,
         line: u32,
     },
     Null {
@@ -137,7 +139,7 @@ fn copy_expr(expr: &Expr) -> Result<Expr, NoMemory>
     ensures { IfOk result (λ copied. copied ≡ expr.now) }
 {
     match expr {
-        Expr::Int { value, line } => Ok(Expr::Int {
+        Expr::Literal { value, line } => Ok(Expr::Literal {
             value: *value,
             line: *line,
         }),

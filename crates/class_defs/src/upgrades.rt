@@ -2,6 +2,7 @@ ghost use Rattle.std.specs.Prelude.{◌≡◌, IfOk};
 
 use crate::classes::Methods;
 use crate::expressions::{Name, Operator, TypeName};
+use crate::literals::Literal;
 use thor_value::{Boxed, NoMemory, Sequence, TryCopy};
 
 /// Names in a row, as those of a path behind `old`.
@@ -13,8 +14,9 @@ pub enum Tf {
     Null {
         line: u32,
     },
-    Int {
-        value: i64,
+    /// A number or a text.
+    Literal {
+        value: Literal,
         line: u32,
     },
     /// `old.name.name..`, with the line of `old`.
@@ -134,7 +136,7 @@ fn copy_tf(tf: &Tf) -> Result<Tf, NoMemory>
 {
     match tf {
         Tf::Null { line } => Ok(Tf::Null { line: *line }),
-        Tf::Int { value, line } => Ok(Tf::Int {
+        Tf::Literal { value, line } => Ok(Tf::Literal {
             value: *value,
             line: *line,
         }),

@@ -10,6 +10,7 @@ use Rattle.thor_value.proofs.values.Value.TheSendSync as value
 use Rattle.thor_value.specs.contracts.sequence.Sequence as Sequence
 use Rattle.class_defs.proofs.expressions.At.TheSendSync as at
 use Rattle.class_defs.proofs.expressions.Operator.TheSendSync as operator
+use Rattle.class_defs.proofs.literals.Literal.TheSendSync as literal
 use Rattle.class_defs.proofs.machine.Flow.TheSendSync as flow
 use Rattle.class_defs.proofs.machine.Local.TheSendSync as local
 use Rattle.class_defs.proofs.machine.Machine.TheSendSync as machine
@@ -37,10 +38,10 @@ use Rattle.cluster_threads.proofs.TreesCross.{name_sync, parameter_sync, type_na
 ruleset base = (sequence.the_send, sequence.the_sync, boxed.the_send, boxed.the_sync, shared.the_send, shared.the_sync, sendable)
 
 pub expr_node_send : IsSend (ExprNode.the_field).row
-expr_node_send = search (expr_node.crosses_both, at.the_field_send, at.the_field_sync, operator.the_field_send, operator.the_field_sync, base) depth 60 fits 20000
+expr_node_send = search (expr_node.crosses_both, at.the_field_send, at.the_field_sync, literal.the_field_send, literal.the_field_sync, operator.the_field_send, operator.the_field_sync, base) depth 60 fits 20000
 
 pub expr_node_sync : IsSync (ExprNode.the_field).row
-expr_node_sync = search (expr_node.crosses_both, at.the_field_send, at.the_field_sync, operator.the_field_send, operator.the_field_sync, base) depth 60 fits 20000
+expr_node_sync = search (expr_node.crosses_both, at.the_field_send, at.the_field_sync, literal.the_field_send, literal.the_field_sync, operator.the_field_send, operator.the_field_sync, base) depth 60 fits 20000
 
 pub stmt_node_send : IsSend (StmtNode.the_field).row
 stmt_node_send = search (stmt_node.crosses_both, expr_node_send, expr_node_sync, type_name_send, type_name_sync, base) depth 60 fits 20000

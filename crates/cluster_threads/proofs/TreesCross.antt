@@ -3,6 +3,7 @@ use denote.Param.Send.{IsSend, IsSync, sendable}
 use Rattle.thor_value.proofs.boxed.Boxed.TheSendSync as boxed
 use Rattle.thor_value.proofs.sequence.Sequence.TheSendSync as sequence
 use Rattle.class_defs.proofs.expressions.Expr.TheLaws.TheKnot as expr
+use Rattle.class_defs.proofs.literals.Literal.TheSendSync as literal
 use Rattle.class_defs.proofs.statements.Stmt.TheLaws.TheKnot as stmt
 use Rattle.class_defs.proofs.upgrades.Tf.TheLaws.TheKnot as tf
 use Rattle.class_defs.specs.contracts.expressions.Name as Name
@@ -36,16 +37,16 @@ pub type_name_sync : IsSync (TypeName.the_field).row
 type_name_sync = search (name_sync, base) depth 30
 
 pub expr_send : IsSend (Expr.the_field).row
-expr_send = search (expr.crosses, name_send, base) depth 60 fits 20000
+expr_send = search (expr.crosses, name_send, literal.the_field_send, base) depth 60 fits 20000
 
 pub expr_sync : IsSync (Expr.the_field).row
-expr_sync = search (expr.crosses, name_sync, base) depth 60 fits 20000
+expr_sync = search (expr.crosses, name_sync, literal.the_field_sync, base) depth 60 fits 20000
 
 pub tf_send : IsSend (Tf.the_field).row
-tf_send = search (tf.crosses, name_send, base) depth 60 fits 20000
+tf_send = search (tf.crosses, name_send, literal.the_field_send, base) depth 60 fits 20000
 
 pub tf_sync : IsSync (Tf.the_field).row
-tf_sync = search (tf.crosses, name_sync, base) depth 60 fits 20000
+tf_sync = search (tf.crosses, name_sync, literal.the_field_sync, base) depth 60 fits 20000
 
 pub stmt_send : IsSend (Stmt.the_field).row
 stmt_send = search (stmt.crosses, expr_send, type_name_send, name_send, base) depth 60 fits 20000

@@ -6,7 +6,7 @@ ghost use Rattle.method_eval.specs.Viewed.{reading};
 use crate::small_steps::{execute_by_steps, value_by_steps};
 use class_defs::{
     Block, DEPTH_LIMIT, Expr, ExprType, Exprs, Flow, Machine, Method, Receiver, Stmt, combined,
-    number,
+    literal_value, number, push_printed,
 };
 use method_eval::{
     Halt, World, assign_field, assign_local, bound, create, declare, fault, field_value, holds,
@@ -64,7 +64,7 @@ fn node(
     ensures { Does result machine.new (node (reading world.now) inner expr.now machine.old) }
 {
     match expr {
-        Expr::Int { value, line: _ } => Ok(Value::Int(*value)),
+        Expr::Literal { value, line: _ } => Ok(literal_value(*value)),
         Expr::Null { line: _ } => Ok(Value::Null),
         Expr::This { line: _ } => Ok(match &machine.this {
             Some(this) => Value::Ref(this.oref),
@@ -348,7 +348,7 @@ fn statement(
         Stmt::Print { value } => {
             take_step(machine)?;
             let value = value_of(world, room, inner, machine, value)?;
-            machine.printed.push(number(value))?;
+            push_printed(value, &mut machine.printed)?;
             Ok(Flow::Next)
         }
         Stmt::Evaluate { value } => {

@@ -17,7 +17,7 @@ name text line = record { text = text; line = line }
 
 -- a node of an expression, with the expressions inside in their places
 abbrev pub expr_step : ExprNode-F Expr → Expr
-expr_step (ExprNode-F.Int value line) = e.Int value line
+expr_step (ExprNode-F.Literal value line) = e.Literal value line
 expr_step (ExprNode-F.Null line) = e.Null line
 expr_step (ExprNode-F.This line) = e.This line
 expr_step (ExprNode-F.Field text line) = e.Field (name text line)

@@ -1,12 +1,12 @@
 use crate::shared::Shared;
-use class_defs::{At, Operator, TypeName};
+use class_defs::{At, Literal, Operator, TypeName};
 use thor_value::{Sequence, Text};
 
 /// An expression each part of which can have several owners. Each node is that of `class_defs` with the same name.
 #[derive(Drop)]
 pub enum ExprNode {
-    Int {
-        value: i64,
+    Literal {
+        value: Literal,
         line: u32,
     },
     Null {

@@ -107,7 +107,7 @@ pub fn expr_node(alloc: Global, expr: &Expr) -> Result<Shared<ExprNode>, NoMemor
     ensures { IfOk result (λ node. plain node ≡ expr.now) }
 {
     let node = match expr {
-        Expr::Int { value, line } => ExprNode::Int {
+        Expr::Literal { value, line } => ExprNode::Literal {
             value: *value,
             line: *line,
         },

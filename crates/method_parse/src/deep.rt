@@ -43,6 +43,7 @@ pub struct Room {
 #[derive(Clone, Copy, Debug, PartialEq, Eq)]
 pub enum Start {
     Number,
+    Quoted,
     Name,
     Null,
     This,

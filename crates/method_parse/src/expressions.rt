@@ -11,8 +11,8 @@ use crate::error::ParseError;
 use crate::starts::{
     is_call, is_field_call, is_join, is_minus, most_joins, operator_in, start, tighter,
 };
-use crate::take::{name, next_is, number, word};
-use class_defs::{At, Expr, Exprs, Name, Operator, Place};
+use crate::take::{name, next_is, number, quoted, word};
+use class_defs::{At, Expr, Exprs, Literal, Name, Operator, Place};
 use script_text::Token;
 use std::alloc::Global;
 use thor_value::{Boxed, NoMemory, both};
@@ -320,7 +320,13 @@ fn primary(
         Start::Number => {
             let ((value, line), rest) = number(tokens)?;
             let value = value as i64;
-            Ok((leaf(Expr::Int { value, line }), rest))
+            let value = Literal::Int(value);
+            Ok((leaf(Expr::Literal { value, line }), rest))
+        }
+        Start::Quoted => {
+            let ((text, line), rest) = quoted(tokens)?;
+            let value = Literal::Text(text);
+            Ok((leaf(Expr::Literal { value, line }), rest))
         }
         Start::Name => {
             let (name, rest) = name(tokens)?;

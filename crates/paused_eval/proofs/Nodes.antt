@@ -1,6 +1,7 @@
 -- Syntax with several owners, node by node, as the syntax that it is.
 use Rattle.std.proofs.Common.{◌≡◌, Bool, ℕ, ℤ, List, map, Option, option_map, ap, sym, ◌∙◌}
 use Rattle.std.specs.Prelude.{unwrap_or}
+use Rattle.class_defs.specs.Kinds.{literal_type}
 use Rattle.class_defs.specs.declared.expressions.At.{At}
 use Rattle.class_defs.specs.Types.{Scope, class_named, class_or_untold, field_type, name_type, result_type, type_of, type_step}
 use Rattle.class_defs.specs.declared.expressions.Expr.{Expr, out-Expr}
@@ -10,6 +11,7 @@ use Rattle.class_defs.specs.declared.expressions.Expr.TheVariants as x
 use Rattle.class_defs.specs.declared.expressions.Expr.TheViews.{out-roll-Expr}
 use Rattle.class_defs.specs.declared.expressions.Operator.{Operator}
 use Rattle.class_defs.specs.declared.expressions.TypeName.{TypeName}
+use Rattle.class_defs.specs.declared.literals.Literal.{Literal}
 use Rattle.class_defs.specs.declared.statements.Stmt.{Stmt, out-Stmt}
 use Rattle.class_defs.specs.declared.statements.Stmt.TheOpen.{Stmt-F}
 use Rattle.class_defs.specs.declared.statements.Stmt.TheVariants as y
@@ -26,8 +28,8 @@ use Rattle.lang_small_steps.specs.declared.nodes.StmtNode.TheFolds.{fold-roll-St
 use Rattle.lang_small_steps.specs.declared.nodes.StmtNode.TheOpen.{StmtNode-F}
 use Rattle.lang_small_steps.specs.declared.nodes.StmtNode.TheVariants as s
 
-pub plain_int : (v : ℤ) (l : ℕ) → plain (e.Int v l) ≡ x.Int v l
-plain_int v l = ap plain (sym (e.rolls-Int v l)) ∙ fold-roll-ExprNode Expr expr_step (ExprNode-F.Int v l)
+pub plain_literal : (v : Literal) (l : ℕ) → plain (e.Literal v l) ≡ x.Literal v l
+plain_literal v l = ap plain (sym (e.rolls-Literal v l)) ∙ fold-roll-ExprNode Expr expr_step (ExprNode-F.Literal v l)
 
 pub plain_null : (l : ℕ) → plain (e.Null l) ≡ x.Null l
 plain_null l = ap plain (sym (e.rolls-Null l)) ∙ fold-roll-ExprNode Expr expr_step (ExprNode-F.Null l)
@@ -85,8 +87,8 @@ stmt_evaluate v = ap plain_stmt (sym (s.rolls-Evaluate v)) ∙ fold-roll-StmtNod
 
 -- ---- opened
 
-pub out_int : (v : ℤ) (l : ℕ) → out-Expr (plain (e.Int v l)) ≡ Expr-F.Int v l
-out_int v l = ap out-Expr (plain_int v l) ∙ ap out-Expr (sym (x.rolls-Int v l)) ∙ out-roll-Expr (Expr-F.Int v l)
+pub out_literal : (v : Literal) (l : ℕ) → out-Expr (plain (e.Literal v l)) ≡ Expr-F.Literal v l
+out_literal v l = ap out-Expr (plain_literal v l) ∙ ap out-Expr (sym (x.rolls-Literal v l)) ∙ out-roll-Expr (Expr-F.Literal v l)
 
 pub out_null : (l : ℕ) → out-Expr (plain (e.Null l)) ≡ Expr-F.Null l
 out_null l = ap out-Expr (plain_null l) ∙ ap out-Expr (sym (x.rolls-Null l)) ∙ out-roll-Expr (Expr-F.Null l)
@@ -142,15 +144,15 @@ outs_print v = ap out-Stmt (stmt_print v) ∙ ap out-Stmt (sym (y.rolls-Print (p
 pub outs_evaluate : (v : ExprNode) → out-Stmt (plain_stmt (s.Evaluate v)) ≡ Stmt-F.Evaluate (plain v)
 outs_evaluate v = ap out-Stmt (stmt_evaluate v) ∙ ap out-Stmt (sym (y.rolls-Evaluate (plain v))) ∙ out-roll-Stmt (Stmt-F.Evaluate (plain v))
 
-pub ruleset expr_nodes = (out_int, out_null, out_this, out_field, out_variable, out_new, out_parens, out_negate, out_binary, out_call)
+pub ruleset expr_nodes = (out_literal, out_null, out_this, out_field, out_variable, out_new, out_parens, out_negate, out_binary, out_call)
 
 pub ruleset stmt_nodes = (outs_var, outs_assign, outs_fieldassign, outs_return, outs_if, outs_ifelse, outs_while, outs_print, outs_evaluate)
 
 -- ---- types
 
-pub type_int : (sc : Scope) (v : ℤ) (l : ℕ) → type_of sc (plain (e.Int v l)) ≡ type.Int
+pub type_literal : (sc : Scope) (v : Literal) (l : ℕ) → type_of sc (plain (e.Literal v l)) ≡ literal_type v
 unfolding type_of
-type_int sc v l = ap (type_of sc) (plain_int v l) ∙ ap (type_of sc) (sym (x.rolls-Int v l)) ∙ fold-roll-Expr ExprType (type_step sc) (Expr-F.Int v l)
+type_literal sc v l = ap (type_of sc) (plain_literal v l) ∙ ap (type_of sc) (sym (x.rolls-Literal v l)) ∙ fold-roll-Expr ExprType (type_step sc) (Expr-F.Literal v l)
 
 pub type_null : (sc : Scope) (l : ℕ) → type_of sc (plain (e.Null l)) ≡ type.Null
 unfolding type_of
@@ -188,4 +190,4 @@ pub type_call : (sc : Scope) (n : ExprNode) (t : List ℕ) (l : ℕ) (ns : List 
 unfolding type_of
 type_call sc n t l ns q = ap (type_of sc) (plain_call n t l ns q) ∙ ap (type_of sc) (sym (x.rolls-Call (plain n) (name t l) (map plain ns))) ∙ fold-roll-Expr ExprType (type_step sc) (Expr-F.Call (plain n) (name t l) (map plain ns))
 
-pub ruleset node_types = (type_int, type_null, type_this, type_field, type_variable, type_new, type_parens, type_negate, type_binary, type_call)
+pub ruleset node_types = (type_literal, type_null, type_this, type_field, type_variable, type_new, type_parens, type_negate, type_binary, type_call)

@@ -27,7 +27,7 @@ use crate::waiting::{
     create_later, evaluate_later, faulted, not_entered,
 };
 use class_defs::{
-    DEPTH_LIMIT, ExprType, Machine, Operator, Receiver, STEP_LIMIT, combined, number,
+    DEPTH_LIMIT, ExprType, Machine, Operator, Receiver, STEP_LIMIT, combined, literal_value, number,
 };
 use client_cache::Cache;
 use lang_small_steps::{ExprNode, ExprNodes, Shared, SharedExprs, SharedMethod};
@@ -100,7 +100,7 @@ fn node<L: Ledger>(
     ensures work { Lasts result (surplus bodies.new.work machine.new.steps ≡ surplus bodies.old.work machine.old.steps) }
 {
     match node {
-        ExprNode::Int { value, line: _ } => Ok(Value::Int(*value)),
+        ExprNode::Literal { value, line: _ } => Ok(literal_value(*value)),
         ExprNode::Null { line: _ } => Ok(Value::Null),
         ExprNode::This { line: _ } => Ok(match &machine.this {
             Some(this) => Value::Ref(this.oref),

@@ -19,7 +19,7 @@ use crate::waiting::{
     behind_block, behind_first_part, behind_statement, behind_test, behind_turn, execute_later,
     test_later,
 };
-use class_defs::{Flow, Machine, STEP_LIMIT, number};
+use class_defs::{Flow, Machine, STEP_LIMIT, push_printed};
 use client_cache::Cache;
 use lang_small_steps::{ExprNode, Shared, SharedBlock, StmtNode, StmtNodes};
 use method_eval::{Program, assign_local, declare, holds, type_named};
@@ -248,7 +248,7 @@ fn effect<L: Ledger>(
             )
         }
         StmtNode::Print { .. } => {
-            machine.printed.push(number(value))?;
+            push_printed(value, &mut machine.printed)?;
             Ok(Flow::Next)
         }
         StmtNode::Evaluate { .. } => Ok(Flow::Next),

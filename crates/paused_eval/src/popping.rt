@@ -11,7 +11,7 @@ ghost use Rattle.paused_eval.specs.Does.{Holds, Moves, field_assigned, in_block,
 use crate::moves::{
     collect, ended, evaluate_for, give, given, go_on, open_block, pass, tested, turned,
 };
-use class_defs::{Flow, Locals, Machine, Receiver, combined, number};
+use class_defs::{Flow, Locals, Machine, Receiver, combined, number, push_printed};
 use lang_small_steps::{Doing, Frame, Shared, Stack};
 use method_eval::{Halt, Program, assign_local, declare, holds};
 use std::sync::ledger::Ledger;
@@ -169,7 +169,7 @@ fn pop_statement(
             }
         }
         Frame::Print => {
-            machine.printed.push(number(given(flow)))?;
+            push_printed(given(flow), &mut machine.printed)?;
             pass()
         }
         Frame::Discard => pass(),

@@ -13,7 +13,7 @@ ghost use Rattle.paused_eval.specs.Does.{Holds, Moves, field_read};
 
 use crate::moves::{give, go_into, go_into_for, take_step};
 use crate::types::type_of;
-use class_defs::{At, ExprType, Machine, Operator};
+use class_defs::{At, ExprType, Machine, Operator, literal_value};
 use lang_small_steps::{Doing, ExprNode, ExprNodes, Frame, Shared, SharedExpr, SharedExprs, Stack};
 use method_eval::{Halt, Program, named_value};
 use std::sync::ledger::Ledger;
@@ -26,7 +26,7 @@ pub fn field_read(node: &ExprNode) -> Option<&Shared<Text>>
 {
     match node {
         ExprNode::Field { name, line: _ } => Some(name),
-        ExprNode::Int { value: _, line: _ } => None,
+        ExprNode::Literal { value: _, line: _ } => None,
         ExprNode::Null { line: _ } => None,
         ExprNode::This { line: _ } => None,
         ExprNode::Variable { name: _, line: _ } => None,
@@ -133,7 +133,7 @@ fn first(
     ensures { (f : Oref → Option Object) → Moves result stack.new machine.now machine.now (spec.start (over program.now.schema.now f) inner (out-Expr (plain node.now)) stack.old) }
 {
     match node {
-        ExprNode::Int { value, line: _ } => give(Value::Int(*value)),
+        ExprNode::Literal { value, line: _ } => give(literal_value(*value)),
         ExprNode::Null { line: _ } => give(Value::Null),
         ExprNode::This { line: _ } => give(match &machine.this {
             Some(this) => Value::Ref(this.oref),

@@ -3,7 +3,7 @@ ghost use Rattle.class_defs.specs.Objects.{scope_at};
 ghost use Rattle.class_defs.specs.Types.{class_named, class_or_untold, type_of};
 ghost use Rattle.lang_small_steps.specs.Plain.{plain};
 
-use class_defs::{ExprType, Machine};
+use class_defs::{ExprType, Machine, literal_type};
 use lang_small_steps::ExprNode;
 use method_eval::{Program, field_type, name_type, result_type};
 use thor_value::Text;
@@ -24,7 +24,7 @@ pub fn type_of(program: &Program<'_>, machine: &Machine, node: &ExprNode) -> Exp
     ensures { result ≡ type_of (scope_at program.now.schema.now machine.now) (plain node.now) }
 {
     match node {
-        ExprNode::Int { value: _, line: _ } => ExprType::Int,
+        ExprNode::Literal { value, line: _ } => literal_type(*value),
         ExprNode::Null { line: _ } => ExprType::Null,
         ExprNode::This { line: _ } => match &machine.this {
             Some(this) => ExprType::Class(this.class),

@@ -13,6 +13,7 @@ mod pairing;
 mod sequence;
 mod step_count;
 mod values;
+mod words;
 
 pub use boxed::Boxed;
 pub use bytes::{
@@ -27,3 +28,4 @@ pub use pairing::both;
 pub use sequence::Sequence;
 pub use step_count::StepCount;
 pub use values::{Answer, Fault, Obj, Value, Who};
+pub use words::{WORD_BYTES, Word, is_text_byte};

@@ -7,7 +7,7 @@ ghost use Rattle.upgrade_defs.specs.Printed.{printed_upgrade};
 ghost use Rattle.upgrade_defs.specs.Spelling.{class_upgrade_words, dot_name, field_upgrade_words, tf_words};
 
 use class_defs::{ClassUpgrade, FieldUpgrade, Name, Tf, Upgrade};
-use method_parse::{print_methods, print_name, print_type, print_value, print_word, symbol};
+use method_parse::{print_literal, print_methods, print_name, print_type, print_word, symbol};
 use std::alloc::Global;
 use thor_value::{Boxed, NoMemory, Text};
 
@@ -41,7 +41,7 @@ fn print_tf(out: &mut Text, value: &Tf) -> Result<(), NoMemory>
 {
     match value {
         Tf::Null { .. } => print_word(out, b"null"),
-        Tf::Int { value, .. } => print_value(out, *value),
+        Tf::Literal { value, .. } => print_literal(out, *value),
         Tf::Path { names, .. } => {
             print_word(out, b"old")?;
             print_names(out, names.as_slice())
