@@ -4,5 +4,6 @@ pub mod MoreNames
 pub mod MoreCreated
 pub mod Reaching
 pub mod Drops
+pub mod Placed
 pub mod Falling
 pub mod Typed

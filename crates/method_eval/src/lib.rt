@@ -28,6 +28,6 @@ pub use objects::{
     set_field,
 };
 pub use steps::{fault, take_step};
-pub use types::{field_type, method_of, name_type, result_type, type_named};
+pub use types::{field_type, method_of, name_type, result_type, type_named, type_of};
 pub use view::{Ran, View};
 pub use world::Program;

@@ -81,28 +81,12 @@ pub fn ahead<L: Ledger>(
 {
     match doing {
         Doing::Evaluate { nested, expr } => {
-            let came = value_of(
-                program,
-                epoch,
-                cache,
-                machine,
-                bodies,
-                nested,
-                expr.shared(),
-            );
+            let came = value_of(program, epoch, cache, machine, bodies, nested, &expr);
             drop(expr);
             resumed(stack, returned(came))
         }
         Doing::Execute { nested, stmt } => {
-            let came = execute(
-                program,
-                epoch,
-                cache,
-                machine,
-                bodies,
-                nested,
-                stmt.shared(),
-            );
+            let came = execute(program, epoch, cache, machine, bodies, nested, stmt.get());
             drop(stmt);
             resumed(stack, came)
         }

@@ -5,7 +5,6 @@ ghost use Rattle.std.specs.Prelude.{◌≡◌, ◌<◌, map, None, IfOk};
 ghost use Rattle.class_defs.specs.Types.{method_of};
 ghost use Rattle.class_defs.specs.declared.expressions.Expr.{out-Expr};
 ghost use Rattle.lang_small_steps.specs.Methods.{class_methods};
-ghost use Rattle.lang_small_steps.specs.Plain.{plain};
 ghost use Rattle.lang_small_steps.specs.Reaches.{over};
 ghost use Rattle.lang_small_steps.specs.Resume as small;
 ghost use Rattle.lang_small_steps.specs.Typed.{IsTyped};
@@ -19,18 +18,17 @@ use crate::direct_statements::block;
 use crate::moves::ended;
 use crate::objects::{field_value, touch};
 use crate::popping::leave_body;
-use crate::types::type_of;
 use crate::unwound::Unwound;
 use crate::waiting::{
     behind_argument, behind_body, behind_left, behind_negation, behind_receiver, behind_right,
     create_later, evaluate_later, faulted, not_entered,
 };
 use class_defs::{
-    DEPTH_LIMIT, ExprType, Machine, Operator, Receiver, STEP_LIMIT, combined, number,
+    DEPTH_LIMIT, Expr, ExprType, Exprs, Machine, Operator, Receiver, STEP_LIMIT, combined, number,
 };
 use client_cache::Cache;
-use lang_small_steps::{ExprNode, ExprNodes, Shared, SharedExprs, SharedMethod};
-use method_eval::{Program, named_value, owners_at};
+use lang_small_steps::{SharedExprs, SharedMethod};
+use method_eval::{Program, named_value, owners_at, type_of};
 use std::mem;
 use std::sync::ledger::Ledger;
 use thor_value::{Fault, NoMemory, Oref, Text, Value, Values};
@@ -45,11 +43,11 @@ pub fn value_of<L: Ledger>(
     machine: &mut Machine,
     bodies: &mut Bodies<'_, L>,
     nested: u32,
-    expr: &Shared<ExprNode>,
+    expr: &Expr,
 ) -> Result<Value, Unwound>
     requires tied { Tied cache.old }
     requires known { bodies.old.methods.now ≡ class_methods program.now.schema.now.classes }
-    ensures does { Directs result (state machine.new cache.new) ((directly (on program.now.schema.now cache.old) nested).value_of (plain expr.now) (state machine.old cache.old)) }
+    ensures does { Directs result (state machine.new cache.new) ((directly (on program.now.schema.now cache.old) nested).value_of expr.now (state machine.old cache.old)) }
     ensures tied { Lasts result (Tied cache.new) }
     ensures kept { Lasts result (Keeps cache.old cache.new) }
     ensures known { bodies.new.methods.now ≡ class_methods program.now.schema.now.classes }
@@ -60,15 +58,7 @@ pub fn value_of<L: Ledger>(
     }
     machine.steps += 1;
     bodies.work.tick();
-    node(
-        program,
-        epoch,
-        cache,
-        machine,
-        bodies,
-        nested - 1,
-        expr.get(),
-    )
+    node(program, epoch, cache, machine, bodies, nested - 1, expr)
 }
 
 /// A node whose step is taken.
@@ -81,56 +71,62 @@ fn node<L: Ledger>(
     machine: &mut Machine,
     bodies: &mut Bodies<'_, L>,
     inner: u32,
-    node: &ExprNode,
+    node: &Expr,
 ) -> Result<Value, Unwound>
     requires tied { Tied cache.old }
     requires known { bodies.old.methods.now ≡ class_methods program.now.schema.now.classes }
-    ensures does { Directs result (state machine.new cache.new) (spec.node (on program.now.schema.now cache.old) inner (directly (on program.now.schema.now cache.old) inner) (out-Expr (plain node.now)) (state machine.old cache.old)) }
+    ensures does { Directs result (state machine.new cache.new) (spec.node (on program.now.schema.now cache.old) inner (directly (on program.now.schema.now cache.old) inner) (out-Expr node.now) (state machine.old cache.old)) }
     ensures tied { Lasts result (Tied cache.new) }
     ensures kept { Lasts result (Keeps cache.old cache.new) }
     ensures known { bodies.new.methods.now ≡ class_methods program.now.schema.now.classes }
     ensures work { Lasts result (surplus bodies.new.work machine.new.steps ≡ surplus bodies.old.work machine.old.steps) }
 {
     match node {
-        ExprNode::Int { value, line: _ } => Ok(Value::Int(*value)),
-        ExprNode::Null { line: _ } => Ok(Value::Null),
-        ExprNode::This { line: _ } => Ok(match &machine.this {
+        Expr::Int { value, line: _ } => Ok(Value::Int(*value)),
+        Expr::Null { line: _ } => Ok(Value::Null),
+        Expr::This { line: _ } => Ok(match &machine.this {
             Some(this) => Value::Ref(this.oref),
             None => Value::Null,
         }),
-        ExprNode::Field { name, line: _ } => Ok(field_value(
-            program,
-            cache,
-            machine,
-            name.get().as_slice(),
-        )),
-        ExprNode::Variable { name, line: _ } => Ok(named_value(
-            program,
-            machine,
-            name.get().as_slice(),
-        )),
-        ExprNode::New { class, line: _, at } => create_later(program.alloc, class, *at),
-        ExprNode::Parens { inner: inside, .. } => {
-            value_of(program, epoch, cache, machine, bodies, inner, inside)
+        Expr::Field { name } => Ok(field_value(program, cache, machine, name.text.as_slice())),
+        Expr::Variable { name } => Ok(named_value(program, machine, name.text.as_slice())),
+        Expr::New { class, at } => create_later(program.alloc, &class.text, *at),
+        Expr::Parens { inner: inside, .. } => {
+            value_of(program, epoch, cache, machine, bodies, inner, inside.get())
         }
-        ExprNode::Negate { operand, .. } => {
-            negate(program, epoch, cache, machine, bodies, inner, operand)
+        Expr::Negate { operand, .. } => {
+            negate(program, epoch, cache, machine, bodies, inner, operand.get())
         }
-        ExprNode::Binary {
+        Expr::Binary {
             operator,
             left,
             right,
             ..
         } => binary(
-            program, epoch, cache, machine, bodies, inner, *operator, left, right,
+            program,
+            epoch,
+            cache,
+            machine,
+            bodies,
+            inner,
+            *operator,
+            left.get(),
+            right.get(),
         ),
-        ExprNode::Call {
+        Expr::Call {
             receiver,
             method,
             arguments,
-            ..
         } => called(
-            program, epoch, cache, machine, bodies, inner, receiver, method, arguments,
+            program,
+            epoch,
+            cache,
+            machine,
+            bodies,
+            inner,
+            receiver.get(),
+            &method.text,
+            arguments,
         ),
     }
 }
@@ -144,11 +140,11 @@ fn negate<L: Ledger>(
     machine: &mut Machine,
     bodies: &mut Bodies<'_, L>,
     inner: u32,
-    operand: &Shared<ExprNode>,
+    operand: &Expr,
 ) -> Result<Value, Unwound>
     requires tied { Tied cache.old }
     requires known { bodies.old.methods.now ≡ class_methods program.now.schema.now.classes }
-    ensures does { Directs result (state machine.new cache.new) (spec.negate (on program.now.schema.now cache.old) inner (directly (on program.now.schema.now cache.old) inner) (plain operand.now) (state machine.old cache.old)) }
+    ensures does { Directs result (state machine.new cache.new) (spec.negate (on program.now.schema.now cache.old) inner (directly (on program.now.schema.now cache.old) inner) operand.now (state machine.old cache.old)) }
     ensures tied { Lasts result (Tied cache.new) }
     ensures kept { Lasts result (Keeps cache.old cache.new) }
     ensures known { bodies.new.methods.now ≡ class_methods program.now.schema.now.classes }
@@ -172,11 +168,11 @@ fn combine<L: Ledger>(
     inner: u32,
     operator: Operator,
     first: Value,
-    right: &Shared<ExprNode>,
+    right: &Expr,
 ) -> Result<Value, Unwound>
     requires tied { Tied cache.old }
     requires known { bodies.old.methods.now ≡ class_methods program.now.schema.now.classes }
-    ensures does { Directs result (state machine.new cache.new) (spec.combine (on program.now.schema.now cache.old) inner (directly (on program.now.schema.now cache.old) inner) operator first (plain right.now) (state machine.old cache.old)) }
+    ensures does { Directs result (state machine.new cache.new) (spec.combine (on program.now.schema.now cache.old) inner (directly (on program.now.schema.now cache.old) inner) operator first right.now (state machine.old cache.old)) }
     ensures tied { Lasts result (Tied cache.new) }
     ensures kept { Lasts result (Keeps cache.old cache.new) }
     ensures known { bodies.new.methods.now ≡ class_methods program.now.schema.now.classes }
@@ -198,12 +194,12 @@ fn binary<L: Ledger>(
     bodies: &mut Bodies<'_, L>,
     inner: u32,
     operator: Operator,
-    left: &Shared<ExprNode>,
-    right: &Shared<ExprNode>,
+    left: &Expr,
+    right: &Expr,
 ) -> Result<Value, Unwound>
     requires tied { Tied cache.old }
     requires known { bodies.old.methods.now ≡ class_methods program.now.schema.now.classes }
-    ensures does { Directs result (state machine.new cache.new) (spec.binary (on program.now.schema.now cache.old) inner (directly (on program.now.schema.now cache.old) inner) operator (plain left.now) (plain right.now) (state machine.old cache.old)) }
+    ensures does { Directs result (state machine.new cache.new) (spec.binary (on program.now.schema.now cache.old) inner (directly (on program.now.schema.now cache.old) inner) operator left.now right.now (state machine.old cache.old)) }
     ensures tied { Lasts result (Tied cache.new) }
     ensures kept { Lasts result (Keeps cache.old cache.new) }
     ensures known { bodies.new.methods.now ≡ class_methods program.now.schema.now.classes }
@@ -226,19 +222,19 @@ fn called<L: Ledger>(
     machine: &mut Machine,
     bodies: &mut Bodies<'_, L>,
     inner: u32,
-    receiver: &Shared<ExprNode>,
-    method: &Shared<Text>,
-    arguments: &Shared<ExprNodes>,
+    receiver: &Expr,
+    method: &Text,
+    arguments: &Exprs,
 ) -> Result<Value, Unwound>
     requires tied { Tied cache.old }
     requires known { bodies.old.methods.now ≡ class_methods program.now.schema.now.classes }
-    ensures does { Directs result (state machine.new cache.new) (spec.called (on program.now.schema.now cache.old) inner (directly (on program.now.schema.now cache.old) inner) (plain receiver.now) method.now (map plain arguments.now) (state machine.old cache.old)) }
+    ensures does { Directs result (state machine.new cache.new) (spec.called (on program.now.schema.now cache.old) inner (directly (on program.now.schema.now cache.old) inner) receiver.now method.now arguments.now (state machine.old cache.old)) }
     ensures tied { Lasts result (Tied cache.new) }
     ensures kept { Lasts result (Keeps cache.old cache.new) }
     ensures known { bodies.new.methods.now ≡ class_methods program.now.schema.now.classes }
     ensures work { Lasts result (surplus bodies.new.work machine.new.steps ≡ surplus bodies.old.work machine.old.steps) }
 {
-    let kind = type_of(program, machine, receiver.get());
+    let kind = type_of(program, machine, receiver);
     match value_of(program, epoch, cache, machine, bodies, inner, receiver) {
         Ok(target) => {
             let none = Values::new(program.alloc);
@@ -263,13 +259,13 @@ fn collect<L: Ledger>(
     inner: u32,
     kind: ExprType,
     target: Value,
-    method: &Shared<Text>,
+    method: &Text,
     none: Values,
-    arguments: &Shared<ExprNodes>,
+    arguments: &Exprs,
 ) -> Result<Value, Unwound>
     requires tied { Tied cache.old }
     requires known { bodies.old.methods.now ≡ class_methods program.now.schema.now.classes }
-    ensures does { Directs result (state machine.new cache.new) (spec.collect (on program.now.schema.now cache.old) inner (directly (on program.now.schema.now cache.old) inner) kind target method.now none (map plain arguments.now) (state machine.old cache.old)) }
+    ensures does { Directs result (state machine.new cache.new) (spec.collect (on program.now.schema.now cache.old) inner (directly (on program.now.schema.now cache.old) inner) kind target method.now none arguments.now (state machine.old cache.old)) }
     ensures tied { Lasts result (Tied cache.new) }
     ensures kept { Lasts result (Keeps cache.old cache.new) }
     ensures known { bodies.new.methods.now ≡ class_methods program.now.schema.now.classes }
@@ -306,7 +302,7 @@ fn ready<L: Ledger>(
     inner: u32,
     kind: ExprType,
     target: Value,
-    method: &Shared<Text>,
+    method: &Text,
     arguments: Values,
 ) -> Result<Value, Unwound>
     requires tied { Tied cache.old }
@@ -337,7 +333,7 @@ fn call<L: Ledger>(
     inner: u32,
     class: u16,
     oref: Oref,
-    method: &Shared<Text>,
+    method: &Text,
     arguments: Values,
 ) -> Result<Value, Unwound>
     requires tied { Tied cache.old }
@@ -378,7 +374,7 @@ fn enter<L: Ledger>(
     inner: u32,
     found: u16,
     this: Receiver,
-    name: &Shared<Text>,
+    name: &Text,
     arguments: &Values,
 ) -> Result<Value, Unwound>
     requires tied { Tied cache.old }
@@ -393,7 +389,7 @@ fn enter<L: Ledger>(
     if found != this.class {
         return faulted(Fault::NullCall);
     }
-    match method_in(program, bodies, this.class, name.get().as_slice()) {
+    match method_in(program, bodies, this.class, name.as_slice()) {
         Some(method) => run_body(
             program, epoch, cache, machine, bodies, inner, this, method, arguments,
         ),

@@ -6,9 +6,8 @@ ghost use Rattle.report_text.specs.Report.{fresh_words, effect_words, history_li
 ghost use Rattle.report_text.specs.Shown.{FitsEffect, FitsLine};
 
 use crate::items::{print_upgrade, print_values};
-use crate::words::{fault_name, print_oref, print_ts, print_who};
+use crate::words::{fault_name, print_oref, print_ts, print_who, print_word};
 use serial_model::Did;
-use std::fmt::Write;
 use thor_value::{Answer, NoMemory, Oref};
 
 /// Prints ` new` and each name behind a space, or nothing where there is no name.
@@ -46,8 +45,8 @@ fn print_effect(out: &mut String, entry: &Did) -> Result<(), NoMemory>
             print_values(out, values.as_slice())
         }
         Answer::Fault(fault) => {
-            write!(out, " ! {}", fault_name(*fault))?;
-            Ok(())
+            print_word(out, "!")?;
+            print_word(out, fault_name(*fault))
         }
     }
 }

@@ -5,9 +5,10 @@ ghost use Rattle.report_text.specs.Lines.{spaced_words};
 ghost use Rattle.report_text.specs.Report.{values_words, try_words, upgrade_words, outcome_words, item_line};
 ghost use Rattle.report_text.specs.Shown.{FitsItem};
 
-use crate::words::{fault_name, print_cause, print_who, print_with_ts, print_word};
+use crate::words::{
+    fault_name, print_cause, print_number, print_value, print_who, print_with_ts, print_word,
+};
 use serial_model::{Ended, ItemOutcome};
-use std::fmt::Write;
 use thor_value::NoMemory;
 
 /// Prints ` :` and each value behind a space.
@@ -19,28 +20,29 @@ pub fn print_values(out: &mut String, values: &[i64]) -> Result<(), NoMemory>
 {
     out.push_str(" :")?;
     for value in values {
-        let number = *value;
-        write!(out, " {number}")?;
+        print_value(out, *value)?;
     }
     Ok(())
 }
 
 /// Prints ` upgrade` and its number behind a space.
+#[tactic(auto, using(std::proofs::Common::append_assoc))]
 pub fn print_upgrade(out: &mut String, number: u32) -> Result<(), NoMemory>
     ensures text { OnOk result
         (string_bytes out.new ≡ string_bytes out.old ++ spaced_words (upgrade_words number)) }
     ensures fits { OnOk result (number < 2 ^ 64) }
 {
-    write!(out, " upgrade {number}")?;
-    Ok(())
+    print_word(out, "upgrade")?;
+    print_number(out, u64::from(number))
 }
 
 /// Prints ` try` and the number of the last try behind a space.
+#[tactic(auto, using(std::proofs::Common::append_assoc))]
 fn print_tries(out: &mut String, tries: u32) -> Result<(), NoMemory>
     ensures { OnOk result (string_bytes out.new ≡ string_bytes out.old ++ spaced_words (try_words tries)) }
 {
-    write!(out, " try {tries}")?;
-    Ok(())
+    print_word(out, "try")?;
+    print_number(out, u64::from(tries))
 }
 
 /// Prints how an item ended, each word behind a space.

@@ -9,9 +9,9 @@ ghost use Rattle.serial_model.specs.History.{IsLegal};
 
 use crate::history::print_entry;
 use crate::items::print_item;
+use crate::words::print_number;
 use serial_model::{Did, Dids, Ended, Ends};
 use std::alloc::Global;
-use std::fmt::Write;
 use thor_value::{NoMemory, Text};
 
 /// Prints the lines of items.
@@ -55,6 +55,8 @@ pub fn print_report(alloc: Global, ends: &Ends, history: &Dids) -> Result<Text, 
     print_items(&mut out, ends.as_slice())?;
     out.push_str("history\n")?;
     print_history(&mut out, history.as_slice())?;
-    write!(out, "end {}\n", history.len())?;
+    out.push_str("end")?;
+    print_number(&mut out, history.len() as u64)?;
+    out.push_str("\n")?;
     Ok(Text::from_vec(out.into_bytes()))
 }

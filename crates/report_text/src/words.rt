@@ -1,14 +1,52 @@
 ghost use Rattle.std.specs.Prelude.{◌≡◌, ◌++◌, ◌<◌, ◌^◌, OnOk};
-ghost use Rattle.std.specs.Fmt.{decimal};
+ghost use Rattle.std.specs.Fmt.{decimal, signed_decimal};
 ghost use Rattle.std.specs.String.{string_bytes};
 ghost use Rattle.report_text.specs.Fits.{FitsCause, FitsOref, FitsTs, FitsWho};
 ghost use Rattle.report_text.specs.Lines.{spaced, spaced_words};
-ghost use Rattle.report_text.specs.Words.{who_word, ts_word, oref_word, fault_word, cause_words};
+ghost use Rattle.report_text.specs.Words.{who_word, ts_word, oref_word, fault_word, cause_words, two_numbers, three_numbers};
 
 use base_reasons::Reason;
+use itoa::Buffer;
 use serial_model::Cause;
-use std::fmt::Write;
 use thor_value::{Fault, NoMemory, Oref, Ts, Who};
+
+/// Prints a number, without a space before it.
+pub fn print_digits(out: &mut String, number: u64) -> Result<(), NoMemory>
+    ensures { OnOk result (string_bytes out.new ≡ string_bytes out.old ++ decimal number) }
+{
+    let mut buffer = Buffer::new();
+    out.push_str(buffer.format(number))?;
+    Ok(())
+}
+
+/// Prints a number that may be negative, without a space before it.
+fn print_signed_digits(out: &mut String, number: i64) -> Result<(), NoMemory>
+    ensures { OnOk result (string_bytes out.new ≡ string_bytes out.old ++ signed_decimal number) }
+{
+    let mut buffer = Buffer::new();
+    out.push_str(buffer.format(number))?;
+    Ok(())
+}
+
+/// Prints two numbers as one word, without a space before it.
+#[tactic(auto, using(std::proofs::Common::append_assoc))]
+fn print_two(out: &mut String, first: u64, second: u64) -> Result<(), NoMemory>
+    ensures { OnOk result (string_bytes out.new ≡ string_bytes out.old ++ two_numbers first second) }
+{
+    print_digits(out, first)?;
+    out.push_str(".")?;
+    print_digits(out, second)
+}
+
+/// Prints three numbers as one word, without a space before it.
+#[tactic(auto, using(std::proofs::Common::append_assoc))]
+fn print_three(out: &mut String, first: u64, second: u64, third: u64) -> Result<(), NoMemory>
+    ensures { OnOk result (string_bytes out.new ≡ string_bytes out.old ++ three_numbers first second third) }
+{
+    print_digits(out, first)?;
+    out.push_str(".")?;
+    print_two(out, second, third)
+}
 
 /// Prints an item by client and index, without a space before it.
 #[tactic(auto, unfolding(crate::specs::Words::who_word))]
@@ -16,8 +54,7 @@ pub fn print_who(out: &mut String, who: Who) -> Result<(), NoMemory>
     ensures text { OnOk result (string_bytes out.new ≡ string_bytes out.old ++ who_word who) }
     ensures fits { OnOk result (FitsWho who) }
 {
-    write!(out, "{}.{}", who.client, who.index)?;
-    Ok(())
+    print_two(out, u64::from(who.client), u64::from(who.index))
 }
 
 /// Prints a timestamp by time, repository and life, without a space before it.
@@ -26,18 +63,22 @@ pub fn print_ts(out: &mut String, ts: Ts) -> Result<(), NoMemory>
     ensures text { OnOk result (string_bytes out.new ≡ string_bytes out.old ++ ts_word ts) }
     ensures fits { OnOk result (FitsTs ts) }
 {
-    write!(out, "{}.{}.{}", ts.time, ts.repo, ts.life)?;
-    Ok(())
+    print_three(out, ts.time, u64::from(ts.repo), u64::from(ts.life))
 }
 
 /// Prints a name by repository, page and slot, behind a space.
-#[tactic(auto, unfolding(crate::specs::Words::oref_word))]
+#[tactic(auto, using(std::proofs::Common::append_assoc), unfolding(crate::specs::Words::oref_word))]
 pub fn print_oref(out: &mut String, oref: Oref) -> Result<(), NoMemory>
     ensures text { OnOk result (string_bytes out.new ≡ string_bytes out.old ++ spaced (oref_word oref)) }
     ensures fits { OnOk result (FitsOref oref) }
 {
-    write!(out, " {}.{}.{}", oref.repo, oref.page, oref.slot)?;
-    Ok(())
+    out.push_str(" ")?;
+    print_three(
+        out,
+        u64::from(oref.repo),
+        u64::from(oref.page),
+        u64::from(oref.slot),
+    )
 }
 
 /// The word of a fault.
@@ -53,49 +94,65 @@ pub fn fault_name(fault: Fault) -> &'static str
 }
 
 /// Prints a word and a timestamp, each behind a space.
+#[tactic(auto, using(std::proofs::Common::append_assoc))]
 pub fn print_with_ts(out: &mut String, word: &str, ts: Ts) -> Result<(), NoMemory>
     ensures text { OnOk result
         (string_bytes out.new ≡ string_bytes out.old ++ (spaced word.now ++ spaced (ts_word ts))) }
     ensures fits { OnOk result (FitsTs ts) }
 {
-    write!(out, " {word} ")?;
+    print_word(out, word)?;
+    out.push_str(" ")?;
     print_ts(out, ts)
 }
 
 /// Prints a word and a name, each behind a space.
+#[tactic(auto, using(std::proofs::Common::append_assoc))]
 fn print_with_oref(out: &mut String, word: &str, oref: Oref) -> Result<(), NoMemory>
     ensures text { OnOk result
         (string_bytes out.new ≡ string_bytes out.old ++ (spaced word.now ++ spaced (oref_word oref))) }
     ensures fits { OnOk result (FitsOref oref) }
 {
-    write!(out, " {word}")?;
+    print_word(out, word)?;
     print_oref(out, oref)
 }
 
 /// Prints a word and a number, each behind a space.
+#[tactic(auto, using(std::proofs::Common::append_assoc))]
 fn print_with_number(out: &mut String, word: &str, number: u64) -> Result<(), NoMemory>
     ensures text { OnOk result
         (string_bytes out.new ≡ string_bytes out.old ++ (spaced word.now ++ spaced (decimal number))) }
     ensures fits { OnOk result (number < 2 ^ 64) }
 {
-    write!(out, " {word} {number}")?;
-    Ok(())
+    print_word(out, word)?;
+    print_number(out, number)
 }
 
 /// Prints a number behind a space.
-fn print_number(out: &mut String, number: u64) -> Result<(), NoMemory>
+#[tactic(auto, using(std::proofs::Common::append_assoc))]
+pub fn print_number(out: &mut String, number: u64) -> Result<(), NoMemory>
     ensures text { OnOk result (string_bytes out.new ≡ string_bytes out.old ++ spaced (decimal number)) }
     ensures fits { OnOk result (number < 2 ^ 64) }
 {
-    write!(out, " {number}")?;
-    Ok(())
+    out.push_str(" ")?;
+    print_digits(out, number)
+}
+
+/// Prints a value behind a space.
+#[tactic(auto, using(std::proofs::Common::append_assoc))]
+pub fn print_value(out: &mut String, value: i64) -> Result<(), NoMemory>
+    ensures { OnOk result (string_bytes out.new ≡ string_bytes out.old ++ spaced (signed_decimal value)) }
+{
+    out.push_str(" ")?;
+    print_signed_digits(out, value)
 }
 
 /// Prints a word behind a space.
+#[tactic(auto, using(std::proofs::Common::append_assoc))]
 pub fn print_word(out: &mut String, word: &str) -> Result<(), NoMemory>
     ensures { OnOk result (string_bytes out.new ≡ string_bytes out.old ++ spaced word.now) }
 {
-    write!(out, " {word}")?;
+    out.push_str(" ")?;
+    out.push_str(word)?;
     Ok(())
 }
 

@@ -239,6 +239,6 @@ pub fn deed_of_mark(mark: &Mark, history: &[Entry]) -> Deed {
         Mark::Took { .. } => Deed::Took,
         Mark::Drew { .. } => Deed::Drew,
         Mark::Forgot { .. } => Deed::Forgot,
-        Mark::Refused { refusal, .. } => deed_of_refusal(*refusal),
+        Mark::Refused { refusal, .. } => deed_of_refusal(*refusal.get()),
     }
 }

@@ -10,6 +10,7 @@ mod gap_laws;
 mod item_examples;
 mod item_laws;
 mod mark;
+mod refusing_mark;
 mod session_laws;
 mod told_examples;
 mod trace_laws;
@@ -26,6 +27,7 @@ pub use item_laws::{
     pages_are_granted, sessions_are_numbered, stamps_are_drawn_once,
 };
 pub use mark::Mark;
+pub use refusing_mark::refused_mark;
 pub use session_laws::{
     commits_are_told, copies_are_current, copies_stay_right, current_copies_stay,
     messages_are_in_order, messages_keep_copies, own_writes_stay, pages_stay, sessions_grow,

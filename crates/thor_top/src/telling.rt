@@ -9,6 +9,7 @@ use cluster_core::{Finished, Ran};
 use disk_trait::Parts;
 use repo_trace::Traces;
 use std::alloc::Global;
+use std::mem;
 use thor_value::NoMemory;
 use top_reply::{Reply, report};
 use top_statement::Answered;
@@ -29,8 +30,8 @@ fn reported(
                 lines,
                 traces,
             },
-        ) => (
-            report(
+        ) => {
+            let reply = report(
                 alloc,
                 expected.form,
                 &expected.opened.schemas,
@@ -38,14 +39,16 @@ fn reported(
                 &expected.script,
                 lines,
                 &ends,
-            ),
-            traces,
-        ),
+            );
+            mem::forget(ends);
+            (reply, traces)
+        }
         Err(NoMemory) => (Err(NoMemory), Traces::new(alloc)),
     }
 }
 
-/// What is told of a run, with the parts.
+/// What is told of a run, with the parts. The program ends behind it: the script, the store and the outcomes are left to
+/// the system, not let go of piece by piece.
 pub(crate) fn told<P: Parts>(
     alloc: Global,
     expected: Expected,
@@ -57,7 +60,7 @@ pub(crate) fn told<P: Parts>(
 {
     let Finished { parts, ran } = finished;
     let (reply, traces) = reported(alloc, &expected, ran);
-    drop(expected);
+    mem::forget(expected);
     Answered {
         reply,
         parts,

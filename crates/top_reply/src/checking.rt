@@ -18,6 +18,7 @@ use report_text::print_report;
 use script_parse::{Items, Script};
 use serial_model::{Cause, Ended, Ends, ItemOutcome, are_made};
 use std::alloc::Global;
+use std::mem;
 use thor_value::{NoMemory, Text};
 use top_history_check::{CheckedHistory, Lines, checked_history};
 
@@ -181,10 +182,15 @@ pub fn report(
         return Err(NoMemory);
     }
     match checked_history(alloc, schemas, store, &script.clients, lines, ends)? {
-        Some(checked) => Ok(Reply {
-            status: status_of(are_finished(ends.as_slice())),
-            text: run_text(alloc, form, schemas, ends, &checked)?,
-        }),
+        Some(checked) => {
+            let text = run_text(alloc, form, schemas, ends, &checked);
+            // The program ends behind its report: what it took is left to the system, not let go of piece by piece.
+            mem::forget(checked);
+            Ok(Reply {
+                status: status_of(are_finished(ends.as_slice())),
+                text: text?,
+            })
+        }
         None => Err(NoMemory),
     }
 }
