@@ -11,6 +11,7 @@ mod names;
 mod oref_map;
 mod pairing;
 mod sequence;
+mod shared;
 mod step_count;
 mod values;
 
@@ -25,5 +26,6 @@ pub use names::{Oref, PAGES, REPOSITORIES, SLOTS, Ts};
 pub use oref_map::OrefMap;
 pub use pairing::both;
 pub use sequence::Sequence;
+pub use shared::Shared;
 pub use step_count::StepCount;
 pub use values::{Answer, Fault, Obj, Value, Who};
