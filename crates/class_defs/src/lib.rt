@@ -36,7 +36,7 @@ pub use operations::{
 pub use places::Place;
 pub use rule_words::rule_word;
 pub use rules::{NamedType, NamedTypes, Position, Rule, RuleFault};
-pub use statements::{Block, Blocks, Stmt};
+pub use statements::{Block, Blocks, Stmt, Stmts};
 pub use store::{
     Epochs, Object, Plain, PlainObjects, Root, RootDeclaration, RootDeclarations, Roots, Schema,
     Schemas, Setup, UpgradedSchema, UpgradedSchemas,

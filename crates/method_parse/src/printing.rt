@@ -7,7 +7,7 @@ ghost use Rattle.std.specs.Fmt.{signed_decimal};
 ghost use Rattle.class_defs.specs.Printed.{spaced_word, spaced_words};
 
 use class_defs::{At, Expr, Exprs, Literal, Name, Operator, TypeName};
-use thor_value::{Boxed, NoMemory, Text, Word};
+use thor_value::{NoMemory, Shared, Text, Word};
 
 /// Prints a keyword or symbol behind a space.
 #[tactic(auto, using(std::proofs::Common::append_assoc))]
@@ -114,7 +114,7 @@ fn print_arguments(out: &mut Text, arguments: &Exprs) -> Result<(), NoMemory>
 /// Prints an expression in its parentheses.
 #[cycle(print_expression)]
 #[tactic(auto, using(std::proofs::Common::append_assoc, crate::proofs::Spaced::spaced_both))]
-fn print_parens(out: &mut Text, inner: &Boxed<Expr>) -> Result<(), NoMemory>
+fn print_parens(out: &mut Text, inner: &Shared<Expr>) -> Result<(), NoMemory>
     ensures { OnOk result (out.new ≡ out.old ++ spaced_words (condition_words inner.now)) }
 {
     print_word(out, b"(")?;

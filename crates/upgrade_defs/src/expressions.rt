@@ -15,7 +15,7 @@ use method_parse::{
 };
 use script_text::Token;
 use std::alloc::Global;
-use thor_value::{Boxed, NoMemory, both};
+use thor_value::{NoMemory, Shared, both};
 
 /// How high the expression of a new field may be as a tree. Parentheses count in it, so that their own limit
 /// of 64 is never met.
@@ -115,7 +115,7 @@ fn parens(alloc: Global, room: u32, tokens: &[Token]) -> Result<(Deep, &[Token])
     let (line, rest) = word(tokens, b"(")?;
     let (read, rest) = operand(alloc, room, Level::Sum, rest)?;
     let (read, (_, rest)) = both(read, word(rest, b")"))?;
-    let inner = Boxed::new(alloc, read.value)?;
+    let inner = Shared::new(alloc, read.value)?;
     let value = Tf::Parens { inner, line };
     let depth = read.depth + 1;
     Ok((Deep { value, depth }, rest))
@@ -151,7 +151,7 @@ fn unary(alloc: Global, room: u32, tokens: &[Token]) -> Result<(Deep, &[Token]),
     }
     let (line, rest) = word(tokens, b"-")?;
     let (read, rest) = operand(alloc, room, Level::Unary, rest)?;
-    let operand = Boxed::new(alloc, read.value)?;
+    let operand = Shared::new(alloc, read.value)?;
     let value = Tf::Negate { operand, line };
     let depth = read.depth + 1;
     Ok((Deep { value, depth }, rest))
@@ -170,8 +170,8 @@ fn binary(
     ensures { IfOk result (λ deep. deep ≡ record { value = ABinary operator left.value right.value line; depth = max left.depth right.depth + 1 }) }
 {
     let depth = left.depth.max(right.depth) + 1;
-    let (right, left) = both(right.value, Boxed::new(alloc, left.value))?;
-    let (left, right) = both(left, Boxed::new(alloc, right))?;
+    let (right, left) = both(right.value, Shared::new(alloc, left.value))?;
+    let (left, right) = both(left, Shared::new(alloc, right))?;
     let value = Tf::Binary {
         operator,
         left,
