@@ -21,7 +21,8 @@ pub struct Word {
 }
 
 impl Model for Word {
-    ghost use Rattle.std.specs.Prelude.{ℕ, List, length, sym};
+    ghost use Rattle.std.proofs.Common.{sym};
+    ghost use Rattle.std.specs.Prelude.{ℕ, List, length};
     ghost use Rattle.std.specs.Coded.{coded_list, coded_ℕ};
 
     ghost Value = { List ℕ };
