@@ -54,10 +54,12 @@ letters zero = []
 letters (suc n) = 97 ∷ letters n
 
 length-letters : (n : ℕ) → length (letters n) ≡ n
+unfolding letters
 length-letters zero = refl
 length-letters (suc n) = ap suc (length-letters n)
 
 letters_are : (n : ℕ) → list_all is_text_byte (letters n) ≡ true
+unfolding letters
 letters_are zero = refl
 letters_are (suc n) = letters_are n
 

@@ -159,8 +159,10 @@ fn counted_ts(bytes: &[u8]) -> Result<(Ts, usize), ReadFault>
 fn counted_value(bytes: &[u8]) -> Result<(Value, usize), ReadFault>
     ensures { Counts bytes.now result (value_at bytes.now) }
 {
-    let (value, rest) = value_of(bytes)?;
-    Ok((value, bytes.len() - rest.len()))
+    match value_of(bytes) {
+        Ok((value, rest)) => Ok((value, bytes.len() - rest.len())),
+        Err(fault) => Err(fault),
+    }
 }
 
 #[tactic(auto, unfolding(crate::specs::Reading::oref_at))]
@@ -206,10 +208,10 @@ fn behind(tag: u8, bytes: &[u8]) -> Result<(Value, &[u8]), ReadFault>
             Ok((Value::Ref(oref), rest))
         }
         3 => Ok((Value::Null, bytes)),
-        _ => {
-            let (word, rest) = word_of(bytes)?;
-            Ok((Value::Text(word), rest))
-        }
+        _ => match word_of(bytes) {
+            Ok((word, rest)) => Ok((Value::Text(word), rest)),
+            Err(fault) => Err(fault),
+        },
     }
 }
 
