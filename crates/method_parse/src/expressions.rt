@@ -234,6 +234,7 @@ fn after_field(
         return Ok((leaf(Expr::Field { name: field }), tokens));
     }
     let (read, rest) = arguments(alloc, place, room, tokens)?;
+    let depth = read.depth.max(1) + 1;
     let (field, arguments) = both(field, Exprs::new(alloc, read.exprs))?;
     let (called, receiver) = both((field, arguments), Shared::new(alloc, Expr::This { line }))?;
     let (method, arguments) = called;
@@ -242,7 +243,6 @@ fn after_field(
         method,
         arguments,
     };
-    let depth = read.depth.max(1) + 1;
     Ok((Deep { expr, depth }, rest))
 }
 
