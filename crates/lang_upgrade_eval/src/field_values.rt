@@ -44,10 +44,7 @@ pub fn field_behind(classes: &Classes, object: Option<&Object>, name: &Name) -> 
 }
 
 /// The object that a value names, where it names one that is there.
-pub fn object_behind<'a>(
-    objects: &'a PlainObjects,
-    value: &Option<Value>,
-) -> Option<&'a Object>
+pub fn object_behind<'a>(objects: &'a PlainObjects, value: &Option<Value>) -> Option<&'a Object>
     ensures { option_copied result ≡ object_behind (get objects.now) value.now }
 {
     match value {
