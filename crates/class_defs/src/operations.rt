@@ -20,12 +20,12 @@ pub fn number(value: Value) -> i64
     }
 }
 
-fn same_value(left: Value, right: Value) -> bool
-    ensures { result ≡ same_value left right }
+fn same_value(left: &Value, right: &Value) -> bool
+    ensures { result ≡ same_value left.now right.now }
 {
     match (left, right) {
         (Value::Int(a), Value::Int(b)) => a == b,
-        (Value::Ref(a), Value::Ref(b)) => a.cmp(&b).is_eq(),
+        (Value::Ref(a), Value::Ref(b)) => a.cmp(b).is_eq(),
         (Value::Null, Value::Null) => true,
         (Value::Text(a), Value::Text(b)) => a.bytes() == b.bytes(),
         (_, _) => false,
@@ -46,8 +46,8 @@ pub fn combined(operator: Operator, left: Value, right: Value) -> Value
         Operator::Add => Value::Int(number(left).wrapping_add(number(right))),
         Operator::Subtract => Value::Int(number(left).wrapping_sub(number(right))),
         Operator::Multiply => Value::Int(number(left).wrapping_mul(number(right))),
-        Operator::Equal => truth(same_value(left, right)),
-        Operator::Unequal => truth(!same_value(left, right)),
+        Operator::Equal => truth(same_value(&left, &right)),
+        Operator::Unequal => truth(!same_value(&left, &right)),
         Operator::Less => truth(number(left) < number(right)),
     }
 }

@@ -27,7 +27,6 @@ Pairs = List (ℕ × List ℕ)
 
 value_size : (value : Value) → ValueFits value → length (value_bytes value) ≤ 34
 value_size (Int z) fits = omega arith
-value_size (Text z) fits = omega arith
 value_size (Ref o) fits = omega arith
 value_size Null fits = omega arith
 value_size (Text w) fits = let few = few_letters w fits in omega (arith, few)

@@ -97,7 +97,7 @@ quoted_first bs =
     (λ closed.
     let fits = word_fits word (ltb-false 32 (length word) short) (taken_passes is_text_byte bs) in
     subst (λ (n : ℕ). P (Piece_Lexeme Quoted n)) (quoted_length word) (record { word = word; fits = fits; is = quoted_taken bs closed }, tt))
-    (λ open. tt))
+    (λ unclosed. tt))
 
 comment_first : (b : ℕ) (bs : List ℕ) → starts_with nat_eq (b ∷ bs) comment_mark ≡ true → FirstPart (Gap (prefix_len (λ c. not (is_newline c)) (b ∷ bs))) (b ∷ bs)
 comment_first b [] starts = absurd (both_ways false refl (and_parts (nat_eq 47 b) false starts).1)

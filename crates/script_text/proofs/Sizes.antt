@@ -61,7 +61,7 @@ quoted_sized b bs =
     (λ long. record { some = omega arith; within = omega arith })
     (λ short. cond_both (starts_with nat_eq (drop (prefix_len is_text_byte bs) bs) (quotation_mark ∷ [])) _ _ (λ piece. Sized piece (length (b ∷ bs)))
     (λ closed. record { some = omega arith; within = omega (arith, quoted_within bs closed) })
-    (λ open. record { some = omega arith; within = omega arith }))
+    (λ unclosed. record { some = omega arith; within = omega arith }))
 
 -- where the first byte passes a test, at least one does
 passes_first : (test : ℕ → Bool) (b : ℕ) (bs : List ℕ) → test b ≡ true → 1 ≤ prefix_len test (b ∷ bs)
