@@ -325,11 +325,13 @@ fn primary(
             let value = Literal::Int(value);
             Ok((leaf(Expr::Literal { value, line }), rest))
         }
-        Start::Quoted => {
-            let ((text, line), rest) = quoted(tokens)?;
-            let value = Literal::Text(text);
-            Ok((leaf(Expr::Literal { value, line }), rest))
-        }
+        Start::Quoted => match quoted(tokens) {
+            Ok(((text, line), rest)) => {
+                let value = Literal::Text(text);
+                Ok((leaf(Expr::Literal { value, line }), rest))
+            }
+            Err(error) => Err(error),
+        },
         Start::Name => {
             let (name, rest) = name(tokens)?;
             Ok((leaf(Expr::Variable { name }), rest))
