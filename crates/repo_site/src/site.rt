@@ -1,7 +1,7 @@
 //! A repository of a run.
 
 ghost use Rattle.repo_core.specs.Shown.{Shown};
-ghost use Rattle.repo_site.specs.Sited.{Happens, StandsIn};
+ghost use Rattle.repo_site.specs.Sited.{Happens, IsRightTrace, StandsIn};
 ghost use Rattle.std.specs.Prelude.{OnErr, OnOk, ◌≡◌, false, true};
 ghost use Rattle.repo_refusals.specs.declared.refusal.Refusal.TheVariants.{Down as IsDown, NoMemory as IsNoMemory};
 ghost use Rattle.std.specs.Prelude.{IfErr};
@@ -58,6 +58,15 @@ impl<P: Parts, O: Opening> Site<P, O> {
     {
         let Site { repo, .. } = self;
         repo
+    }
+
+    /// Ends it. Its parts come back with its trace.
+    #[tactic(auto, using(crate::proofs::Standing::closed))]
+    pub fn close(self) -> (P, Trace)
+        ensures { IsRightTrace O.run self.number result.1 }
+    {
+        let Site { repo, .. } = self;
+        repo.close()
     }
 
     /// The repository.
