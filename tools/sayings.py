@@ -3,15 +3,16 @@
 SYMBOLS = "{ } ( ) ; , . = == != < + - *".split()
 KEYWORDS = "setup free part class int method var if else while return print new at null this root client tx upgrade old schedule".split()
 
-# Short words of the patterns below: a name that is no keyword; a keyword with a capital letter, which is a name; a type; a number; the
-# last token of a value; a value, or a pair of parentheses with what stands between.
+# Short words of the patterns below: a name that is no keyword; a keyword with a capital letter, which is a name; a type; a number; a
+# text, which stands without its letters; the last token of a value; a value, or a pair of parentheses with what stands between.
 ANY_KEYWORD = "|".join(KEYWORDS)
 SHORT = {
     "NAME": rf"\b(?!(?:{ANY_KEYWORD})\b)[A-Za-z]\w*\b",
     "CAPITAL": rf"\b(?!(?:{ANY_KEYWORD})\b)(?i:{ANY_KEYWORD})\b",
     "TYPE": rf"\b(?!(?:{ANY_KEYWORD.replace('int|', '')})\b)[A-Za-z]\w*\b",
     "NUMBER": r"\b[0-9]+\b",
-    "VALUE": rf"(?:\)|\b[0-9]+|\bnull|\bthis|\b(?!(?:{ANY_KEYWORD})\b)[A-Za-z]\w*)",
+    "QUOTED": '""',
+    "VALUE": rf"(?:\)|\b[0-9]+|\"\"|\bnull|\bthis|\b(?!(?:{ANY_KEYWORD})\b)[A-Za-z]\w*)",
     "ONE": r"(?:[^;{}()]|\((?:[^;{}()]|\([^;{}()]*\))*\))*",
 }
 
@@ -34,7 +35,7 @@ SLIPS = [
     ("", r"→/ \* |\* →/ ", "There is no comment `/* */`.", "A comment begins with `//` and ends with its line."),
     ("", r"→/ ", "There is no division.", "A `while` that subtracts and counts divides, with steps for each round; or keep the sum and the count."),
     ("", r"→% ", "There is no `%`.", "A `while` subtracts until the rest is small enough, with steps for each round."),
-    ("", r"→[\"'`] ", "There are no texts.", "Let a number stand for each text."),
+    ("", r"→['`] ", "A text stands between two `\"`, and one letter is a text as well.", "Write `\"a\"`."),
     ("", r"→\? ", "There is no `? :`.", "Write `if (..) { x = a; } else { x = b; }`."),
     ("", r"→[\[\]] ", "There are no arrays and no lists.", "A class with a reference to the next object makes a list: docs/TASKS.md has one under \"Load data\"."),
     ("", r"→# ", "`#` begins no comment.", "A comment begins with `//` and ends with its line."),
@@ -51,10 +52,10 @@ SLIPS = [
     ("tx method change", r"\b0 →[xXbBoO][0-9A-Fa-f]+ |[0-9] →[eE][0-9]+ ", "A number has decimal digits alone.", "Write it out."),
     ("tx method", r"\+ →\+ |→\+ \+ |- - →; ", "There is no `++` and no `--`.", "Write `i = i + 1;`."),
     ("tx method", r"[-+*] →= ", "There is no `+=`, `-=` or `*=`.", "Write `i = i + 1;`."),
-    ("tx method", r"== →= ", "There is no `===`.", "`==` compares two ints or two references."),
+    ("tx method", r"== →= ", "There is no `===`.", "`==` compares two ints, two texts or two references."),
     ("tx method", r"< →= ", "There is no `<=`.", "`a <= b` is written `(b < a) == 0`."),
     ("tx method", r"(?:==|!=|<) [^;{}()]*→(?:==|!=|<) ", "Two comparisons can't stand side by side.", "Put one of them in parentheses: its value is 1 or 0."),
-    ("tx method setup", r"new (?P<c>NAME) \( →(?:NAME|NUMBER|null|this|new|-|\() ?", "`new` takes no values: the fields of a new object are 0 and `null`.", "Write `new {c}()`, and let a method of it take the values."),
+    ("tx method setup", r"new (?P<c>NAME) \( →(?:NAME|NUMBER|QUOTED|null|this|new|-|\() ?", "`new` takes no values: the fields of a new object are 0, the empty text or `null`.", "Write `new {c}()`, and let a method of it take the values."),
     ("tx method setup", r"new (?P<c>NAME) →", "Behind `new` and a class stands `()`.", "Write `new {c}()`."),
     ("tx method", r"self (?:\. NAME )?→", "There is no `self`.", "An object is called `this` in its methods."),
     ("tx method", r"(?<!this )\. NAME →", "Behind the point stands a method with its arguments: a field is read and written through `this` alone.", "Call a method that returns or changes the field, as `a.get()` or `a.set(3)`."),
@@ -66,7 +67,7 @@ SLIPS = [
     ("tx method", r"\b(?:let|const|val|auto|mut|local) →|[;{}] →int ", "A local begins with `var` and its type.", "Write `var int i = 0;`."),
     ("tx method", r"[;{}] (?P<t>NAME) →(?P<x>NAME) = ", "A local begins with `var` and its type.", "Write `var {t} {x} = ..;`."),
     ("tx method", r"var (?P<x>NAME) →= ", "The type of a local stands before its name.", "Write `var int {x} = ..;`."),
-    ("tx method", r"var (?P<t>TYPE) (?P<x>NAME) →[;,] ", "Each local has a first value, and a `var` of its own.", "Write `var {t} {x} = 0;`, or `= null` where it is a reference."),
+    ("tx method", r"var (?P<t>TYPE) (?P<x>NAME) →[;,] ", "Each local has a first value, and a `var` of its own.", "Write `var {t} {x} = 0;`, or `= \"\"` of a text, or `= null` of a reference."),
     ("tx method", r"\bprint ONE→, ", "`print` takes one value.", "Write one for each: `print 1; print 2;`."),
     ("tx method", r"\b(?:if|while) \( ONE→= ", "A condition is a value, and `=` assigns.", "Compare by `==`."),
     ("tx method", r"\b(?P<w>if|while) →", "Behind `{w}` stands a condition in parentheses.", "Write `{w} (..) { .. }`."),
@@ -76,11 +77,12 @@ SLIPS = [
     ("tx", r"→this ", "`this` stands in methods alone.", "A transaction names a root or a local."),
     ("method", r"→print ", "`print` stands in transactions alone.", "Return the value, and print it in the transaction."),
     ("tx method", r"[;{}] →(?:method|tx|client|root|class|part|upgrade|schedule|setup) ", "A `}` is missing before `{it}`.", "Close the body, and the blocks in it, above this word."),
+    ("change", r"QUOTED →[-+*] |[-+*(] →QUOTED ", "In an upgrade a text stands alone: texts aren't joined, and have no parentheses.", "Write the whole text between two `\"`."),
     ("tx method change", r"VALUE →[-+*] ", "An expression is at most 32 deep.", "Keep a part of it in a local."),
     ("tx method", r"[;{}] (?P<w>CAPITAL) →", "`{w}` isn't the keyword: keywords have small letters.", "Write it in small letters."),
     ("tx method", r"(?P<m>NAME) →\( ", "A call has an object before its method.", "Write `a.{m}(..)`, in a method of the same class `this.{m}(..)`."),
     ("tx method", r"[;{}] (?P<w>NAME) →(?:NAME|NUMBER|VALUE)", "No statement begins with `{w}`.", "One begins with `var`, `if`, `while`, `return`, `print`, with a name behind which `=` stands, or with a call."),
-    ("tx method", r"VALUE →(?:\}|NAME|NUMBER|var|if|while|return|print|this|new|null) ", "A statement ends with `;`, and between two values stands an operator.", "Put what lacks before `{it}`."),
+    ("tx method", r"VALUE →(?:\}|NAME|NUMBER|QUOTED|var|if|while|return|print|this|new|null) ", "A statement ends with `;`, and between two values stands an operator.", "Put what lacks before `{it}`."),
     ("tx method", r"[;{}] →\{ ", "Braces stand behind `if`, `else` and `while` alone.", "Leave them out."),
     ("tx method", r"[;{}] →; ", "There is no empty statement.", "Leave this `;` out."),
     ("tx method", r"→else ", "`else` stands behind the braces of an `if` alone.", "Let it stand right behind them."),
@@ -92,10 +94,10 @@ SLIPS = [
     ("class change", r"method (?P<m>NAME) →\( ", "A method has the type of its result before its name.", "Write `method int {m}(..)`; one that has nothing to tell returns 0."),
     ("class change", r"(?P<t>TYPE) (?P<m>NAME) →\( ", "A method begins with `method`.", "Write `method {t} {m}(..)`."),
     ("class change", r"\} →(?P<t>TYPE) (?P<m>NAME) \( ", "A method begins with `method`.", "Write `method {t} {m}(..)`."),
-    ("class change", r"[;{}] NAME →\( |\} →NAME \( ", "There are no constructors: `new` makes an object whose fields are 0 and `null`.", "Let a method take the first values."),
-    ("class", r"TYPE NAME →= |\} →TYPE NAME = ", "A field of a new object is 0 or `null`, and takes no value here.", "Leave the value out, and let a method of the class set it."),
-    ("change", r"(?P<t>TYPE) (?P<x>NAME) →; ", "A field of an upgrade has a value, made from the old object.", "Write `{t} {x} = old.{x};`, or a number or `null` for a new field."),
-    ("change", r"[-=+*(] →(?:this|new|NAME) ", "The new value of a field is made of numbers, `null` and fields of the old object.", "Write `old.` before an old field's name."),
+    ("class change", r"[;{}] NAME →\( |\} →NAME \( ", "There are no constructors: `new` makes an object whose fields are 0, the empty text or `null`.", "Let a method take the first values."),
+    ("class", r"TYPE NAME →= |\} →TYPE NAME = ", "A field of a new object is 0, the empty text or `null`, and takes no value here.", "Leave the value out, and let a method of the class set it."),
+    ("change", r"(?P<t>TYPE) (?P<x>NAME) →; ", "A field of an upgrade has a value, made from the old object.", "Write `{t} {x} = old.{x};`, or a number, a text or `null` for a new field."),
+    ("change", r"[-=+*(] →(?:this|new|NAME) ", "The new value of a field is made of numbers and fields of the old object, or is a text or `null`.", "Write `old.` before an old field's name."),
     ("class change", r"TYPE NAME →, ", "Each field is declared by itself.", "Write `int a; int b;`."),
     ("class change", r"\} →TYPE NAME [;=] ", "In a class all fields stand before the methods.", "Move it above the first `method`."),
     ("class change", r"; →TYPE NAME [;=] ", "A class has at most 32 fields.", "Keep some of them in another object."),
@@ -132,13 +134,13 @@ SLIPS = [
 ]  # fmt: skip
 
 # Of names that aren't declared (T2), and are words of other languages: what is said, and what mends it.
-NO_BOOL = "There is no type `{it}`: the types are `int` and the classes."
+NO_BOOL = "There is no type `{it}`: the types are `int`, `text` and the classes."
 NAMES = {
     "true false": ("There is no `{it}`: a condition holds where its value isn't 0.", "Write 1 for true and 0 for false."),
     "NULL Null None nil undefined": ("There is no `{it}`.", "A reference that leads nowhere is `null`."),
     "bool boolean": (NO_BOOL, "Write `int`: a comparison gives 1 or 0."),
     "float double real decimal": (NO_BOOL, "Count in a smaller unit, as pence or thousandths."),
-    "string text char str": (NO_BOOL, "Let a number stand for each text."),
+    "string String Text char str varchar": (NO_BOOL, "Write `text`, which has at most 32 bytes."),
     "long short byte integer number i64 u64 int64": (NO_BOOL, "Write `int`, which has 64 bits with a sign."),
     "void": ("There is no `void`: each method has a result.", "Write `int`, and `return 0;` at its end; a method that ends without it gives 0."),
     "break continue": ("There is no `{it}`.", "Let the condition of the `while` end it, by a local that is set in the loop."),
@@ -148,22 +150,33 @@ NAMES = {
     "pass": ("There is no `{it}`.", "Leave the braces empty."),
 }  # fmt: skip
 
+# Of a text between quotation marks that is none of the language: what is wrong with it, and what mends it.
+TEXTS = {
+    "open": ("This text isn't closed on its line.", "Put a `\"` behind its last letter. A text has no end of a line and no `\"` in it, and there is no `\\`."),
+    "byte": ("This text has a byte that no text has: the letters are those of ASCII, from the blank to `~`.", "Leave out tabs and letters with accents."),
+    "long": ("This text is longer than 32 bytes.", "Shorten it, or keep its parts in several fields."),
+}  # fmt: skip
+
 # Of each rule: what it says, and what usually mends it. `{it}` is the word at the place.
 RULES = {
     "T1": ("`{it}` is declared twice: among the classes, the roots, the members of a class, or the parameters and locals of a body; a local of a transaction can't have a root's name either.",
            "Give one of the two another name; a field and a method of one class can't share one."),
-    "T2 method": ("What stands before the point has no method `{it}`: its class declares none of this name, or it is an int or `null`.",
+    "T2 method": ("What stands before the point has no method `{it}`: its class declares none of this name, or it is an int, a text or `null`.",
                   "Declare the method in that class. A field of another object is reached by a method that returns it."),
     "T2": ("`{it}` isn't declared here.",
            "A local is known from behind its `var` to the end of its block, a root in transactions alone, a field behind `this.` alone."),
     "T2 class": ("There is no class `{it}`.",
-                 "The types are `int` and the classes of the setup; small and capital letters differ."),
-    "T3": ("The types differ at `{it}`: `+ - * <`, conditions and `print` take ints, `==` and `!=` two values of one type, an assignment or argument its own type. `null` is no int, and a root can't be assigned.",
+                 "The types are `int`, `text` and the classes of the setup; small and capital letters differ."),
+    "T3": ("The types differ at `{it}`: `+ - * <` and conditions take ints, `print` an int or a text, `==` and `!=` two values of one type, an assignment or argument its own type. `null` is no int and no text, and a root can't be assigned.",
            "Compare a reference with `== null`, print what a method returns, or change the declared type."),
+    "T3 text": ("The text `{it}` stands where a value of another type belongs: a condition is an int, and an argument or a result has the declared type.",
+                "Declare the parameter or the result as `text`, or give a number; of two texts `==` tells whether they are the same."),
     "T4": ("The method `{it}` has another number of parameters than this call has arguments.",
            "Count the parameters where `{it}` is declared, in the class that the last upgrade above left."),
     "T5": ("`{it}` is a part class, and a root, parameter, result or local can't be of one: a part belongs to one field of one object.",
            "Keep the part in a field and call its methods there, or declare the class as `free`."),
+    "T5 text": ("A root is an object, and `text` is the type of texts.",
+                "Declare a class with a field of type `text`, and let the root be of this class."),
     "T6": ("`{it}` is an owned field: it may be assigned `null` or `new` of its class, be called, or be compared with `null`, and nothing else.",
            "Call a method on `this.{it}`, without parentheses round it, or declare its class as `free`."),
     "T7": ("In a part class `this` may stand before a field's name or a call alone: a reference to a part never leaves its owner.",
@@ -181,6 +194,8 @@ RULES = {
            "An upgrade makes no new classes: declare the class in the setup, and give all its new fields in one place."),
     "O2": ("The new value of an int field is worked out from ints: numbers, and `old.f` where the old class has an int field f, or `old.part.f` through owned fields, at most 8 names.",
            "Look at the fields that the class has before this upgrade: a new field begins with a number."),
+    "O2 text": ("The new value of a text field is a text, or `old.f` where the old class has a text field f.",
+                "Begin with `\"\"`, and let a method fill the field in a transaction."),
     "O3": ("The new value of a field of a free class is `null`, or `old.f` with an old field f of that very class.",
            "References are handed on or dropped; what has to be made is made by a method later."),
     "O4": ("A path behind `old` leads through owned fields alone: an object that others can reach too isn't read by an upgrade.",

@@ -9,7 +9,7 @@ import dataclasses
 import functools
 import re
 
-TOKEN = re.compile(rb"//[^\n]*|[ \t\r\n]+|([A-Za-z][A-Za-z0-9_]*|[0-9]+|==|!=|.)", re.S)
+TOKEN = re.compile(rb'//[^\n]*|[ \t\r\n]+|("[^"\n]*"|[A-Za-z][A-Za-z0-9_]*|[0-9]+|==|!=|.)', re.S)
 STEPS, CALLS, READ, CREATED = 100_000, 64, 1_024, 64  # of one transaction, at most
 DIVIDER = b"\x1e"
 
@@ -55,6 +55,9 @@ class Reader:
 
     def sees(self, *words):
         return self.at < len(self.words) and self.words[self.at] in words
+
+    def sees_text(self):
+        return self.at < len(self.words) and self.words[self.at].startswith('"')
 
     def take(self, word=None):
         found = self.words[self.at]
@@ -149,6 +152,8 @@ class Reader:
     def given(self):
         if self.takes("null"):
             return ("null",)
+        if self.sees_text():
+            return "text", self.take()[1:-1]
         return self.chain(("+", "-"), lambda: self.chain(("*",), self.signed))
 
     def chain(self, operators, read):
@@ -228,6 +233,8 @@ class Reader:
         return found
 
     def primary(self):
+        if self.sees_text():
+            return "text", self.take()[1:-1]
         word = self.take()
         if word.isdigit():
             return "number", int(word)
@@ -252,13 +259,21 @@ class Reader:
 @dataclasses.dataclass
 class Store:
     classes: dict
-    objects: dict  # name -> (class, {field: value}); a value is an int, a name (a tuple) or None
+    objects: dict  # name -> (class, {field: value}); a value is an int, a text, a name (a tuple) or None
     roots: dict
     epoch: int = 0
 
 
-def begins(kind):
+def begins(kind, classes):
+    """The first value of a field. Where a class has the name `text`, this is its type."""
+    if kind == "text" and "text" not in classes:
+        return ""
     return 0 if kind == "int" else None
+
+
+def printed(value):
+    """The ints that printing a value adds to the answer: of a text how many bytes it has, and then these."""
+    return [len(value), *map(ord, value)] if isinstance(value, str) else [value]
 
 
 def opened(script):
@@ -266,7 +281,7 @@ def opened(script):
     for name, of, repo in script.roots:
         count = counts[repo] = counts.get(repo, 0) + 1
         roots[name] = repo, (count - 1) // 12, (count - 1) % 12
-        objects[roots[name]] = of, {field: begins(kind) for kind, field in script.classes[of].fields}
+        objects[roots[name]] = of, {field: begins(kind, script.classes) for kind, field in script.classes[of].fields}
     return Store(dict(script.classes), objects, roots)
 
 
@@ -339,7 +354,7 @@ class Run:
             case "return":
                 raise Returned(self.value(statement[1], this, names))
             case "print":
-                self.printed.append(self.value(statement[1], this, names))
+                self.printed += printed(self.value(statement[1], this, names))
             case "alone":
                 self.value(statement[1], this, names)
 
@@ -350,8 +365,8 @@ class Run:
     def value(self, tree, this, names):
         self.step()
         match tree:
-            case "number", number:
-                return number
+            case "number" | "text", value:
+                return value
             case "null",:
                 return None
             case "this",:
@@ -384,7 +399,7 @@ class Run:
             name = 255, 0, self.stand_ins
             self.stand_ins += 1
         self.created.add(name)
-        self.written[name] = of, {field: begins(kind) for kind, field in self.store.classes[of].fields}
+        self.written[name] = of, {field: begins(kind, self.store.classes) for kind, field in self.store.classes[of].fields}
         return name
 
     def called(self, target, method, arguments):
@@ -400,7 +415,7 @@ class Run:
         self.calls += 1
         try:
             self.block(block, target, {name: value for (_, name), value in zip(parameters, arguments)})
-            return begins(result)
+            return begins(result, self.store.classes)
         except Returned as returned:
             return returned.args[0]
         finally:
@@ -412,8 +427,8 @@ def worth(tree, objects, fields):
     match tree:
         case "null",:
             return None
-        case "number", number:
-            return number
+        case "number" | "text", value:
+            return value
         case "round", part:
             return worth(part, objects, fields)
         case "minus", part:
@@ -592,7 +607,7 @@ class Placed(Run):
         self.homes.append(repo or 0)
         name = repo or 0, "new", len(self.homes)
         self.created.add(name)
-        self.written[name] = of, {field: begins(kind) for kind, field in self.store.classes[of].fields}
+        self.written[name] = of, {field: begins(kind, self.store.classes) for kind, field in self.store.classes[of].fields}
         return name
 
 

@@ -9,8 +9,9 @@ import pathlib
 import typing
 
 OPEN = 1  # a gate: any other byte is closed
-MAGIC, FORMAT = b"TP", 1  # a page's first bytes; the format of a page and of a checkpoint
-PAGE_BYTES = 4096
+MAGIC, FORMAT = b"TP", 2  # a page's first bytes; the format of a page and of a checkpoint
+PAGE_BYTES = 16_384
+TEXT_BYTES = 32  # of a text
 SLOTS = 12  # of a page
 PAGES = 65_536  # of a repository
 REPOSITORIES = 8
@@ -78,7 +79,7 @@ class Text:
 class Object:
     number: int  # of its class
     version: int  # how many upgrades there were when it was written
-    values: list  # each an int, a Name, or None for null
+    values: list  # each an int, a Name, a str for a text, or None for null
     place: Place
     places: list  # where each value begins
 
@@ -189,8 +190,19 @@ class Bytes:
         return found - (1 << 64) if found >> 63 else found
 
     def value(self):
-        kind = self.one_of({1: "int", 2: "reference", 3: "null"}, "the kind of a value")
+        kind = self.one_of({1: "int", 2: "reference", 3: "null", 4: "text"}, "the kind of a value")
+        if kind == "text":
+            return self.words()
         return self.signed() if kind == "int" else self.name() if kind == "reference" else None
+
+    def words(self):
+        """A text that a field holds."""
+        count, place = self.number(1, "the length of a text", TEXT_BYTES + 1), self.here()
+        found = self.take(count, "a text")
+        for at, byte in enumerate(found):
+            if not 32 <= byte <= 126 or byte == 34:
+                raise Wrong(place.behind(at), f"a text has the byte {byte:02x}, which none has")
+        return found.decode("ascii")
 
     def object(self):
         place = self.here()
@@ -395,7 +407,7 @@ def page_head(bytes_, page):
     """The count of objects of a page."""
     place = bytes_.here()
     if bytes_.take(PAGE_BYTES, "a page")[:3] != MAGIC + bytes([FORMAT]):
-        raise Wrong(place, f"a page begins with 54 50 01, and this one, page {page}, with {bytes_.data[:3].hex(' ')}")
+        raise Wrong(place, f"a page begins with 54 50 02, and this one, page {page}, with {bytes_.data[:3].hex(' ')}")
     bytes_.read = 3
     count, place = bytes_.number(1, "the count of objects"), bytes_.here()
     number = bytes_.number(4, "the page's number")

@@ -8,7 +8,7 @@ import re
 
 from store_files import Name, Place, Wrong, file_name
 
-WORD = re.compile(r"[A-Za-z][A-Za-z0-9_]{0,31}|[0-9]+|==|!=|[{}();,.=<+*-]")
+WORD = re.compile(r'"[ !#-~]{0,32}"|[A-Za-z][A-Za-z0-9_]{0,31}|[0-9]+|==|!=|[{}();,.=<+*-]')
 CLASS_END = 1 << 16
 
 
@@ -238,8 +238,12 @@ def misfit(objects, schemas, kind, value):
     """Why a value isn't one of a field's type; None where it is."""
     if kind == "int":
         return None if isinstance(value, int) else f"is {said(value)}, and has to be an int"
+    if kind == "text" and kind not in schemas.number:
+        return None if isinstance(value, str) else f"is {said(value)}, and has to be a text"
     if isinstance(value, int):
         return f"is the int {value}, and has to be of class {kind}"
+    if isinstance(value, str):
+        return f"is {said(value)}, and has to be of class {kind}"
     if value is None:
         return None
     if value not in objects:
@@ -249,7 +253,7 @@ def misfit(objects, schemas, kind, value):
 
 
 def said(value):
-    return "null" if value is None else f"the object {value}" if isinstance(value, Name) else f"{value}"
+    return "null" if value is None else f"the object {value}" if isinstance(value, Name) else f'the text "{value}"' if isinstance(value, str) else f"{value}"
 
 
 def namings(objects, schemas):

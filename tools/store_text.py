@@ -86,7 +86,7 @@ def is_buffered(obj):
 
 
 def value_text(value):
-    return "null" if value is None else str(value)
+    return "null" if value is None else f'"{value}"' if isinstance(value, str) else str(value)
 
 
 def object_line(view, name):

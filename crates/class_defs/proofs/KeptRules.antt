@@ -3,16 +3,20 @@ use Rattle.std.proofs.Common.{◌≡◌, arith, Bool, true, false, cond, if◌th
 use Rattle.std.proofs.lemmas.List.Folds.{find_at}
 use Rattle.std.proofs.lemmas.Option.{slice_get_within}
 use Rattle.std.specs.List.{AllByRecursion, flat_map, position_or_len}
-use Rattle.std.specs.Prelude.{◌+◌, ◌<◌, find, is_some, nat_lt, position, slice_get}
-use Rattle.class_defs.specs.Types.{IsDeclared, class_named, class_or_untold, type_named}
+use Rattle.std.specs.Prelude.{◌+◌, ◌<◌, codes, find, is_some, nat_lt, not, position, slice_get}
+use Rattle.std.specs.Str.{bytes_eq}
+use Rattle.class_defs.specs.Types.{IsDeclared, class_named, class_or_untold, class_or_word, type_named}
 use Rattle.class_defs.specs.Objects.{first_of}
-use Rattle.class_defs.specs.Rules.{least, least_with, must, told_before, is_class, is_type, is_free_type}
+use Rattle.class_defs.specs.Rules.{least, least_with, must, told_before, is_told, is_type, is_free_type, is_part, is_root_class, is_root_type}
 use Rattle.class_defs.specs.SchemaRules.{schema_rules, class_rules, classes_from, method_rules, body_rules, class_names, root_names, root_rules, member_names, body_names, method_types}
 use Rattle.class_defs.specs.declared.classes.Class.{Class}
 use Rattle.class_defs.specs.declared.classes.Method.{Method}
 use Rattle.class_defs.specs.declared.expressions.TypeName.{TypeName}
 use Rattle.class_defs.specs.declared.expressions.TypeName.TheVariants as type_name
+use Rattle.class_defs.specs.declared.expressions.Name.{Name}
+use Rattle.class_defs.specs.declared.types.ExprType.TheVariants as type
 use Rattle.class_defs.specs.declared.rules.Rule.{Rule}
+use Rattle.class_defs.specs.declared.rules.Rule.TheVariants.{T5}
 use Rattle.class_defs.specs.declared.rules.RuleFault.{RuleFault}
 use Rattle.class_defs.specs.declared.store.Schema.{Schema}
 
@@ -75,13 +79,44 @@ pub class_told : (o : Option ℕ) → is_some o ≡ true → IsDeclared (class_o
 class_told (Some c) h = tt
 class_told None h = cc
 
+-- a word that names a type
+word_told : (word : List ℕ) (o : Option ℕ) → is_told (class_or_word word o) ≡ true → IsDeclared (class_or_word word o)
+word_told word (Some c) h = tt
+word_told word None h = by (bytes_eq word (codes "text")) h
+  where
+    by : (b : Bool) → is_told (cond b type.Text type.Untold) ≡ true → IsDeclared (cond b type.Text type.Untold)
+    by true h = tt
+    by false h = cc
+
 pub free_is_type : (classes : List Class) (t : TypeName) → is_free_type classes t ≡ [] → is_type classes t ≡ []
 free_is_type classes (type_name.Int line) h = refl
-free_is_type classes (type_name.Class name) h = (nothing (is_class classes name) _ h).0
+free_is_type classes (type_name.Class name) h = (nothing (is_type classes (type_name.Class name)) _ h).0
 
 pub type_told : (classes : List Class) (t : TypeName) → is_type classes t ≡ [] → IsDeclared (type_named classes t)
 type_told classes (type_name.Int line) h = tt
-type_told classes (type_name.Class name) h = class_told (class_named classes name.text) (held _ _ _ h)
+type_told classes (type_name.Class name) h = word_told name.text (class_named classes name.text) (held _ _ _ h)
+
+told_not : (b : Bool) → not b ≡ true → b ≡ false
+told_not true h = cc
+told_not false h = refl
+
+no_false : {A : Type 0} → false ≡ true → A
+no_false h = cc
+
+-- a root that breaks no rule is of a class, and of no part class
+pub root_free : (classes : List Class) (n : Name) → is_root_class classes n ≡ [] → (c : ℕ) × (class_named classes n.text ≡ Some c) × (is_part classes (type.Class c) ≡ false)
+root_free classes n h =
+    let p = nothing (is_type classes (type_name.Class n)) (must (is_root_type classes (type_named classes (type_name.Class n))) T5 n.line) h in
+    by (class_named classes n.text) refl (held _ _ _ p.0) (held _ _ _ p.1)
+  where
+    by_word : {A : Type 0} (b : Bool) → is_told (cond b type.Text type.Untold) ≡ true → is_root_type classes (cond b type.Text type.Untold) ≡ true → A
+    by_word true told free = no_false free
+    by_word false told free = no_false told
+
+    by : (o : Option ℕ) → class_named classes n.text ≡ o → is_told (class_or_word n.text o) ≡ true → is_root_type classes (class_or_word n.text o) ≡ true
+        → (c : ℕ) × (class_named classes n.text ≡ Some c) × (is_part classes (type.Class c) ≡ false)
+    by (Some c) is told free = (c, is, told_not _ free)
+    by None is told free = by_word (bytes_eq n.text (codes "text")) told free
 
 -- ---- classes and methods
 

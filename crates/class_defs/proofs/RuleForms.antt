@@ -1,5 +1,5 @@
 -- What the rules say of expressions and statements, by their form.
-use Rattle.std.proofs.Common.{◌≡◌, ℕ, ℤ, List, Option, ap, ◌∙◌, sym}
+use Rattle.std.proofs.Common.{◌≡◌, ℕ, List, Option, ap, ◌∙◌, sym}
 use Rattle.class_defs.specs.ExpressionRules.{Judged, judged, judge_step}
 use Rattle.class_defs.specs.Rules.{Sight}
 use Rattle.class_defs.specs.StatementRules.{Ruled, ruled, rule_step, names_at, names_declared}
@@ -12,14 +12,15 @@ use Rattle.class_defs.specs.declared.expressions.Expr.TheViews.{out-roll-Expr}
 use Rattle.class_defs.specs.declared.expressions.Name.{Name}
 use Rattle.class_defs.specs.declared.expressions.Operator.{Operator}
 use Rattle.class_defs.specs.declared.expressions.TypeName.{TypeName}
+use Rattle.class_defs.specs.declared.literals.Literal.{Literal}
 use Rattle.class_defs.specs.declared.statements.Stmt.{Stmt, map-Stmt}
 use Rattle.class_defs.specs.declared.statements.Stmt.TheFolds.{fold-roll-Stmt}
 use Rattle.class_defs.specs.declared.statements.Stmt.TheOpen.{Stmt-F}
 use Rattle.class_defs.specs.declared.statements.Stmt.TheVariants as stmt
 
-pub judged_int : (s : Sight) (value : ℤ) (line : ℕ) → judged s (expr.Int value line) ≡ judge_step s (map-Expr Expr Judged (judged s) (Expr-F.Int value line))
+pub judged_literal : (s : Sight) (value : Literal) (line : ℕ) → judged s (expr.Literal value line) ≡ judge_step s (map-Expr Expr Judged (judged s) (Expr-F.Literal value line))
 unfolding judged
-judged_int s value line = ap (judged s) (sym (expr.rolls-Int value line)) ∙ fold-roll-Expr Judged (judge_step s) (Expr-F.Int value line)
+judged_literal s value line = ap (judged s) (sym (expr.rolls-Literal value line)) ∙ fold-roll-Expr Judged (judge_step s) (Expr-F.Literal value line)
 
 pub judged_null : (s : Sight) (line : ℕ) → judged s (expr.Null line) ≡ judge_step s (map-Expr Expr Judged (judged s) (Expr-F.Null line))
 unfolding judged
@@ -129,8 +130,8 @@ pub names_evaluate : (e : Expr) → names_declared (stmt.Evaluate e) ≡ names_a
 unfolding names_declared
 names_evaluate e = ap names_declared (sym (stmt.rolls-Evaluate e)) ∙ fold-roll-Stmt (List Name) names_at (Stmt-F.Evaluate e)
 
-pub out_int : (value : ℤ) (line : ℕ) → out-Expr (expr.Int value line) ≡ Expr-F.Int value line
-out_int value line = ap out-Expr (sym (expr.rolls-Int value line)) ∙ out-roll-Expr (Expr-F.Int value line)
+pub out_literal : (value : Literal) (line : ℕ) → out-Expr (expr.Literal value line) ≡ Expr-F.Literal value line
+out_literal value line = ap out-Expr (sym (expr.rolls-Literal value line)) ∙ out-roll-Expr (Expr-F.Literal value line)
 
 pub out_null : (line : ℕ) → out-Expr (expr.Null line) ≡ Expr-F.Null line
 out_null line = ap out-Expr (sym (expr.rolls-Null line)) ∙ out-roll-Expr (Expr-F.Null line)
@@ -160,4 +161,4 @@ pub out_call : (receiver : Expr) (method : Name) (arguments : List Expr) → out
 out_call receiver method arguments = ap out-Expr (sym (expr.rolls-Call receiver method arguments)) ∙ out-roll-Expr (Expr-F.Call receiver method arguments)
 
 -- the forms of both
-pub ruleset the_forms = (judged_int, judged_null, judged_this, judged_field, judged_variable, judged_new, judged_parens, judged_negate, judged_binary, judged_call, ruled_var, names_var, ruled_assign, names_assign, ruled_field_assign, names_field_assign, ruled_return, names_return, ruled_if, names_if, ruled_if_else, names_if_else, ruled_while, names_while, ruled_print, names_print, ruled_evaluate, names_evaluate, out_int, out_null, out_this, out_field, out_variable, out_new, out_parens, out_negate, out_binary, out_call)
+pub ruleset the_forms = (judged_literal, judged_null, judged_this, judged_field, judged_variable, judged_new, judged_parens, judged_negate, judged_binary, judged_call, ruled_var, names_var, ruled_assign, names_assign, ruled_field_assign, names_field_assign, ruled_return, names_return, ruled_if, names_if, ruled_if_else, names_if_else, ruled_while, names_while, ruled_print, names_print, ruled_evaluate, names_evaluate, out_literal, out_null, out_this, out_field, out_variable, out_new, out_parens, out_negate, out_binary, out_call)

@@ -1,6 +1,6 @@
 -- The rules that an expression breaks (this project's).
 use Rattle.std.specs.Prelude.{ℕ, ◌||◌, ◌&&◌, ◌==◌, nat_lt, not, List, [], ◌∷◌, ◌++◌, length, Bool, true, false, Option, Some, None, is_some, is_none, option_and_then, drop, slice_get}
-use Rattle.class_defs.specs.Rules.{Sight, must, scope_of, type_in_sight, is_part, is_class, fits}
+use Rattle.class_defs.specs.Rules.{Sight, must, scope_of, type_in_sight, is_part, is_class, fits, is_told}
 use Rattle.class_defs.specs.Types.{class_named, class_or_untold, field_of, field_type, method_of, type_named, type_step}
 use Rattle.class_defs.specs.declared.classes.Class.{Class}
 use Rattle.class_defs.specs.declared.classes.Method.{Method}
@@ -30,7 +30,7 @@ pub record Judged : Type 0 where
 
 -- the line of an expression's own token
 abbrev pub line_at : {A : Type 0} → Expr-F A → ℕ
-line_at (Expr-F.Int value line) = line
+line_at (Expr-F.Literal value line) = line
 line_at (Expr-F.Null line) = line
 line_at (Expr-F.This line) = line
 line_at (Expr-F.Field name) = name.line
@@ -47,7 +47,7 @@ line_of e = line_at (out-Expr e)
 -- whether an expression is the word `null`
 abbrev pub null_at : {A : Type 0} → Expr-F A → Bool
 null_at (Expr-F.Null line) = true
-null_at (Expr-F.Int value line) = false
+null_at (Expr-F.Literal value line) = false
 null_at (Expr-F.This line) = false
 null_at (Expr-F.Field name) = false
 null_at (Expr-F.Variable name) = false
@@ -59,7 +59,7 @@ null_at (Expr-F.Call receiver method arguments) = false
 
 -- the types of an expression's parts
 abbrev pub kinds_at : Expr-F Judged → Expr-F ExprType
-kinds_at (Expr-F.Int value line) = Expr-F.Int value line
+kinds_at (Expr-F.Literal value line) = Expr-F.Literal value line
 kinds_at (Expr-F.Null line) = Expr-F.Null line
 kinds_at (Expr-F.This line) = Expr-F.This line
 kinds_at (Expr-F.Field name) = Expr-F.Field name
@@ -118,14 +118,17 @@ new_rules s class at place =
     ++ must (may_be_made place || not (is_part s.schema.classes (class_or_untold (class_named s.schema.classes class.text)))) T8 class.line
     ++ at_rules s at
 
--- whether two values can be compared by `==` and `!=`: two numbers, two of one free class, or one and a null
+-- whether two values can be compared by `==` and `!=`: two numbers, two texts, two of one free class, or one and a null
 abbrev pub comparable : List Class → ExprType → ExprType → Bool
 comparable classes type.Int b = fits type.Int b
+comparable classes type.Text b = fits type.Text b
 comparable classes type.Null type.Int = false
+comparable classes type.Null type.Text = false
 comparable classes type.Null type.Null = false
 comparable classes type.Null (type.Class d) = true
 comparable classes type.Null type.Untold = true
 comparable classes (type.Class c) type.Int = false
+comparable classes (type.Class c) type.Text = false
 comparable classes (type.Class c) type.Null = true
 comparable classes (type.Class c) (type.Class d) = c == d && not (is_part classes (type.Class c))
 comparable classes (type.Class c) type.Untold = true
@@ -133,6 +136,10 @@ comparable classes type.Untold b = true
 
 abbrev pub is_number : ExprType → Bool
 is_number t = fits type.Int t
+
+-- whether a value of this type can be printed: a number or a text
+abbrev pub is_printable : ExprType → Bool
+is_printable t = is_number t || fits type.Text t
 
 -- whether an operator takes values of these types
 abbrev pub takes : List Class → Operator → ExprType → ExprType → Bool
@@ -170,14 +177,9 @@ binary_rules s operator left right line =
 abbrev pub method_called : List Class → ExprType → Name → Option Method
 method_called classes (type.Class c) method = method_of classes c method.text
 method_called classes type.Int method = None
+method_called classes type.Text method = None
 method_called classes type.Null method = None
 method_called classes type.Untold method = None
-
-abbrev pub is_told : ExprType → Bool
-is_told type.Int = true
-is_told type.Null = true
-is_told (type.Class c) = true
-is_told type.Untold = false
 
 -- T2 and T4: the receiver's class has the method, with as many parameters as there are arguments
 abbrev pub called_rules : ExprType → Option Method → Name → ℕ → List RuleFault
@@ -212,7 +214,7 @@ call_rules s receiver name arguments =
 
 -- The rules that an expression breaks: those that its parts break where they stand, and its own.
 abbrev pub broken_at : Sight → Expr-F Judged → Position → List RuleFault
-broken_at s (Expr-F.Int value line) place = []
+broken_at s (Expr-F.Literal value line) place = []
 broken_at s (Expr-F.Null line) place = []
 broken_at s (Expr-F.This line) place = this_rules s line place
 broken_at s (Expr-F.Field name) place = field_rules s name place

@@ -20,6 +20,7 @@ use Rattle.class_defs.specs.declared.upgrades.Tf.TheOpen.{Tf-F}
 abbrev pub part_class : List Class → Option ExprType → Option ℕ
 part_class classes (Some (type.Class d)) = if is_part classes (type.Class d) then Some d else None
 part_class classes (Some type.Int) = None
+part_class classes (Some type.Text) = None
 part_class classes (Some type.Null) = None
 part_class classes (Some type.Untold) = None
 part_class classes None = None
@@ -39,7 +40,7 @@ is_owned_path classes None (name ∷ names) = false
 -- whether all paths of an expression go through owned fields
 abbrev pub owned_step : List Class → ℕ → Tf-F Bool → Bool
 owned_step classes c (Tf-F.Null line) = true
-owned_step classes c (Tf-F.Int n line) = true
+owned_step classes c (Tf-F.Literal l line) = true
 owned_step classes c (Tf-F.Path names line) = is_owned_path classes (Some c) names
 owned_step classes c (Tf-F.Parens inner line) = inner
 owned_step classes c (Tf-F.Negate operand line) = operand
@@ -56,7 +57,7 @@ handed_path classes c (name ∷ next ∷ names) = None
 
 abbrev pub handed_step : List Class → ℕ → Tf-F (Option (Option ℕ)) → Option (Option ℕ)
 handed_step classes c (Tf-F.Null line) = Some None
-handed_step classes c (Tf-F.Int n line) = None
+handed_step classes c (Tf-F.Literal l line) = None
 handed_step classes c (Tf-F.Path names line) = handed_path classes c names
 handed_step classes c (Tf-F.Parens inner line) = None
 handed_step classes c (Tf-F.Negate operand line) = None

@@ -7,6 +7,7 @@ pub mod ExpressionRules
 pub mod Expressions
 pub mod Grammar
 pub mod KeptOwnership
+pub mod Kinds
 pub mod Levels
 pub mod LinesAside
 pub mod Objects

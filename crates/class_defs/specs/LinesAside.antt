@@ -30,7 +30,7 @@ at_on_line_1 (Some at) = Some (record { line = 1; number = at.number; number_lin
 
 -- an expression whose parts stand on line 1
 abbrev pub expr_step_on_line_1 : Expr-F Expr → Expr
-expr_step_on_line_1 (Expr-F.Int value line) = e.Int value 1
+expr_step_on_line_1 (Expr-F.Literal value line) = e.Literal value 1
 expr_step_on_line_1 (Expr-F.Null line) = e.Null 1
 expr_step_on_line_1 (Expr-F.This line) = e.This 1
 expr_step_on_line_1 (Expr-F.Field name) = e.Field (name_on_line_1 name)

@@ -4,15 +4,16 @@ use Rattle.std.specs.List.{flat_map}
 use Rattle.std.specs.Fmt.{signed_decimal}
 use Rattle.class_defs.specs.declared.statements.Stmt.{Stmt}
 use Rattle.class_defs.specs.declared.classes.Class.{Class}
-use Rattle.class_defs.specs.Words.{Word, Fixed, FixedAt, Named, Numbered}
+use Rattle.class_defs.specs.Words.{Word, Fixed, FixedAt, Named, Numbered, Quoted}
 use Rattle.class_defs.specs.Spelling.{block_words, class_words}
 
--- how a word is written: a number in decimal, without leading zeros
+-- how a word is written: a number in decimal, without leading zeros; a text literal between quotation marks
 abbrev pub word_text : Word → List ℕ
 word_text (Fixed text) = text
 word_text (FixedAt text line) = text
 word_text (Named text line) = text
 word_text (Numbered value line) = signed_decimal value
+word_text (Quoted text line) = 34 ∷ (text ++ 34 ∷ [])
 
 -- a word behind others: one space, then the word
 abbrev pub spaced_word : Word → List ℕ

@@ -13,6 +13,7 @@ use Rattle.class_defs.specs.declared.expressions.Expr.TheVariants as expr
 use Rattle.class_defs.specs.declared.expressions.Name.{Name}
 use Rattle.class_defs.specs.declared.expressions.TypeName.{TypeName}
 use Rattle.class_defs.specs.declared.expressions.TypeName.TheVariants as type_name
+use Rattle.class_defs.specs.declared.literals.Literal.TheVariants as literal
 use Rattle.class_defs.specs.declared.rules.Rule.{Rule}
 use Rattle.class_defs.specs.declared.rules.RuleFault.{RuleFault}
 use Rattle.class_defs.specs.declared.statements.Stmt.{Stmt}
@@ -32,7 +33,7 @@ abbrev pub class_type : List ℕ → ℕ → TypeName
 class_type text line = type_name.Class (named text line)
 
 abbrev pub number : ℕ → ℕ → Expr
-number n line = expr.Int (pos n) line
+number n line = expr.Literal (literal.Int (pos n)) line
 
 abbrev pub field : TypeName → List ℕ → ℕ → Field
 field t text line = record { type_name = t; name = named text line }

@@ -4,7 +4,7 @@ use Rattle.std.specs.Prelude.{ℕ, ◌||◌, ◌&&◌, ◌==◌, nat_lt, not, if
 use Rattle.std.specs.List.{list_any}
 use Rattle.std.specs.Str.{bytes_eq}
 use Rattle.class_defs.specs.Objects.{first_of}
-use Rattle.class_defs.specs.Types.{Scope, class_named, class_or_untold}
+use Rattle.class_defs.specs.Types.{Scope, class_named, type_named}
 use Rattle.class_defs.specs.declared.classes.Class.{Class}
 use Rattle.class_defs.specs.declared.classes.ClassKind.{ClassKind}
 use Rattle.class_defs.specs.declared.classes.ClassKind.TheVariants.{Free, Part}
@@ -117,7 +117,7 @@ root_named s name = find (λ r. bytes_eq r.name.text name) (roots_in_sight s.sch
 -- a name is that of a local or parameter, or else, in an item, of a root
 abbrev pub type_in_sight : Sight → List ℕ → Option ExprType
 type_in_sight s name =
-    first_of (option_map (λ l. l.kind) (local_named s.locals name)) (option_map (λ r. class_or_untold (class_named s.schema.classes r.class.text)) (root_named s name))
+    first_of (option_map (λ l. l.kind) (local_named s.locals name)) (option_map (λ r. type_named s.schema.classes (type_name.Class r.class)) (root_named s name))
 
 -- what an expression can name there
 abbrev pub scope_of : Sight → Scope
@@ -134,6 +134,7 @@ is_part_kind None = false
 abbrev pub is_part : List Class → ExprType → Bool
 is_part classes (type.Class c) = is_part_kind (option_map (λ d. d.kind) (slice_get classes c))
 is_part classes type.Int = false
+is_part classes type.Text = false
 is_part classes type.Null = false
 is_part classes type.Untold = false
 
@@ -141,28 +142,53 @@ is_part classes type.Untold = false
 abbrev pub is_class : List Class → Name → List RuleFault
 is_class classes name = must (is_some (class_named classes name.text)) T2 name.line
 
--- T2 and T5: the name is that of a class, and not of a part class
-abbrev pub is_free_class : List Class → Name → List RuleFault
-is_free_class classes name = is_class classes name ++ must (not (is_part classes (class_or_untold (class_named classes name.text)))) T5 name.line
+-- whether a type can be told
+abbrev pub is_told : ExprType → Bool
+is_told type.Int = true
+is_told type.Text = true
+is_told type.Null = true
+is_told (type.Class c) = true
+is_told type.Untold = false
 
 -- T2 of the word of a field's type
 abbrev pub is_type : List Class → TypeName → List RuleFault
 is_type classes (type_name.Int line) = []
-is_type classes (type_name.Class name) = is_class classes name
+is_type classes (type_name.Class name) = must (is_told (type_named classes (type_name.Class name))) T2 name.line
 
 -- T2 and T5 of the word of a parameter's, a result's or a local's type
 abbrev pub is_free_type : List Class → TypeName → List RuleFault
 is_free_type classes (type_name.Int line) = []
-is_free_type classes (type_name.Class name) = is_free_class classes name
+is_free_type classes (type_name.Class name) =
+    is_type classes (type_name.Class name) ++ must (not (is_part classes (type_named classes (type_name.Class name)))) T5 name.line
+
+-- whether a type may be that of a root: it is neither a part class nor that of texts
+abbrev pub is_root_type : List Class → ExprType → Bool
+is_root_type classes type.Int = true
+is_root_type classes type.Text = false
+is_root_type classes type.Null = true
+is_root_type classes (type.Class c) = not (is_part classes (type.Class c))
+is_root_type classes type.Untold = true
+
+-- T2 and T5 of the word that a root is made of
+abbrev pub is_root_class : List Class → Name → List RuleFault
+is_root_class classes name =
+    is_type classes (type_name.Class name) ++ must (is_root_type classes (type_named classes (type_name.Class name))) T5 name.line
 
 -- Whether a value of the second type may stand where the first is declared. Null stands for an object of any
 -- class. A type that can't be told breaks nothing.
 abbrev pub fits : ExprType → ExprType → Bool
 fits type.Int type.Int = true
+fits type.Int type.Text = false
 fits type.Int type.Null = false
 fits type.Int (type.Class d) = false
 fits type.Int type.Untold = true
+fits type.Text type.Int = false
+fits type.Text type.Text = true
+fits type.Text type.Null = false
+fits type.Text (type.Class d) = false
+fits type.Text type.Untold = true
 fits (type.Class c) type.Int = false
+fits (type.Class c) type.Text = false
 fits (type.Class c) type.Null = true
 fits (type.Class c) (type.Class d) = c == d
 fits (type.Class c) type.Untold = true

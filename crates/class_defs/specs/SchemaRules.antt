@@ -1,7 +1,7 @@
 -- The rules that a schema and an item break (this project's).
 use Rattle.std.specs.Prelude.{ℕ, ◌+◌, nat_lt, List, [], ◌∷◌, ◌++◌, map, Option, Some, None}
 use Rattle.std.specs.List.{flat_map}
-use Rattle.class_defs.specs.Rules.{Sight, must, stand_once, is_type, is_free_class, is_free_type}
+use Rattle.class_defs.specs.Rules.{Sight, must, stand_once, is_type, is_free_type, is_root_class}
 use Rattle.class_defs.specs.StatementRules.{names_in, block_rules}
 use Rattle.class_defs.specs.Types.{type_named}
 use Rattle.class_defs.specs.declared.classes.Class.{Class}
@@ -75,7 +75,7 @@ root_at_rules repos None = []
 root_at_rules repos (Some at) = must (nat_lt at.number repos) T8 at.number_line
 
 abbrev pub root_rules : List Class → ℕ → RootDeclaration → List RuleFault
-root_rules classes repos r = is_free_class classes r.class ++ root_at_rules repos r.at
+root_rules classes repos r = is_root_class classes r.class ++ root_at_rules repos r.at
 
 -- T1 of the classes, and of the roots
 abbrev pub class_names : Schema → List RuleFault

@@ -75,7 +75,7 @@ leaf nesting proper = record { level = 5; depth = 1; nesting = nesting; proper =
 
 -- an expression, with the shapes of its parts in their places
 abbrev pub shape_step : Place → Expr-F Shape → Shape
-shape_step place (Expr-F.Int value line) = leaf 0 true
+shape_step place (Expr-F.Literal value line) = leaf 0 true
 shape_step place (Expr-F.Null line) = leaf 0 true
 shape_step place (Expr-F.This line) = leaf 0 (in_method place)
 shape_step place (Expr-F.Field name) = leaf 0 (in_method place)

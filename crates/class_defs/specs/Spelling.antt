@@ -2,6 +2,8 @@
 use Rattle.std.specs.Prelude.{ℕ, pos, List, [], ◌∷◌, ◌++◌, map, Option, Some, None, codes}
 use Rattle.class_defs.specs.declared.expressions.At.{At}
 use Rattle.class_defs.specs.declared.expressions.TypeName.{TypeName}
+use Rattle.class_defs.specs.declared.literals.Literal.{Literal}
+use Rattle.class_defs.specs.declared.literals.Literal.TheVariants as literal
 use Rattle.class_defs.specs.declared.expressions.TypeName.TheVariants as type_name
 use Rattle.class_defs.specs.declared.expressions.Expr.{Expr}
 use Rattle.class_defs.specs.declared.expressions.Expr.TheOpen.{Expr-F}
@@ -17,12 +19,17 @@ use Rattle.class_defs.specs.declared.classes.Method.{Method}
 use Rattle.class_defs.specs.declared.classes.Class.{Class}
 use Rattle.class_defs.specs.declared.declarations.WrittenRoot.{WrittenRoot}
 use Rattle.class_defs.specs.declared.declarations.Declarations.{Declarations}
-use Rattle.class_defs.specs.Words.{Word, Fixed, FixedAt, Numbered, name_word, symbol_of, with_commas, in_turn}
+use Rattle.class_defs.specs.Words.{Word, Fixed, FixedAt, Numbered, Quoted, name_word, symbol_of, with_commas, in_turn}
 
 -- the word of a type
 abbrev pub type_word : TypeName → Word
 type_word (type_name.Int line) = FixedAt (codes "int") line
 type_word (type_name.Class name) = name_word name
+
+-- the word of a literal
+abbrev pub literal_word : Literal → ℕ → Word
+literal_word (literal.Int n) line = Numbered n line
+literal_word (literal.Text text) line = Quoted text line
 
 -- `at` and a number, or nothing
 abbrev pub at_words : Option At → List Word
@@ -31,7 +38,7 @@ at_words (Some at) = FixedAt (codes "at") at.line ∷ Numbered (pos at.number) a
 
 -- an expression, with the words of its parts in their places
 abbrev pub expr_step : Expr-F (List Word) → List Word
-expr_step (Expr-F.Int value line) = Numbered value line ∷ []
+expr_step (Expr-F.Literal value line) = literal_word value line ∷ []
 expr_step (Expr-F.Null line) = FixedAt (codes "null") line ∷ []
 expr_step (Expr-F.This line) = FixedAt (codes "this") line ∷ []
 expr_step (Expr-F.Field name) = Fixed (codes "this") ∷ Fixed (codes ".") ∷ name_word name ∷ []

@@ -1,7 +1,7 @@
 -- The rules that a statement and a block break (this project's).
 use Rattle.std.specs.Prelude.{ℕ, ◌||◌, not, List, [], ◌∷◌, ◌++◌, map, Bool, true, false, Option, Some, None, is_some, option_and_then}
 use Rattle.std.specs.List.{flat_map}
-use Rattle.class_defs.specs.ExpressionRules.{judged, line_of, is_number}
+use Rattle.class_defs.specs.ExpressionRules.{judged, line_of, is_number, is_printable}
 use Rattle.class_defs.specs.Rules.{Sight, must, scope_of, local_named, root_named, is_part, is_free_type, fits}
 use Rattle.class_defs.specs.Types.{class_named, class_or_untold, field_of, field_type, type_named}
 use Rattle.class_defs.specs.declared.classes.Class.{Class}
@@ -49,6 +49,10 @@ must_fit s kind e = (judged s e).broken Value ++ must (fits kind (judged s e).ki
 abbrev pub must_be_number : Sight → Expr → List RuleFault
 must_be_number s e = (judged s e).broken Value ++ must (is_number (judged s e).kind) T3 (line_of e)
 
+-- T3 of what is printed: a number or a text
+abbrev pub must_be_printable : Sight → Expr → List RuleFault
+must_be_printable s e = (judged s e).broken Value ++ must (is_printable (judged s e).kind) T3 (line_of e)
+
 -- T2 and T3 of an assignment by name: it is a local's or parameter's, whose type the value fits, and no root's
 abbrev pub assigned_fits : Option NamedType → Option RootDeclaration → Name → ExprType → ℕ → List RuleFault
 assigned_fits (Some l) root name given line = must (fits l.kind given) T3 line
@@ -64,7 +68,7 @@ assign_rules s name line e =
 abbrev pub gives_part : List Class → ExprType → Expr-F Expr → Bool
 gives_part classes kind (Expr-F.Null line) = true
 gives_part classes kind (Expr-F.New class at) = fits kind (class_or_untold (class_named classes class.text))
-gives_part classes kind (Expr-F.Int value line) = false
+gives_part classes kind (Expr-F.Literal value line) = false
 gives_part classes kind (Expr-F.This line) = false
 gives_part classes kind (Expr-F.Field name) = false
 gives_part classes kind (Expr-F.Variable name) = false
@@ -119,7 +123,7 @@ broken_at (Stmt-F.Return e) s = must_fit s s.result e
 broken_at (Stmt-F.If condition then_block) s = must_be_number s condition ++ in_turn then_block s
 broken_at (Stmt-F.IfElse condition then_block otherwise) s = must_be_number s condition ++ in_turn then_block s ++ in_turn otherwise s
 broken_at (Stmt-F.While condition body) s = must_be_number s condition ++ in_turn body s
-broken_at (Stmt-F.Print e) s = must_be_number s e
+broken_at (Stmt-F.Print e) s = must_be_printable s e
 broken_at (Stmt-F.Evaluate e) s = (judged s e).broken Value
 
 abbrev pub declares_at : {A : Type 0} → Stmt-F A → List Class → List NamedType

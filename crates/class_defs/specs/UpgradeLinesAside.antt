@@ -12,7 +12,7 @@ use Rattle.class_defs.specs.LinesAside.{method_on_line_1, name_on_line_1, type_o
 -- an expression whose parts stand on line 1
 abbrev pub tf_step_on_line_1 : Tf-F Tf → Tf
 tf_step_on_line_1 (Tf-F.Null line) = tf.Null 1
-tf_step_on_line_1 (Tf-F.Int value line) = tf.Int value 1
+tf_step_on_line_1 (Tf-F.Literal value line) = tf.Literal value 1
 tf_step_on_line_1 (Tf-F.Path names line) = tf.Path (map name_on_line_1 names) 1
 tf_step_on_line_1 (Tf-F.Parens inner line) = tf.Parens inner 1
 tf_step_on_line_1 (Tf-F.Negate operand line) = tf.Negate operand 1

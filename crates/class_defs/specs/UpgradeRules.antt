@@ -8,6 +8,8 @@ use Rattle.class_defs.specs.Rules.{is_part, must}
 use Rattle.class_defs.specs.Types.{class_named, field_named, type_named}
 use Rattle.class_defs.specs.declared.classes.Class.{Class}
 use Rattle.class_defs.specs.declared.expressions.Name.{Name}
+use Rattle.class_defs.specs.declared.literals.Literal.{Literal}
+use Rattle.class_defs.specs.declared.literals.Literal.TheVariants as literal
 use Rattle.class_defs.specs.declared.rules.Rule.{Rule}
 use Rattle.class_defs.specs.declared.rules.Rule.TheVariants.{O1, O2, O3, O4, O5, O6}
 use Rattle.class_defs.specs.declared.rules.RuleFault.{RuleFault}
@@ -23,7 +25,7 @@ use Rattle.class_defs.specs.declared.upgrades.Upgrade.{Upgrade}
 
 abbrev pub first_line_step : Tf-F ℕ → ℕ
 first_line_step (Tf-F.Null line) = line
-first_line_step (Tf-F.Int value line) = line
+first_line_step (Tf-F.Literal value line) = line
 first_line_step (Tf-F.Path names line) = line
 first_line_step (Tf-F.Parens inner line) = line
 first_line_step (Tf-F.Negate operand line) = line
@@ -35,10 +37,11 @@ first_line = fold-Tf ℕ first_line_step
 
 -- ---- paths
 
--- the type of the field with this name of an object; there is none behind an int or null
+-- the type of the field with this name of an object; there is none behind an int, a text or null
 abbrev pub field_behind : List Class → Option ExprType → List ℕ → Option ExprType
 field_behind classes (Some (type.Class c)) name = option_and_then (type_at classes c) (field_named classes c name)
 field_behind classes (Some type.Int) name = None
+field_behind classes (Some type.Text) name = None
 field_behind classes (Some type.Null) name = None
 field_behind classes (Some type.Untold) name = None
 field_behind classes None name = None
@@ -50,6 +53,7 @@ path_type classes t (name ∷ names) = path_type classes (field_behind classes t
 
 abbrev pub is_int : Option ExprType → Bool
 is_int (Some type.Int) = true
+is_int (Some type.Text) = false
 is_int (Some type.Null) = false
 is_int (Some (type.Class c)) = false
 is_int (Some type.Untold) = false
@@ -77,9 +81,14 @@ goes_through_parts classes t (name ∷ next ∷ names) =
 
 -- ---- expressions
 
+-- whether a literal is a number, and no text
+abbrev pub is_int_literal : Literal → Bool
+is_int_literal (literal.Int n) = true
+is_int_literal (literal.Text w) = false
+
 abbrev pub int_step : List Class → ℕ → Tf-F Bool → Bool
 int_step classes c (Tf-F.Null line) = false
-int_step classes c (Tf-F.Int value line) = true
+int_step classes c (Tf-F.Literal value line) = is_int_literal value
 int_step classes c (Tf-F.Path names line) = is_int_path classes c names
 int_step classes c (Tf-F.Parens inner line) = inner
 int_step classes c (Tf-F.Negate operand line) = operand
@@ -91,7 +100,7 @@ gives_int classes c = fold-Tf Bool (int_step classes c)
 
 abbrev pub part_step : List Class → ℕ → Tf-F Bool → Bool
 part_step classes c (Tf-F.Null line) = true
-part_step classes c (Tf-F.Int value line) = true
+part_step classes c (Tf-F.Literal value line) = true
 part_step classes c (Tf-F.Path names line) = goes_through_parts classes (Some (type.Class c)) names
 part_step classes c (Tf-F.Parens inner line) = inner
 part_step classes c (Tf-F.Negate operand line) = operand
@@ -104,6 +113,7 @@ reads_parts classes c = fold-Tf Bool (part_step classes c)
 abbrev pub is_of_class : ℕ → Option ExprType → Bool
 is_of_class d (Some (type.Class e)) = d == e
 is_of_class d (Some type.Int) = false
+is_of_class d (Some type.Text) = false
 is_of_class d (Some type.Null) = false
 is_of_class d (Some type.Untold) = false
 is_of_class d None = false
@@ -117,11 +127,34 @@ is_field_of classes c d (name ∷ next ∷ names) = false
 -- whether an expression at an object of class c is `null`, or `old.f` with a field of class d
 abbrev pub gives_reference : List Class → ℕ → ℕ → Tf-F Tf → Bool
 gives_reference classes c d (Tf-F.Null line) = true
-gives_reference classes c d (Tf-F.Int value line) = false
+gives_reference classes c d (Tf-F.Literal value line) = false
 gives_reference classes c d (Tf-F.Path names line) = is_field_of classes c d names
 gives_reference classes c d (Tf-F.Parens inner line) = false
 gives_reference classes c d (Tf-F.Negate operand line) = false
 gives_reference classes c d (Tf-F.Binary operator left right line) = false
+
+abbrev pub is_text : Option ExprType → Bool
+is_text (Some type.Text) = true
+is_text (Some type.Int) = false
+is_text (Some type.Null) = false
+is_text (Some (type.Class c)) = false
+is_text (Some type.Untold) = false
+is_text None = false
+
+-- whether a path from an object of class c is one name, of a text field
+abbrev pub is_text_field : List Class → ℕ → List Name → Bool
+is_text_field classes c [] = false
+is_text_field classes c (name ∷ []) = is_text (field_behind classes (Some (type.Class c)) name.text)
+is_text_field classes c (name ∷ next ∷ names) = false
+
+-- whether an expression at an object of class c is a text literal, or `old.f` with a text field
+abbrev pub gives_text : List Class → ℕ → Tf-F Tf → Bool
+gives_text classes c (Tf-F.Literal value line) = not (is_int_literal value)
+gives_text classes c (Tf-F.Path names line) = is_text_field classes c names
+gives_text classes c (Tf-F.Null line) = false
+gives_text classes c (Tf-F.Parens inner line) = false
+gives_text classes c (Tf-F.Negate operand line) = false
+gives_text classes c (Tf-F.Binary operator left right line) = false
 
 -- ---- new fields
 
@@ -133,6 +166,7 @@ reference_rule false = O3
 -- O2, O3 and O6: the expression of a new field fits its type. A type that isn't declared says nothing of it.
 abbrev pub value_rules : List Class → ℕ → ExprType → Tf → List RuleFault
 value_rules classes c type.Int e = must (gives_int classes c e) O2 (first_line e)
+value_rules classes c type.Text e = must (gives_text classes c (out-Tf e)) O2 (first_line e)
 value_rules classes c (type.Class d) e = must (gives_reference classes c d (out-Tf e)) (reference_rule (is_part classes (type.Class d))) (first_line e)
 value_rules classes c type.Null e = []
 value_rules classes c type.Untold e = []
@@ -152,13 +186,14 @@ field_at_path classes c (name ∷ next ∷ names) = None
 abbrev pub field_read : List Class → ℕ → Tf-F Tf → Option ℕ
 field_read classes c (Tf-F.Path names line) = field_at_path classes c names
 field_read classes c (Tf-F.Null line) = None
-field_read classes c (Tf-F.Int value line) = None
+field_read classes c (Tf-F.Literal value line) = None
 field_read classes c (Tf-F.Parens inner line) = None
 field_read classes c (Tf-F.Negate operand line) = None
 field_read classes c (Tf-F.Binary operator left right line) = None
 
 abbrev pub handed_as : List Class → ℕ → ExprType → Tf-F Tf → Option ℕ
 handed_as classes c type.Int e = None
+handed_as classes c type.Text e = None
 handed_as classes c type.Null e = None
 handed_as classes c type.Untold e = None
 handed_as classes c (type.Class d) e = if is_part classes (type.Class d) && gives_reference classes c d e then field_read classes c e else None

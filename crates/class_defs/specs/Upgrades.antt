@@ -8,6 +8,7 @@ use Rattle.thor_value.specs.declared.names.Oref.{Oref}
 use Rattle.thor_value.specs.declared.values.Value.{Value}
 use Rattle.thor_value.specs.declared.values.Value.TheVariants as value
 use Rattle.class_defs.specs.Expressions.{combined}
+use Rattle.class_defs.specs.Kinds.{literal_value}
 use Rattle.class_defs.specs.Objects.{field_at, fitted_or_beginning}
 use Rattle.class_defs.specs.Steps.{number}
 use Rattle.class_defs.specs.Types.{field_named, type_named}
@@ -28,6 +29,7 @@ abbrev pub object_behind : (Oref → Option Object) → Option Value → Option 
 object_behind objects (Some (value.Ref x)) = objects x
 object_behind objects (Some (value.Int n)) = None
 object_behind objects (Some value.Null) = None
+object_behind objects (Some (value.Text w)) = None
 object_behind objects None = None
 
 -- what a path leads to: each name but the last is that of a field whose object the path goes on in
@@ -40,7 +42,7 @@ path_value classes objects o (name ∷ next ∷ names) =
 -- The value of an expression of an upgrade at an object; nothing where a path meets null.
 abbrev pub tf_step : List Class → (Oref → Option Object) → Object → Tf-F (Option Value) → Option Value
 tf_step classes objects o (Tf-F.Null line) = Some value.Null
-tf_step classes objects o (Tf-F.Int n line) = Some (value.Int n)
+tf_step classes objects o (Tf-F.Literal l line) = Some (literal_value l)
 tf_step classes objects o (Tf-F.Path names line) = path_value classes objects (Some o) names
 tf_step classes objects o (Tf-F.Parens inner line) = inner
 tf_step classes objects o (Tf-F.Negate operand line) = Some (value.Int (int_wrapping_sub w64 (pos 0) (number (unwrap_or operand value.Null))))
@@ -54,7 +56,7 @@ abbrev pub upgrade_of : List Class → Upgrade → ℕ → Option ClassUpgrade
 upgrade_of classes u c = option_and_then (λ d. find (λ k. bytes_eq k.name.text d.name.text) u.classes) (slice_get classes c)
 
 -- The object behind an upgrade: each new field has the value of its expression, and all expressions read the
--- objects as they were. A path that meets null gives 0, or null.
+-- objects as they were. A path that meets null gives 0, the empty text, or null.
 abbrev pub transformed : List Class → List Class → (Oref → Option Object) → Object → Option ClassUpgrade → Object
 transformed old new objects o None = o
 transformed old new objects o (Some k) = record o { fields = map (λ f. fitted_or_beginning (type_named new f.type_name) (tf_value old objects o f.value)) k.fields }

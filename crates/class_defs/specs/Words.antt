@@ -5,12 +5,13 @@ use Rattle.class_defs.specs.declared.expressions.Operator.{Operator}
 use Rattle.class_defs.specs.declared.expressions.Operator.TheVariants.{Add, Subtract, Multiply, Equal, Unequal, Less}
 
 -- What stands at a place of a text: a keyword or symbol, on any line or on the line that the tree
--- keeps; a name; or a number, by its value.
+-- keeps; a name; a number, by its value; or a text literal, by the bytes between its quotation marks.
 pub data Word : Type 0 where
   Fixed : List ℕ → Word
   FixedAt : List ℕ → ℕ → Word
   Named : List ℕ → ℕ → Word
   Numbered : ℤ → ℕ → Word
+  Quoted : List ℕ → ℕ → Word
 
 -- a name of the tree
 abbrev pub name_word : Name → Word

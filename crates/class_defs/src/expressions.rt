@@ -1,6 +1,5 @@
-ghost use Rattle.std.specs.Prelude.{◌≡◌, IfOk};
-
-use thor_value::{Boxed, NoMemory, Sequence, Text, TryCopy};
+use crate::literals::Literal;
+use thor_value::{NoMemory, Sequence, Shared, Text, TryCopy, both};
 
 /// A name as it stands in the text.
 #[derive(Debug, Drop)]
@@ -43,8 +42,9 @@ pub enum Operator {
 /// opening parenthesis, the name of the called method, the class behind `new`.
 #[derive(Debug, Drop)]
 pub enum Expr {
-    Int {
-        value: i64,
+    /// A number or a text.
+    Literal {
+        value: Literal,
         line: u32,
     },
     Null {
@@ -66,28 +66,28 @@ pub enum Expr {
         at: Option<At>,
     },
     Parens {
-        inner: Boxed<Expr>,
+        inner: Shared<Expr>,
         line: u32,
     },
     Negate {
-        operand: Boxed<Expr>,
+        operand: Shared<Expr>,
         line: u32,
     },
     Binary {
         operator: Operator,
-        left: Boxed<Expr>,
-        right: Boxed<Expr>,
+        left: Shared<Expr>,
+        right: Shared<Expr>,
         line: u32,
     },
     Call {
-        receiver: Boxed<Expr>,
+        receiver: Shared<Expr>,
         method: Name,
         arguments: Exprs,
     },
 }
 
-/// Expressions, as the arguments of a call.
-pub type Exprs = Sequence<Expr>;
+/// Expressions, as the arguments of a call. Who copies them shares them.
+pub type Exprs = Shared<Sequence<Expr>>;
 
 impl TryCopy for Name {
     fn copy(&self) -> Result<Name, NoMemory> {
@@ -108,74 +108,57 @@ impl TryCopy for TypeName {
 }
 
 impl TryCopy for Expr {
+    /// The copy shares its parts.
     fn copy(&self) -> Result<Expr, NoMemory> {
-        copy_expr(self)
-    }
-}
-
-#[cycle(copy_expression)]
-fn copy_boxed(expr: &Boxed<Expr>) -> Result<Boxed<Expr>, NoMemory>
-    ensures { IfOk result (λ copied. copied ≡ expr.now) }
-{
-    let copied = copy_expr(expr.get())?;
-    Boxed::new(expr.allocator(), copied)
-}
-
-#[cycle(copy_expression)]
-fn copy_exprs(exprs: &Exprs) -> Result<Exprs, NoMemory>
-    ensures { IfOk result (λ copied. copied ≡ exprs.now) }
-{
-    let mut copied = Sequence::new(exprs.allocator());
-    for expr in exprs.as_slice() {
-        copied.push(copy_expr(expr)?)?;
-    }
-    Ok(copied)
-}
-
-#[cycle(copy_expression)]
-fn copy_expr(expr: &Expr) -> Result<Expr, NoMemory>
-    ensures { IfOk result (λ copied. copied ≡ expr.now) }
-{
-    match expr {
-        Expr::Int { value, line } => Ok(Expr::Int {
-            value: *value,
-            line: *line,
-        }),
-        Expr::Null { line } => Ok(Expr::Null { line: *line }),
-        Expr::This { line } => Ok(Expr::This { line: *line }),
-        Expr::Field { name } => Ok(Expr::Field { name: name.copy()? }),
-        Expr::Variable { name } => Ok(Expr::Variable { name: name.copy()? }),
-        Expr::New { class, at } => Ok(Expr::New {
-            class: class.copy()?,
-            at: *at,
-        }),
-        Expr::Parens { inner, line } => Ok(Expr::Parens {
-            inner: copy_boxed(inner)?,
-            line: *line,
-        }),
-        Expr::Negate { operand, line } => Ok(Expr::Negate {
-            operand: copy_boxed(operand)?,
-            line: *line,
-        }),
-        Expr::Binary {
-            operator,
-            left,
-            right,
-            line,
-        } => Ok(Expr::Binary {
-            operator: *operator,
-            left: copy_boxed(left)?,
-            right: copy_boxed(right)?,
-            line: *line,
-        }),
-        Expr::Call {
-            receiver,
-            method,
-            arguments,
-        } => Ok(Expr::Call {
-            receiver: copy_boxed(receiver)?,
-            method: method.copy()?,
-            arguments: copy_exprs(arguments)?,
-        }),
+        match self {
+            Expr::Literal { value, line } => Ok(Expr::Literal {
+                value: *value,
+                line: *line,
+            }),
+            Expr::Null { line } => Ok(Expr::Null { line: *line }),
+            Expr::This { line } => Ok(Expr::This { line: *line }),
+            Expr::Field { name } => Ok(Expr::Field { name: name.copy()? }),
+            Expr::Variable { name } => Ok(Expr::Variable { name: name.copy()? }),
+            Expr::New { class, at } => Ok(Expr::New {
+                class: class.copy()?,
+                at: *at,
+            }),
+            Expr::Parens { inner, line } => Ok(Expr::Parens {
+                inner: inner.share()?,
+                line: *line,
+            }),
+            Expr::Negate { operand, line } => Ok(Expr::Negate {
+                operand: operand.share()?,
+                line: *line,
+            }),
+            Expr::Binary {
+                operator,
+                left,
+                right,
+                line,
+            } => {
+                let (left, right) = both(left.share()?, right.share())?;
+                Ok(Expr::Binary {
+                    operator: *operator,
+                    left,
+                    right,
+                    line: *line,
+                })
+            }
+            Expr::Call {
+                receiver,
+                method,
+                arguments,
+            } => {
+                let (receiver, method) = both(receiver.share()?, method.copy())?;
+                let (called, arguments) = both((receiver, method), arguments.share())?;
+                let (receiver, method) = called;
+                Ok(Expr::Call {
+                    receiver,
+                    method,
+                    arguments,
+                })
+            }
+        }
     }
 }

@@ -1,12 +1,13 @@
 ghost use Rattle.std.specs.Prelude.{◌≡◌, ◌≤◌, ◌<◌, IfSome, length, find, position};
 ghost use Rattle.std.specs.Option.{option_copied};
 ghost use Rattle.std.specs.Str.{bytes_eq};
-ghost use Rattle.class_defs.specs.Types.{class_named, class_or_untold, field_named, method_of, type_named};
+ghost use Rattle.class_defs.specs.Steps.{beginning};
+ghost use Rattle.class_defs.specs.Types.{class_named, class_or_untold, class_or_word, field_named, method_of, type_named};
 
 use crate::classes::{Class, Classes, Field, Fields, Method, Methods};
 use crate::expressions::{Name, TypeName};
 use crate::types::ExprType;
-use thor_value::Text;
+use thor_value::{Text, Value, Word};
 
 fn has_name(text: &Text, name: &[u8]) -> bool
     ensures { result ≡ bytes_eq text.now name.now }
@@ -46,6 +47,49 @@ pub fn class_type(classes: &Classes, name: &Name) -> ExprType
     }
 }
 
+/// The type that a word names: that of a class with this name, that of texts, or one that can't be told.
+pub fn word_type(classes: &Classes, word: &Name) -> ExprType
+    requires { length classes.now ≤ 65536 }
+    ensures { result ≡ class_or_word word.now.text (class_named classes.now word.now.text) }
+{
+    match class_named(classes, word.text.as_slice()) {
+        Some(class) => ExprType::Class(class),
+        None => {
+            if has_name(&word.text, b"text") {
+                ExprType::Text
+            } else {
+                ExprType::Untold
+            }
+        }
+    }
+}
+
+/// The value with which a field begins whose type a word names.
+fn first_of_word(classes: &Classes, word: &Name) -> Value
+    ensures { result ≡ beginning (class_or_word word.now.text (class_named classes.now word.now.text)) }
+{
+    match class_place(classes, word.text.as_slice()) {
+        Some(_) => Value::Null,
+        None => {
+            if has_name(&word.text, b"text") {
+                Value::Text(Word::empty())
+            } else {
+                Value::Null
+            }
+        }
+    }
+}
+
+/// The value with which a field of a type begins.
+pub fn first_value(classes: &Classes, type_name: &TypeName) -> Value
+    ensures { result ≡ beginning (type_named classes.now type_name.now) }
+{
+    match type_name {
+        TypeName::Int { line: _ } => Value::Int(0),
+        TypeName::Class { name } => first_of_word(classes, name),
+    }
+}
+
 /// The type that a type's word names.
 pub fn type_named(classes: &Classes, type_name: &TypeName) -> ExprType
     requires { length classes.now ≤ 65536 }
@@ -53,7 +97,7 @@ pub fn type_named(classes: &Classes, type_name: &TypeName) -> ExprType
 {
     match type_name {
         TypeName::Int { line: _ } => ExprType::Int,
-        TypeName::Class { name } => class_type(classes, name),
+        TypeName::Class { name } => word_type(classes, name),
     }
 }
 

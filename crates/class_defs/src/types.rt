@@ -5,6 +5,8 @@ use thor_value::{NoMemory, TryCopy};
 pub enum ExprType {
     /// A number.
     Int,
+    /// A text.
+    Text,
     /// The word `null`, which fits every free class.
     Null,
     /// A reference to objects of the class with this number.

@@ -1,8 +1,7 @@
-ghost use Rattle.std.specs.Prelude.{◌≡◌, IfOk};
-
 use crate::classes::Methods;
 use crate::expressions::{Name, Operator, TypeName};
-use thor_value::{Boxed, NoMemory, Sequence, TryCopy};
+use crate::literals::Literal;
+use thor_value::{NoMemory, Sequence, Shared, TryCopy, both};
 
 /// Names in a row, as those of a path behind `old`.
 pub type Names = Sequence<Name>;
@@ -13,8 +12,9 @@ pub enum Tf {
     Null {
         line: u32,
     },
-    Int {
-        value: i64,
+    /// A number or a text.
+    Literal {
+        value: Literal,
         line: u32,
     },
     /// `old.name.name..`, with the line of `old`.
@@ -23,17 +23,17 @@ pub enum Tf {
         line: u32,
     },
     Parens {
-        inner: Boxed<Tf>,
+        inner: Shared<Tf>,
         line: u32,
     },
     Negate {
-        operand: Boxed<Tf>,
+        operand: Shared<Tf>,
         line: u32,
     },
     Binary {
         operator: Operator,
-        left: Boxed<Tf>,
-        right: Boxed<Tf>,
+        left: Shared<Tf>,
+        right: Shared<Tf>,
         line: u32,
     },
 }
@@ -86,8 +86,41 @@ impl Drop for Upgrade {
 }
 
 impl TryCopy for Tf {
+    /// The copy shares its parts.
     fn copy(&self) -> Result<Tf, NoMemory> {
-        copy_tf(self)
+        match self {
+            Tf::Null { line } => Ok(Tf::Null { line: *line }),
+            Tf::Literal { value, line } => Ok(Tf::Literal {
+                value: *value,
+                line: *line,
+            }),
+            Tf::Path { names, line } => Ok(Tf::Path {
+                names: names.copy()?,
+                line: *line,
+            }),
+            Tf::Parens { inner, line } => Ok(Tf::Parens {
+                inner: inner.share()?,
+                line: *line,
+            }),
+            Tf::Negate { operand, line } => Ok(Tf::Negate {
+                operand: operand.share()?,
+                line: *line,
+            }),
+            Tf::Binary {
+                operator,
+                left,
+                right,
+                line,
+            } => {
+                let (left, right) = both(left.share()?, right.share())?;
+                Ok(Tf::Binary {
+                    operator: *operator,
+                    left,
+                    right,
+                    line: *line,
+                })
+            }
+        }
     }
 }
 
@@ -117,49 +150,5 @@ impl TryCopy for Upgrade {
             line: self.line,
             classes: self.classes.copy()?,
         })
-    }
-}
-
-#[cycle(copy_tf)]
-fn copy_boxed(tf: &Boxed<Tf>) -> Result<Boxed<Tf>, NoMemory>
-    ensures { IfOk result (λ copied. copied ≡ tf.now) }
-{
-    let copied = copy_tf(tf.get())?;
-    Boxed::new(tf.allocator(), copied)
-}
-
-#[cycle(copy_tf)]
-fn copy_tf(tf: &Tf) -> Result<Tf, NoMemory>
-    ensures { IfOk result (λ copied. copied ≡ tf.now) }
-{
-    match tf {
-        Tf::Null { line } => Ok(Tf::Null { line: *line }),
-        Tf::Int { value, line } => Ok(Tf::Int {
-            value: *value,
-            line: *line,
-        }),
-        Tf::Path { names, line } => Ok(Tf::Path {
-            names: names.copy()?,
-            line: *line,
-        }),
-        Tf::Parens { inner, line } => Ok(Tf::Parens {
-            inner: copy_boxed(inner)?,
-            line: *line,
-        }),
-        Tf::Negate { operand, line } => Ok(Tf::Negate {
-            operand: copy_boxed(operand)?,
-            line: *line,
-        }),
-        Tf::Binary {
-            operator,
-            left,
-            right,
-            line,
-        } => Ok(Tf::Binary {
-            operator: *operator,
-            left: copy_boxed(left)?,
-            right: copy_boxed(right)?,
-            line: *line,
-        }),
     }
 }

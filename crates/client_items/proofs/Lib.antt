@@ -2,4 +2,3 @@ pub mod Falling
 mod Orders
 mod Places
 mod Settling
-mod Texts

@@ -1,4 +1,3 @@
 pub mod Courses
 pub mod Ending
 pub mod Falling
-pub mod Texts

@@ -2,8 +2,7 @@
 
 ghost use Rattle.client_items.specs.Courses.{IsLateOutcome};
 
-use class_defs::Upgrade;
-use lang_small_steps::SharedBlock;
+use class_defs::{Block, Upgrade};
 use serial_model::{Cause, ItemOutcome};
 use thor_value::{Ts, Who};
 
@@ -43,7 +42,7 @@ pub enum News {
 #[derive(Clone, Copy)]
 pub enum Asked<'a> {
     /// A transaction, by its text.
-    Tx(&'a SharedBlock),
+    Tx(&'a Block),
     /// An upgrade of classes.
     Upgrade(&'a Upgrade),
 }

@@ -2,20 +2,16 @@
 
 ghost use Rattle.client_items.specs.Courses.{Ends, Goes, IsInOrder, IsLateOutcome, Learns, who_behind};
 ghost use Rattle.client_items.specs.Ending.{EndsAs, EndsBy, EndsIn, GoesBy, IsHeldSo, IsRefused, SettlesAs, ends_try};
-ghost use Rattle.client_items.specs.Texts.{text_of};
 ghost use Rattle.client_items.specs.Falling.{CountsDown, IsLeft, NeverRises};
 ghost use Rattle.serial_model.specs.declared.outcomes.ItemOutcome.TheVariants as outcomes;
-ghost use Rattle.std.specs.Option.{option_copied};
-ghost use Rattle.std.specs.Prelude.{◌≡◌, ◌+◌, ◌<◌, ◌≤◌, ◌^◌, ◌⊎◌, [], IfOk, IsSome, IsTrue, OnOk, length, not, slice_get, true, ◌↔◌};
+ghost use Rattle.std.specs.Prelude.{◌≡◌, ◌+◌, ◌<◌, ◌≤◌, ◌^◌, ◌⊎◌, [], IsSome, IsTrue, OnOk, length, not, true, ◌↔◌};
 
 use crate::attempts::Attempts;
 use crate::news::{Asked, News, Settled, Task};
 use crate::opened::{Items, Opened};
-use lang_small_steps::SharedBlock;
 use serial_model::{Cause, Ended, Ends, ItemOutcome, What};
 use std::alloc::Global;
 use std::marker::Model;
-use std::mem;
 use thor_value::{NoMemory, Sequence, Ts, Who};
 
 /// How far a client has come in its items, which contracts see as their number and how those ended that
@@ -24,8 +20,6 @@ use thor_value::{NoMemory, Sequence, Ts, Who};
 pub struct Progress {
     client: u8,
     items: Items,
-    /// The text of the present item, where it is a transaction: its tries share it.
-    text: Option<SharedBlock>,
     ended: Ends,
     /// How many of the items that ended are upgrades.
     upgrades: u32,
@@ -33,38 +27,13 @@ pub struct Progress {
 
 impl Model for Progress {
     ghost use Rattle.client_items.specs.Courses.{Course, IsInOrder};
-    ghost use Rattle.client_items.specs.Texts.{text_of};
-    ghost use Rattle.std.specs.Prelude.{length, slice_get, ◌≡◌};
+    ghost use Rattle.std.specs.Prelude.{length};
 
     ghost Value = { Course };
 
     ghost view = { λ p. record { client = p.client; count = length p.items; ended = p.ended } };
 
-    ghost invariant = { λ p. IsInOrder (record { client = p.client; count = length p.items; ended = p.ended }) × (p.text ≡ text_of (slice_get p.items (length p.ended))) };
-}
-
-/// The text of an item, which is copied to be shared from then on; nothing where it is no transaction.
-fn text_of(alloc: Global, item: Option<&What>) -> Result<Option<SharedBlock>, NoMemory>
-    ensures { IfOk result (λ text. text ≡ text_of (option_copied item.entry)) }
-{
-    match item {
-        Some(What::Tx(block)) => Ok(Some(SharedBlock::copy_of(alloc, block)?)),
-        Some(What::Upgrade(_)) | None => Ok(None),
-    }
-}
-
-/// The text of the item at a place, from 0.
-fn text_at(items: &Items, place: usize) -> Result<Option<SharedBlock>, NoMemory>
-    ensures { IfOk result (λ text. text ≡ text_of (slice_get items.now place)) }
-{
-    text_of(items.allocator(), items.get(place))
-}
-
-/// Keeps a text in the place of the one before.
-fn keep_text(place: &mut Option<SharedBlock>, text: Option<SharedBlock>)
-    ensures { place.new ≡ text }
-{
-    drop(mem::replace(place, text));
+    ghost invariant = { λ p. IsInOrder (record { client = p.client; count = length p.items; ended = p.ended }) };
 }
 
 /// Whether an item is held as Unknown by this transaction.
@@ -83,22 +52,15 @@ fn is_unknown(outcome: &ItemOutcome, ts: Ts) -> bool
 
 impl Progress {
     /// No item has begun.
-    pub fn new(alloc: Global, client: u8, items: Items) -> Result<Progress, NoMemory>
+    pub fn new(alloc: Global, client: u8, items: Items) -> Progress
         requires { length items < 2 ^ 32 }
-        ensures { IfOk result (λ made. made ≡ record { client = client; count = length items; ended = [] }) }
+        ensures { result ≡ record { client = client; count = length items; ended = [] } }
     {
-        match text_at(&items, 0) {
-            Ok(text) => Ok(Progress {
-                client,
-                items,
-                text,
-                ended: Sequence::new(alloc),
-                upgrades: 0,
-            }),
-            Err(NoMemory) => {
-                drop(items);
-                Err(NoMemory)
-            }
+        Progress {
+            client,
+            items,
+            ended: Sequence::new(alloc),
+            upgrades: 0,
         }
     }
 
@@ -130,10 +92,10 @@ impl Progress {
 
     /// What the present item asks for, where one is left.
     fn asked(&self) -> Option<Asked<'_>> {
-        match (&self.text, self.item()) {
-            (Some(text), _) => Some(Asked::Tx(text)),
-            (None, Some(What::Upgrade(upgrade))) => Some(Asked::Upgrade(upgrade)),
-            (None, Some(What::Tx(_)) | None) => None,
+        match self.item() {
+            Some(What::Tx(text)) => Some(Asked::Tx(text)),
+            Some(What::Upgrade(upgrade)) => Some(Asked::Upgrade(upgrade)),
+            None => None,
         }
     }
 
@@ -162,13 +124,7 @@ impl Progress {
     pub fn close(self) -> Ends
         ensures { result ≡ self.ended }
     {
-        let Progress {
-            items,
-            ended,
-            text,
-            ..
-        } = self;
-        drop(text);
+        let Progress { items, ended, .. } = self;
         drop(items);
         ended
     }
@@ -247,14 +203,12 @@ impl Progress {
             Some(What::Tx(_)) => self.upgrades,
             None => return Ok(()),
         };
-        let text = text_at(&self.items, self.ended.len() + 1)?;
         self.ended.push(Ended {
             who,
             tries,
             outcome,
         })?;
         self.upgrades = upgrades;
-        keep_text(&mut self.text, text);
         attempts.begin_next_item();
         Ok(())
     }

@@ -14,9 +14,9 @@ ghost use Rattle.thor_value.specs.declared.values.Obj.{Obj};
 use crate::held::Held;
 use crate::transaction::Transaction;
 use crate::transform::Transform;
-use class_defs::Schema;
+use class_defs::{Block, Schema};
 use client_items::Opened;
-use lang_small_steps::{ClassMethods, SharedBlock};
+use lang_small_steps::ClassMethods;
 use lang_upgrade_eval::schema_at;
 use lazy_transform::{Wanted, wants};
 use method_eval::Ran;
@@ -47,7 +47,7 @@ impl Held {
     }
 
     /// The evaluation of a transaction before its first step.
-    pub fn begin(&self, text: &SharedBlock) -> Result<Paused, NoMemory> {
+    pub fn begin(&self, text: &Block) -> Result<Paused, NoMemory> {
         Paused::begin(self.alloc, text)
     }
 

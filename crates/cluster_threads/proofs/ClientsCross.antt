@@ -4,6 +4,7 @@ use Rattle.std.proofs.Crossing.{crosses}
 use Rattle.thor_value.proofs.names.Oref.TheSendSync as oref
 use Rattle.thor_value.proofs.names.Ts.TheSendSync as ts
 use Rattle.thor_value.proofs.sequence.Sequence.TheSendSync as sequence
+use Rattle.thor_value.proofs.shared.Shared.TheSendSync as shared
 use Rattle.session_outbox.proofs.answers.At.TheSendSync as at
 use Rattle.serial_model.proofs.outcomes.Ended.TheSendSync as ended
 use Rattle.serial_model.specs.contracts.entries.What as What
@@ -19,16 +20,16 @@ use Rattle.client_items.specs.contracts.opened.Opened as Opened
 use Rattle.client_items.specs.contracts.progress.Progress as Progress
 use Rattle.paused_eval.proofs.copies.Copies.TheSendSync as copies
 use Rattle.paused_eval.proofs.granted_names.GrantedNames.TheSendSync as granted_names
-use Rattle.cluster_threads.proofs.RunsCross.{epoch_methods_sync, paused_send, shared_block_send}
-use Rattle.cluster_threads.proofs.TreesCross.{schemas_sync, stmt_send, upgrade_send}
+use Rattle.cluster_threads.proofs.RunsCross.{epoch_methods_sync, paused_send}
+use Rattle.cluster_threads.proofs.TreesCross.{schemas_sync, stmt_send, stmt_sync, upgrade_send}
 
-ruleset base = (sequence.the_send, sequence.the_sync, sendable)
+ruleset base = (sequence.the_send, sequence.the_sync, shared.the_send, shared.the_sync, sendable)
 
 pub what_send : IsSend (What.the_field).row
-what_send = search (stmt_send, upgrade_send, base) depth 30
+what_send = search (stmt_send, stmt_sync, upgrade_send, base) depth 30
 
 pub progress_send : IsSend Progress.the_row
-progress_send = search (what_send, ended.the_send, shared_block_send, base) depth 30
+progress_send = search (what_send, ended.the_send, base) depth 30
 
 pub opened_sync : IsSync Opened.the_row
 opened_sync = search (schemas_sync, epoch_methods_sync, base) depth 30

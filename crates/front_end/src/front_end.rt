@@ -10,7 +10,7 @@ use client_state::Held;
 use serial_model::{Cause, Ended, Ends};
 use session_outbox::At;
 use std::alloc::Global;
-use thor_value::{NoMemory, REPOSITORIES};
+use thor_value::{NoMemory, REPOSITORIES, both};
 
 /// A client of repositories: what it holds and owes, how far it has come in its items, and in the tries of the
 /// present one. It runs them one after the other.
@@ -73,9 +73,10 @@ impl FrontEnd {
         requires cache { 0 < cache }
         ensures { IfOk result (λ made. course_of made ≡ record { client = client; count = length items; ended = [] }) }
     {
-        let progress = Progress::new(alloc, client, items)?;
+        let progress = Progress::new(alloc, client, items);
+        let (progress, client) = both(progress, Client::new(alloc, client, cache))?;
         Ok(FrontEnd {
-            client: Client::new(alloc, client, cache)?,
+            client,
             progress,
             attempts: Attempts::new(tries),
         })

@@ -1,4 +1,4 @@
--- What a meaning is at depth 0 and at a depth above it, and what a loop does in one turn.
+-- What a meaning is at a depth above 0, and what a loop does in one turn.
 use Rattle.std.proofs.Common.{◌≡◌, ℕ, suc, ◌+◌, ◌-◌, ◌<◌, ◌≤◌, List, Err, ap, arith}
 use Rattle.thor_value.specs.declared.values.Fault.TheVariants.{Steps}
 use Rattle.thor_value.specs.declared.values.Value.{Value}
@@ -12,14 +12,11 @@ use Rattle.class_defs.specs.declared.machine.Flow.{Flow}
 use Rattle.class_defs.specs.declared.machine.Machine.{Machine}
 use Rattle.class_defs.specs.declared.machine.Stop.TheVariants.{Fault}
 use Rattle.class_defs.specs.declared.statements.Stmt.{Stmt}
+use Rattle.lang_bounded_eval.specs.declared.limits.TheConstants.{RECURSION_END}
 
-pub value_of-none : (w : World) (n : ℕ) (e : Expr) (m : Machine) → n ≡ 0 → (meaning w n).value_of e m ≡ (Err (Fault Steps), m)
-unfolding meaning
-value_of-none w n e m h = ap (λ k. (meaning w k).value_of e m) h
-
-pub execute-none : (w : World) (n : ℕ) (s : Stmt) (m : Machine) → n ≡ 0 → (meaning w n).execute s m ≡ (Err (Fault Steps), m)
-unfolding meaning
-execute-none w n s m h = ap (λ k. (meaning w k).execute s m) h
+-- how many nodes more may be open by plain recursion, where nodes may stand n deep
+abbrev pub depth_left : ℕ → ℕ
+depth_left n = n - RECURSION_END
 
 deeper : {X : Type 0} (f : ℕ → X) (n : ℕ) → 0 < n → f n ≡ f (suc (n - 1))
 deeper f n some = let e : n ≡ suc (n - 1) = omega arith in ap f e
@@ -44,6 +41,6 @@ module _ (w : World) (value_of : Expr → Action Value) (block : List Stmt → A
   unfolding repeat
   no_turn at c b m over = let e : 100001 - at ≡ 0 = omega arith in ap (λ k. repeat w value_of block k c b m) e
 
-pub ruleset at_depth = (value_of-none, execute-none, value_of-deeper, execute-deeper)
+pub ruleset at_depth = (value_of-deeper, execute-deeper)
 
 pub ruleset turns = (one_turn, no_turn)

@@ -13,7 +13,9 @@ ghost use Rattle.lang_small_steps.specs.Resume as spec;
 ghost use Rattle.lang_small_steps.specs.declared.frames.Doing.TheVariants as doing;
 
 use crate::frames::{Next, Waiting};
-use class_defs::{Block, DEPTH_LIMIT, Expr, ExprType, Flow, Machine, Method, Receiver, Stmt};
+use class_defs::{
+    Block, DEPTH_LIMIT, Expr, ExprType, Flow, Machine, Method, Receiver, Stmt, literal_value,
+};
 use lang_small_steps::Stack;
 use method_eval::{
     Halt, World, bound, fault, field_value, method_of, named_value, owners_at, take_step, touch,
@@ -62,7 +64,7 @@ fn first_of_node<'a>(
     ensures { Moves result stack.new machine.now (spec.start (reading world.now) inner (out-Expr expr.now) (frames stack.old) machine.now) }
 {
     match expr {
-        Expr::Int { value, line: _ } => give(Value::Int(*value)),
+        Expr::Literal { value, line: _ } => give(literal_value(*value)),
         Expr::Null { line: _ } => give(Value::Null),
         Expr::This { line: _ } => give(match &machine.this {
             Some(this) => Value::Ref(this.oref),

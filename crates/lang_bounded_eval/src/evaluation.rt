@@ -7,9 +7,9 @@ ghost use Rattle.method_eval.specs.Does.{Does};
 ghost use Rattle.method_eval.specs.Names.{supply};
 ghost use Rattle.method_eval.specs.Viewed.{reading};
 
+use crate::limits::NESTED_LIMIT;
 use crate::run::block;
 use class_defs::{Block, Flow, Machine, Object, Schema, Stop};
-use lang_small_steps::RECURSION_LIMIT;
 use method_eval::{Halt, Program, Ran, View, World};
 use std::alloc::Global;
 use thor_value::{
@@ -41,7 +41,7 @@ pub(crate) fn execute_all(
 ) -> Result<Flow, Halt>
     ensures { Does result machine.new (execute_all (reading world.now) tx.now machine.old) }
 {
-    block(world, RECURSION_LIMIT, 100_001, machine, tx)
+    block(world, NESTED_LIMIT, machine, tx)
 }
 
 fn stored(epoch: u32, written: (Oref, Object)) -> (Oref, Obj)

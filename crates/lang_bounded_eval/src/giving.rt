@@ -11,6 +11,7 @@ use crate::beginning_steps::{evaluate_for, give, open_block, pass, ready};
 use crate::frames::{Next, Waiting};
 use class_defs::{
     Block, Expr, ExprType, Flow, Locals, Machine, Receiver, Stmt, beginning, combined, number,
+    push_printed,
 };
 use lang_small_steps::Stack;
 use method_eval::{Halt, World, assign_field, assign_local, declare, fault, holds, take_step};
@@ -270,7 +271,7 @@ fn pop_statement<'a>(
             }
         }
         Waiting::Print => {
-            machine.printed.push(number(given(flow)))?;
+            push_printed(given(flow), &mut machine.printed)?;
             pass()
         }
         Waiting::Discard => pass(),

@@ -5,6 +5,7 @@ mod beginning_steps;
 mod evaluation;
 mod frames;
 mod giving;
+mod limits;
 mod run;
 mod small_steps;
 

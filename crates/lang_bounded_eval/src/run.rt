@@ -3,10 +3,11 @@ ghost use Rattle.method_eval.specs.Does.{Does};
 ghost use Rattle.lang_bounded_eval.specs.Inner.{value_of, execute, block, expression, node, values_of, called, call_object, run_body, in_order, statement, repeat};
 ghost use Rattle.method_eval.specs.Viewed.{reading};
 
+use crate::limits::RECURSION_END;
 use crate::small_steps::{execute_by_steps, value_by_steps};
 use class_defs::{
     Block, DEPTH_LIMIT, Expr, ExprType, Exprs, Flow, Machine, Method, Receiver, Stmt, combined,
-    number,
+    literal_value, number, push_printed,
 };
 use method_eval::{
     Halt, World, assign_field, assign_local, bound, create, declare, fault, field_value, holds,
@@ -15,26 +16,22 @@ use method_eval::{
 use std::mem;
 use thor_value::{Fault, Oref, Value, Values};
 
-/// The value of an expression, where nodes at most `nested` deep may stand inside one another. So many as there is `room` for
+/// The value of an expression, where nodes at most `nested` deep may stand inside one another. Down to `RECURSION_END` they
 /// are evaluated by plain recursion, and what stands deeper by small steps.
 #[cycle(run)]
 #[tactic(auto, using(crate::proofs::Depth::at_depth))]
 pub fn value_of(
     world: &World<'_>,
-    room: u32,
     nested: u32,
     machine: &mut Machine,
     expr: &Expr,
 ) -> Result<Value, Halt>
     ensures { Does result machine.new (value_of (reading world.now) nested expr.now machine.old) }
 {
-    if room == 0 {
+    if nested <= RECURSION_END {
         return value_by_steps(world, nested, machine, expr);
     }
-    if nested == 0 {
-        return fault(Fault::Steps);
-    }
-    expression(world, room - 1, nested - 1, machine, expr)
+    expression(world, nested - 1, machine, expr)
 }
 
 /// One node of an expression, whose parts may be `inner` deep.
@@ -42,7 +39,6 @@ pub fn value_of(
 #[tactic(auto, unfolding(class_defs::specs::Expressions::expression))]
 fn expression(
     world: &World<'_>,
-    room: u32,
     inner: u32,
     machine: &mut Machine,
     expr: &Expr,
@@ -50,21 +46,15 @@ fn expression(
     ensures { Does result machine.new (expression (reading world.now) inner expr.now machine.old) }
 {
     take_step(machine)?;
-    node(world, room, inner, machine, expr)
+    node(world, inner, machine, expr)
 }
 
 #[cycle(run)]
-fn node(
-    world: &World<'_>,
-    room: u32,
-    inner: u32,
-    machine: &mut Machine,
-    expr: &Expr,
-) -> Result<Value, Halt>
+fn node(world: &World<'_>, inner: u32, machine: &mut Machine, expr: &Expr) -> Result<Value, Halt>
     ensures { Does result machine.new (node (reading world.now) inner expr.now machine.old) }
 {
     match expr {
-        Expr::Int { value, line: _ } => Ok(Value::Int(*value)),
+        Expr::Literal { value, line: _ } => Ok(literal_value(*value)),
         Expr::Null { line: _ } => Ok(Value::Null),
         Expr::This { line: _ } => Ok(match &machine.this {
             Some(this) => Value::Ref(this.oref),
@@ -76,9 +66,9 @@ fn node(
         Expr::Parens {
             inner: part,
             line: _,
-        } => value_of(world, room, inner, machine, part.get()),
+        } => value_of(world, inner, machine, part.get()),
         Expr::Negate { operand, line: _ } => {
-            let value = value_of(world, room, inner, machine, operand.get())?;
+            let value = value_of(world, inner, machine, operand.get())?;
             Ok(Value::Int(0i64.wrapping_sub(number(value))))
         }
         Expr::Binary {
@@ -87,8 +77,8 @@ fn node(
             right,
             line: _,
         } => {
-            let first = value_of(world, room, inner, machine, left.get())?;
-            let second = value_of(world, room, inner, machine, right.get())?;
+            let first = value_of(world, inner, machine, left.get())?;
+            let second = value_of(world, inner, machine, right.get())?;
             Ok(combined(*operator, first, second))
         }
         Expr::Call {
@@ -97,7 +87,6 @@ fn node(
             arguments,
         } => called(
             world,
-            room,
             inner,
             machine,
             receiver.get(),
@@ -112,7 +101,6 @@ fn node(
 #[tactic(auto, unfolding(class_defs::specs::Expressions::values_of))]
 fn values_of(
     world: &World<'_>,
-    room: u32,
     inner: u32,
     machine: &mut Machine,
     exprs: &Exprs,
@@ -121,7 +109,7 @@ fn values_of(
 {
     let mut values = Values::new(world.program.alloc);
     for expr in exprs.as_slice() {
-        values.push(value_of(world, room, inner, machine, expr)?)?;
+        values.push(value_of(world, inner, machine, expr)?)?;
     }
     Ok(values)
 }
@@ -130,7 +118,6 @@ fn values_of(
 #[tactic(auto, unfolding(class_defs::specs::Calls::call))]
 fn called(
     world: &World<'_>,
-    room: u32,
     inner: u32,
     machine: &mut Machine,
     receiver: &Expr,
@@ -140,11 +127,11 @@ fn called(
     ensures { Does result machine.new (called (reading world.now) inner receiver.now method.now arguments.now machine.old) }
 {
     let kind = type_of(&world.program, machine, receiver);
-    let target = value_of(world, room, inner, machine, receiver)?;
-    let values = values_of(world, room, inner, machine, arguments)?;
+    let target = value_of(world, inner, machine, receiver)?;
+    let values = values_of(world, inner, machine, arguments)?;
     match (kind, target) {
         (ExprType::Class(class), Value::Ref(oref)) => {
-            call_object(world, room, inner, machine, class, oref, method, values)
+            call_object(world, inner, machine, class, oref, method, values)
         }
         (_, _) => fault(Fault::NullCall),
     }
@@ -154,7 +141,6 @@ fn called(
 #[tactic(auto, unfolding(class_defs::specs::Calls::call_object))]
 fn call_object(
     world: &World<'_>,
-    room: u32,
     inner: u32,
     machine: &mut Machine,
     class: u16,
@@ -178,7 +164,7 @@ fn call_object(
         owners,
     };
     match method_of(&world.program, class, method) {
-        Some(method) => run_body(world, room, inner, machine, this, method, &arguments),
+        Some(method) => run_body(world, inner, machine, this, method, &arguments),
         None => fault(Fault::NullCall),
     }
 }
@@ -188,7 +174,6 @@ fn call_object(
 #[tactic(auto, unfolding(class_defs::specs::Calls::run_body))]
 fn run_body(
     world: &World<'_>,
-    room: u32,
     inner: u32,
     machine: &mut Machine,
     this: Receiver,
@@ -203,7 +188,7 @@ fn run_body(
     let caller_locals = mem::replace(&mut machine.locals, locals);
     let caller = mem::replace(&mut machine.this, Some(this));
     machine.depth = depth + 1;
-    let flow = block(world, room, inner, machine, &method.body)?;
+    let flow = block(world, inner, machine, &method.body)?;
     machine.depth = depth;
     machine.this = caller;
     machine.locals = caller_locals;
@@ -215,7 +200,6 @@ fn run_body(
 #[tactic(auto, unfolding(class_defs::specs::Statements::block_of))]
 pub fn block(
     world: &World<'_>,
-    room: u32,
     inner: u32,
     machine: &mut Machine,
     stmts: &Block,
@@ -223,7 +207,7 @@ pub fn block(
     ensures { Does result machine.new (block (reading world.now) inner stmts.now machine.old) }
 {
     let count = machine.locals.len();
-    let flow = in_order(world, room, inner, machine, stmts.as_slice())?;
+    let flow = in_order(world, inner, machine, stmts.as_slice())?;
     machine.locals.truncate(count);
     Ok(flow)
 }
@@ -231,7 +215,6 @@ pub fn block(
 #[cycle(run)]
 fn in_order(
     world: &World<'_>,
-    room: u32,
     inner: u32,
     machine: &mut Machine,
     stmts: &[Stmt],
@@ -239,7 +222,7 @@ fn in_order(
     ensures { Does result machine.new (in_order (reading world.now) inner stmts.now machine.old) }
 {
     for stmt in stmts {
-        match execute(world, room, inner, machine, stmt)? {
+        match execute(world, inner, machine, stmt)? {
             Flow::Next => {}
             Flow::Returned(value) => return Ok(Flow::Returned(value)),
         }
@@ -247,25 +230,16 @@ fn in_order(
     Ok(Flow::Next)
 }
 
-/// The execution of a statement, where nodes at most `nested` deep may stand inside one another; with `room` as above.
+/// The execution of a statement, where nodes at most `nested` deep may stand inside one another, as above.
 #[cycle(run)]
 #[tactic(auto, using(crate::proofs::Depth::at_depth))]
-fn execute(
-    world: &World<'_>,
-    room: u32,
-    nested: u32,
-    machine: &mut Machine,
-    stmt: &Stmt,
-) -> Result<Flow, Halt>
+fn execute(world: &World<'_>, nested: u32, machine: &mut Machine, stmt: &Stmt) -> Result<Flow, Halt>
     ensures { Does result machine.new (execute (reading world.now) nested stmt.now machine.old) }
 {
-    if room == 0 {
+    if nested <= RECURSION_END {
         return execute_by_steps(world, nested, machine, stmt);
     }
-    if nested == 0 {
-        return fault(Fault::Steps);
-    }
-    statement(world, room - 1, nested - 1, machine, stmt)
+    statement(world, nested - 1, machine, stmt)
 }
 
 /// One statement, whose parts may be `inner` deep.
@@ -273,7 +247,6 @@ fn execute(
 #[tactic(auto, unfolding(class_defs::specs::Statements::statement))]
 fn statement(
     world: &World<'_>,
-    room: u32,
     inner: u32,
     machine: &mut Machine,
     stmt: &Stmt,
@@ -288,7 +261,7 @@ fn statement(
             value,
         } => {
             take_step(machine)?;
-            let value = value_of(world, room, inner, machine, value)?;
+            let value = value_of(world, inner, machine, value)?;
             declare(
                 machine,
                 type_named(&world.program, type_name),
@@ -303,7 +276,7 @@ fn statement(
             value,
         } => {
             take_step(machine)?;
-            let value = value_of(world, room, inner, machine, value)?;
+            let value = value_of(world, inner, machine, value)?;
             assign_local(&mut machine.locals, name.text.as_slice(), value);
             Ok(Flow::Next)
         }
@@ -313,20 +286,20 @@ fn statement(
             value,
         } => {
             take_step(machine)?;
-            let value = value_of(world, room, inner, machine, value)?;
+            let value = value_of(world, inner, machine, value)?;
             assign_field(world, machine, field.text.as_slice(), value)?;
             Ok(Flow::Next)
         }
         Stmt::Return { value } => {
             take_step(machine)?;
-            let value = value_of(world, room, inner, machine, value)?;
+            let value = value_of(world, inner, machine, value)?;
             Ok(Flow::Returned(value))
         }
         Stmt::If { condition, then } => {
             take_step(machine)?;
-            let value = value_of(world, room, inner, machine, condition)?;
+            let value = value_of(world, inner, machine, condition)?;
             if holds(value) {
-                block(world, room, inner, machine, then)
+                block(world, inner, machine, then)
             } else {
                 Ok(Flow::Next)
             }
@@ -337,23 +310,23 @@ fn statement(
             otherwise,
         } => {
             take_step(machine)?;
-            let value = value_of(world, room, inner, machine, condition)?;
+            let value = value_of(world, inner, machine, condition)?;
             if holds(value) {
-                block(world, room, inner, machine, then)
+                block(world, inner, machine, then)
             } else {
-                block(world, room, inner, machine, otherwise)
+                block(world, inner, machine, otherwise)
             }
         }
-        Stmt::While { condition, body } => repeat(world, room, inner, machine, condition, body),
+        Stmt::While { condition, body } => repeat(world, inner, machine, condition, body),
         Stmt::Print { value } => {
             take_step(machine)?;
-            let value = value_of(world, room, inner, machine, value)?;
-            machine.printed.push(number(value))?;
+            let value = value_of(world, inner, machine, value)?;
+            push_printed(value, &mut machine.printed)?;
             Ok(Flow::Next)
         }
         Stmt::Evaluate { value } => {
             take_step(machine)?;
-            let _value = value_of(world, room, inner, machine, value)?;
+            let _value = value_of(world, inner, machine, value)?;
             Ok(Flow::Next)
         }
     }
@@ -365,7 +338,6 @@ fn statement(
 #[tactic(auto, using(crate::proofs::Depth::turns))]
 fn repeat(
     world: &World<'_>,
-    room: u32,
     inner: u32,
     machine: &mut Machine,
     condition: &Expr,
@@ -375,11 +347,11 @@ fn repeat(
 {
     for _ in 0..100_001u32 {
         take_step(machine)?;
-        let value = value_of(world, room, inner, machine, condition)?;
+        let value = value_of(world, inner, machine, condition)?;
         if !holds(value) {
             return Ok(Flow::Next);
         }
-        match block(world, room, inner, machine, body)? {
+        match block(world, inner, machine, body)? {
             Flow::Next => {}
             Flow::Returned(value) => return Ok(Flow::Returned(value)),
         }

@@ -85,7 +85,7 @@ module _ (schema : Schema) (f g : Oref → Option Object) where
   other = over schema g
 
   start_goes : (n : ℕ) (o : Expr-F Expr) (fs : List Frame) (m : Machine) → Sound m → Waiting m fs → Go m (start one n o fs) (start other n o fs)
-  start_goes n (Expr-F.Int v line) fs m s w = stay m _ _ s w
+  start_goes n (Expr-F.Literal v line) fs m s w = stay m _ _ s w
   start_goes n (Expr-F.Null line) fs m s w = stay m _ _ s w
   start_goes n (Expr-F.This line) fs m s w = stay m _ _ s w
   start_goes n (Expr-F.Field name) fs m s w = on_left m m _ _ (λ v. give (Returned v) fs) (λ v. give (Returned v) fs) (field_value_alike schema f g name.text m s) (λ v is t grows. stay m _ _ t w)
@@ -132,7 +132,9 @@ module _ (schema : Schema) (f g : Oref → Option Object) where
   ready_goes n (type.Class c) (value.Ref x) name vs fs m s w = stay m _ _ s w
   ready_goes n (type.Class c) value.Null name vs fs m s w = ends m _
   ready_goes n (type.Class c) (value.Int i) name vs fs m s w = ends m _
+  ready_goes n (type.Class c) (value.Text i) name vs fs m s w = ends m _
   ready_goes n type.Int r name vs fs m s w = ends m _
+  ready_goes n type.Text r name vs fs m s w = ends m _
   ready_goes n type.Null r name vs fs m s w = ends m _
   ready_goes n type.Untold r name vs fs m s w = ends m _
 

@@ -59,7 +59,7 @@ unfolding due
 moved k m n l s f = rw s (omega (arith, f))
 
 start_falls : (w : World) (n : ℕ) (o : Expr-F Expr) (fs : List Frame) (m : Machine) → Falls (6 * (100000 - m.steps) + (0 + sizes fs)) m (step >> start w n o fs)
-start_falls w n (Expr-F.Int v line) fs m = step_falls _ (0 + sizes fs) m _ _ refl refl (omega arith)
+start_falls w n (Expr-F.Literal v line) fs m = step_falls _ (0 + sizes fs) m _ _ refl refl (omega arith)
 start_falls w n (Expr-F.Null line) fs m = step_falls _ (0 + sizes fs) m _ _ refl refl (omega arith)
 start_falls w n (Expr-F.This line) fs m = step_falls _ (0 + sizes fs) m _ _ refl refl (omega arith)
 start_falls w n (Expr-F.Field name) fs m = step_falls _ (0 + sizes fs) m _ _ refl refl (omega arith)
@@ -141,7 +141,9 @@ ready_falls : (n : ℕ) (t : ExprType) (r : Value) (name : List ℕ) (vs : List 
 ready_falls n (type.Class c) (value.Ref x) name vs fs m = moved _ m _ _ refl (omega arith)
 ready_falls n (type.Class c) value.Null name vs fs m = tt
 ready_falls n (type.Class c) (value.Int i) name vs fs m = tt
+ready_falls n (type.Class c) (value.Text i) name vs fs m = tt
 ready_falls n type.Int r name vs fs m = tt
+ready_falls n type.Text r name vs fs m = tt
 ready_falls n type.Null r name vs fs m = tt
 ready_falls n type.Untold r name vs fs m = tt
 

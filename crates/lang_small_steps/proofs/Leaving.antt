@@ -69,7 +69,7 @@ touch_adds w owners x m =
 
 start_adds : (w : World) (n : ℕ) (o : Expr-F Expr) (fs : List Frame) (m : Machine) → Leaves m (start w n o fs)
 unfolding field_value named_value scope_at seen
-start_adds w n (Expr-F.Int v line) fs m = refl
+start_adds w n (Expr-F.Literal v line) fs m = refl
 start_adds w n (Expr-F.Null line) fs m = refl
 start_adds w n (Expr-F.This line) fs m = refl
 start_adds w n (Expr-F.Field name) fs m = refl
@@ -112,7 +112,9 @@ ready_adds : (n : ℕ) (t : ExprType) (r : Value) (name : List ℕ) (vs : List V
 ready_adds n (type.Class c) (value.Ref x) name vs fs m = refl
 ready_adds n (type.Class c) value.Null name vs fs m = refl
 ready_adds n (type.Class c) (value.Int i) name vs fs m = refl
+ready_adds n (type.Class c) (value.Text i) name vs fs m = refl
 ready_adds n type.Int r name vs fs m = refl
+ready_adds n type.Text r name vs fs m = refl
 ready_adds n type.Null r name vs fs m = refl
 ready_adds n type.Untold r name vs fs m = refl
 

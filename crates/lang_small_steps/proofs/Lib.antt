@@ -4,6 +4,7 @@ pub mod MoreNames
 pub mod MoreCreated
 pub mod Reaching
 pub mod Drops
+pub mod Placed
 pub mod Falling
 pub mod Typed
 pub mod Leaving

@@ -83,7 +83,7 @@ module _ (f : NameSupply → NameSupply) where
 
   start_adds : (w : World) (n : ℕ) (o : Expr-F Expr) (fs : List Frame) (m : Machine) → Adds m (start w n o fs)
   unfolding field_value named_value scope_at seen
-  start_adds w n (Expr-F.Int v line) fs m = refl
+  start_adds w n (Expr-F.Literal v line) fs m = refl
   start_adds w n (Expr-F.Null line) fs m = refl
   start_adds w n (Expr-F.This line) fs m = refl
   start_adds w n (Expr-F.Field name) fs m = refl
@@ -126,7 +126,9 @@ module _ (f : NameSupply → NameSupply) where
   ready_adds n (type.Class c) (value.Ref x) name vs fs m = refl
   ready_adds n (type.Class c) value.Null name vs fs m = refl
   ready_adds n (type.Class c) (value.Int i) name vs fs m = refl
+  ready_adds n (type.Class c) (value.Text i) name vs fs m = refl
   ready_adds n type.Int r name vs fs m = refl
+  ready_adds n type.Text r name vs fs m = refl
   ready_adds n type.Null r name vs fs m = refl
   ready_adds n type.Untold r name vs fs m = refl
 

@@ -76,7 +76,7 @@ module _ (w : World) where
   start_sound : (n : ℕ) (o : Expr-F Expr) (fs : List Frame)
       → (giving (value_at w (value_in w n) (block_in w n) o) >>= resume w fs) ≡ (start w n o fs >>= rest_of w)
   unfolding values_of
-  start_sound n (Expr-F.Int v line) fs = refl
+  start_sound n (Expr-F.Literal v line) fs = refl
   start_sound n (Expr-F.Null line) fs = refl
   start_sound n (Expr-F.This line) fs = refl
   start_sound n (Expr-F.Field name) fs = refl
@@ -181,7 +181,9 @@ module _ (w : World) where
   ready_sound n (type.Class c) (value.Ref x) name vs fs = refl
   ready_sound n (type.Class c) value.Null name vs fs = refl
   ready_sound n (type.Class c) (value.Int i) name vs fs = refl
+  ready_sound n (type.Class c) (value.Text i) name vs fs = refl
   ready_sound n type.Int r name vs fs = refl
+  ready_sound n type.Text r name vs fs = refl
   ready_sound n type.Null r name vs fs = refl
   ready_sound n type.Untold r name vs fs = refl
 

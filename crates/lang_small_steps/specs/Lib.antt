@@ -1,7 +1,6 @@
-pub mod formers
 pub mod Methods
 pub mod Typed
-pub mod Plain
+pub mod Placed
 pub mod Resume
 pub mod Reaches
 pub mod Due

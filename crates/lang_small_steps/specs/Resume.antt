@@ -7,6 +7,7 @@ use Rattle.thor_value.specs.declared.values.Value.{Value}
 use Rattle.thor_value.specs.declared.values.Value.TheVariants as value
 use Rattle.class_defs.specs.Calls.{bound, call, call_object, owners_at}
 use Rattle.class_defs.specs.Expressions.{combined, this_value, values_from}
+use Rattle.class_defs.specs.Kinds.{literal_value, printed_as}
 use Rattle.class_defs.specs.Objects.{assign_field, create, field_value, named_value, scope_at, touch}
 use Rattle.class_defs.specs.Run.{meaning}
 use Rattle.class_defs.specs.Statements.{assign_local, branch, block_of, declare, holds, in_order, repeat, turn, unless_returned}
@@ -70,7 +71,7 @@ abbrev pub outside : ℕ → Option Receiver → List Local → Machine → Mach
 outside depth this locals n = record n { depth = depth; this = this; locals = locals }
 
 abbrev pub print : Value → Machine → Machine
-print v m = record m { printed = m.printed ++ number v ∷ [] }
+print v m = record m { printed = m.printed ++ printed_as v }
 
 abbrev pub negated : Value → Value
 negated v = value.Int (int_wrapping_sub w64 (pos 0) (number v))
@@ -120,7 +121,7 @@ abbrev pub give : Flow → List Frame → Action Left
 give g fs = next (doing.Give g) fs
 
 abbrev pub start : World → ℕ → Expr-F Expr → List Frame → Action Left
-start w n (Expr-F.Int v line) fs = give (Returned (value.Int v)) fs
+start w n (Expr-F.Literal v line) fs = give (Returned (literal_value v)) fs
 start w n (Expr-F.Null line) fs = give (Returned value.Null) fs
 start w n (Expr-F.This line) fs = λ m. give (Returned (this_value m.this)) fs m
 start w n (Expr-F.Field name) fs = λ m. give (Returned (field_value w m name.text)) fs m
@@ -165,7 +166,9 @@ abbrev pub ready : ℕ → ExprType → Value → List ℕ → List Value → Li
 ready n (type.Class c) (value.Ref x) name vs fs = next (doing.Enter n c x name vs) fs
 ready n (type.Class c) value.Null name vs fs = fail NullCall
 ready n (type.Class c) (value.Int i) name vs fs = fail NullCall
+ready n (type.Class c) (value.Text t) name vs fs = fail NullCall
 ready n type.Int v name vs fs = fail NullCall
+ready n type.Text v name vs fs = fail NullCall
 ready n type.Null v name vs fs = fail NullCall
 ready n type.Untold v name vs fs = fail NullCall
 

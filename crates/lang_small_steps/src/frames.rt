@@ -1,6 +1,5 @@
-use crate::shared::Shared;
-use crate::syntax::{SharedBlock, SharedExpr, SharedExprs, SharedStmt};
-use class_defs::{At, ExprType, Flow, Locals, Operator, Receiver};
+use crate::syntax::{SharedBlock, SharedExprs, SharedStmt};
+use class_defs::{At, Expr, ExprType, Flow, Locals, Operator, Receiver};
 use thor_value::{Oref, Text, Value, Values};
 
 /// What is done next.
@@ -9,7 +8,7 @@ pub enum Doing {
     /// An expression is evaluated, where nodes at most `nested` deep may stand inside one another.
     Evaluate {
         nested: u32,
-        expr: SharedExpr,
+        expr: Expr,
     },
     /// A statement is executed, where nodes at most `nested` deep may stand inside one another.
     Execute {
@@ -18,7 +17,7 @@ pub enum Doing {
     },
     /// A new object is made; a name may be needed.
     Create {
-        class: Shared<Text>,
+        class: Text,
         at: Option<At>,
     },
     /// A call whose parts are evaluated begins; its object may be needed.
@@ -27,7 +26,7 @@ pub enum Doing {
         /// The number of the class of the receiver's type.
         class: u16,
         oref: Oref,
-        method: Shared<Text>,
+        method: Text,
         arguments: Values,
     },
     /// The frame on the top is given what it waits for. A value counts as returned.
@@ -45,7 +44,7 @@ pub enum Frame {
     Right {
         nested: u32,
         operator: Operator,
-        right: SharedExpr,
+        right: Expr,
     },
     /// The right operand is given.
     Combine {
@@ -57,7 +56,7 @@ pub enum Frame {
         nested: u32,
         /// The receiver's type.
         kind: ExprType,
-        method: Shared<Text>,
+        method: Text,
         arguments: SharedExprs,
     },
     /// An argument is given; these stand behind it.
@@ -65,7 +64,7 @@ pub enum Frame {
         nested: u32,
         kind: ExprType,
         target: Value,
-        method: Shared<Text>,
+        method: Text,
         done: Values,
         rest: SharedExprs,
     },
@@ -79,13 +78,13 @@ pub enum Frame {
     },
     Declare {
         kind: ExprType,
-        name: Shared<Text>,
+        name: Text,
     },
     Assign {
-        name: Shared<Text>,
+        name: Text,
     },
     FieldAssign {
-        field: Shared<Text>,
+        field: Text,
     },
     Return,
     /// The condition of an `if` without `else` is given.
@@ -115,14 +114,14 @@ pub enum Frame {
     Test {
         nested: u32,
         turns: u32,
-        condition: SharedExpr,
+        condition: Expr,
         body: SharedBlock,
     },
     /// The body of a loop has ended; it may test so many times again.
     Again {
         nested: u32,
         turns: u32,
-        condition: SharedExpr,
+        condition: Expr,
         body: SharedBlock,
     },
 }

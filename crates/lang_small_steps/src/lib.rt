@@ -5,10 +5,7 @@ mod frames;
 mod laws;
 mod limits;
 mod methods;
-mod nodes;
 mod parameters;
-mod shared;
-mod sharing;
 mod stack;
 mod syntax;
 
@@ -22,9 +19,6 @@ pub use methods::{
     CLASS_LIMIT, ClassMethods, EpochMethods, SharedMethod, SharedMethods, class_methods,
     shared_method,
 };
-pub use nodes::{ExprNode, ExprNodes, StmtNode, StmtNodes};
 pub use parameters::{TypedParameter, TypedParameters};
-pub use shared::Shared;
-pub use sharing::calls_in;
 pub use stack::Stack;
-pub use syntax::{SharedBlock, SharedExpr, SharedExprs, SharedStmt};
+pub use syntax::{SharedBlock, SharedExprs, SharedStmt};

@@ -6,15 +6,11 @@ ghost use Rattle.std.specs.Str.{bytes_eq};
 ghost use Rattle.class_defs.specs.Calls.{bound};
 ghost use Rattle.class_defs.specs.declared.classes.Class.{Class};
 ghost use Rattle.lang_small_steps.specs.Methods.{AreMethodsOf, class_methods, methods_at};
-ghost use Rattle.lang_small_steps.specs.Plain.{plain_stmt};
 ghost use Rattle.lang_small_steps.specs.Typed.{IsTyped, typed};
 
-use crate::nodes::StmtNodes;
 use crate::parameters::{TypedParameters, locals_of, typed_parameters};
-use crate::shared::Shared;
-use crate::sharing::stmt_nodes;
 use class_defs::{
-    Classes, ExprType, Locals, Method, Methods, Name, Schemas, TypeName, UpgradedSchemas,
+    Block, Classes, ExprType, Locals, Method, Methods, Name, Schemas, TypeName, UpgradedSchemas,
     type_named,
 };
 use std::alloc::Global;
@@ -28,7 +24,7 @@ pub struct SharedMethod {
     result: TypeName,
     name: Name,
     parameters: TypedParameters,
-    body: Shared<StmtNodes>,
+    body: Block,
     kind: ExprType,
 }
 
@@ -36,18 +32,17 @@ impl Model for SharedMethod {
     ghost use Rattle.std.specs.Coded.{codes};
     ghost use Rattle.std.specs.Prelude.{map};
     ghost use Rattle.class_defs.specs.contracts.classes.Method as method;
-    ghost use Rattle.lang_small_steps.specs.Plain.{plain_stmt};
     ghost use Rattle.lang_small_steps.specs.Typed.{TypedMethod};
 
     ghost Value = { TypedMethod };
 
     ghost coded = { Prim.hlevel (codes, method.the_row.coded) };
 
-    ghost view = { λ m. record { method = record { result = m.result; name = m.name; parameters = map (λ p. p.declared) m.parameters; body = map plain_stmt m.body }; parameters = m.parameters; result = m.kind } };
+    ghost view = { λ m. record { method = record { result = m.result; name = m.name; parameters = map (λ p. p.declared) m.parameters; body = m.body }; parameters = m.parameters; result = m.kind } };
 }
 
 impl SharedMethod {
-    /// A copy of a method of these classes, whose body can be shared from then on.
+    /// A method of these classes, whose body is shared.
     #[tactic(auto, using(crate::proofs::Typed::declared_are))]
     fn copy_of(alloc: Global, classes: &Classes, method: &Method) -> Result<SharedMethod, NoMemory>
         requires { length classes.now ≤ 65536 }
@@ -57,7 +52,7 @@ impl SharedMethod {
             result: method.result.copy()?,
             name: method.name.copy()?,
             parameters: typed_parameters(alloc, classes, &method.parameters)?,
-            body: stmt_nodes(alloc, &method.body)?,
+            body: method.body.share()?,
             kind: type_named(classes, &method.result),
         })
     }
@@ -78,8 +73,8 @@ impl SharedMethod {
     }
 
     /// Its body, with its owners.
-    pub fn body(&self) -> &Shared<StmtNodes>
-        ensures { map plain_stmt result.now ≡ self.now.method.body }
+    pub fn body(&self) -> &Block
+        ensures { result.now ≡ self.now.method.body }
     {
         &self.body
     }
@@ -110,7 +105,7 @@ pub struct EpochMethods {
     pub upgraded: Sequence<ClassMethods>,
 }
 
-/// Copies of methods of these classes, whose bodies can be shared.
+/// Methods of these classes, whose bodies are shared.
 fn shared_methods(
     alloc: Global,
     classes: &Classes,
@@ -126,7 +121,7 @@ fn shared_methods(
     Ok(copied)
 }
 
-/// Copies of the methods of classes, whose bodies can be shared, with the types that their words name. `NoMemory` where
+/// The methods of classes, whose bodies are shared, with the types that their words name. `NoMemory` where
 /// there are more classes than numbers for them.
 pub fn class_methods(alloc: Global, classes: &Classes) -> Result<ClassMethods, NoMemory>
     ensures { IfOk result (λ methods. methods ≡ class_methods classes.now) }
@@ -180,7 +175,7 @@ pub fn shared_method<'a>(
 }
 
 impl EpochMethods {
-    /// Copies of the methods of the schemas of all epochs, whose bodies can be shared.
+    /// The methods of the schemas of all epochs, whose bodies are shared.
     pub fn copy_of(alloc: Global, schemas: &Schemas) -> Result<EpochMethods, NoMemory>
         ensures { IfOk result (AreMethodsOf schemas.now) }
     {

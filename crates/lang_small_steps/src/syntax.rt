@@ -1,174 +1,123 @@
-ghost use Rattle.std.specs.Prelude.{◌≡◌, ◌<◌, ◌+◌, ◌-◌, ◌^◌, [], ◌∷◌, drop, map, IfOk, MatchOption};
-ghost use Rattle.lang_small_steps.specs.Plain.{plain, plain_stmt};
+ghost use Rattle.std.specs.Prelude.{◌≡◌, ◌<◌, ◌+◌, ◌-◌, ◌^◌, [], ◌∷◌, drop, IfOk, MatchOption};
 
-use crate::nodes::{ExprNode, ExprNodes, StmtNode, StmtNodes};
-use crate::shared::Shared;
-use crate::sharing::stmt_nodes;
-use class_defs::Block;
+use class_defs::{Block, Expr, Exprs, Stmt, Stmts};
 use std::alloc::Global;
 use std::marker::Model;
-use thor_value::NoMemory;
+use thor_value::{NoMemory, TryCopy};
 
-/// An expression with several owners, which contracts see as that expression.
-#[derive(Drop)]
-pub struct SharedExpr {
-    node: Shared<ExprNode>,
-}
-
-impl Model for SharedExpr {
-    ghost use Rattle.std.specs.Coded.{codes};
-    ghost use Rattle.class_defs.specs.contracts.expressions.Expr as expr;
-    ghost use Rattle.class_defs.specs.declared.expressions.Expr.{Expr};
-    ghost use Rattle.lang_small_steps.specs.Plain.{plain};
-
-    ghost Value = { Expr };
-
-    ghost coded = { Prim.hlevel (codes, expr.the_row.coded) };
-
-    ghost view = { λ e. plain e.node };
-}
-
-impl SharedExpr {
-    /// Its node, with its owners.
-    pub fn shared(&self) -> &Shared<ExprNode>
-        ensures { plain result.now ≡ self.now }
-    {
-        &self.node
-    }
-
-    /// A part of a node, as its other owner.
-    pub fn of(node: &Shared<ExprNode>) -> Result<SharedExpr, NoMemory>
-        ensures { IfOk result (λ expr. expr ≡ plain node.now) }
-    {
-        Ok(SharedExpr {
-            node: node.share()?,
-        })
-    }
-
-    pub fn node(&self) -> &ExprNode
-        ensures { plain result.now ≡ self.now }
-    {
-        self.node.get()
-    }
-
-    /// Another owner of it. It copies nothing.
-    pub fn share(&self) -> Result<SharedExpr, NoMemory>
-        ensures { IfOk result (λ other. other ≡ self.now) }
-    {
-        SharedExpr::of(&self.node)
-    }
-}
-
-/// A statement with several owners, which contracts see as that statement.
+/// A statement of a block that has several owners, which contracts see as that statement.
 #[derive(Drop)]
 pub struct SharedStmt {
-    node: Shared<StmtNode>,
+    block: Block,
+    place: usize,
 }
 
 impl Model for SharedStmt {
+    ghost use Rattle.std.specs.Prelude.{length, ◌<◌};
     ghost use Rattle.std.specs.Coded.{codes};
     ghost use Rattle.class_defs.specs.contracts.statements.Stmt as stmt;
     ghost use Rattle.class_defs.specs.declared.statements.Stmt.{Stmt};
-    ghost use Rattle.lang_small_steps.specs.Plain.{plain_stmt};
+    ghost use Rattle.lang_small_steps.specs.Placed.{stmt_at};
 
     ghost Value = { Stmt };
 
     ghost coded = { Prim.hlevel (codes, stmt.the_row.coded) };
 
-    ghost view = { λ s. plain_stmt s.node };
+    ghost view = { λ s. stmt_at s.block s.place };
+
+    ghost invariant = { λ s. s.place < length s.block };
 }
 
 impl SharedStmt {
-    /// A statement of a block, as its other owner.
-    pub fn of(node: &Shared<StmtNode>) -> Result<SharedStmt, NoMemory>
-        ensures { IfOk result (λ stmt. stmt ≡ plain_stmt node.now) }
+    /// A copy of a statement, which shares its parts.
+    pub fn of(alloc: Global, stmt: &Stmt) -> Result<SharedStmt, NoMemory>
+        ensures { IfOk result (λ made. made ≡ stmt.now) }
     {
+        let mut stmts = Stmts::new(alloc);
+        stmts.push(stmt.copy()?)?;
         Ok(SharedStmt {
-            node: node.share()?,
+            block: Block::new(alloc, stmts)?,
+            place: 0,
         })
     }
 
-    /// Its node, with its owners.
-    pub fn shared(&self) -> &Shared<StmtNode>
-        ensures { plain_stmt result.now ≡ self.now }
+    #[tactic(auto, using(crate::proofs::Placed::stmt_there, crate::proofs::Placed::some_there))]
+    pub fn get(&self) -> &Stmt
+        ensures { result.now ≡ self.now }
     {
-        &self.node
-    }
-
-    pub fn node(&self) -> &StmtNode
-        ensures { plain_stmt result.now ≡ self.now }
-    {
-        self.node.get()
+        match self.block.get().get(self.place) {
+            Some(stmt) => stmt,
+            None => unreachable!(),
+        }
     }
 }
 
 /// Expressions with several owners, from one of them on.
 #[derive(Drop)]
 pub struct SharedExprs {
-    nodes: Shared<ExprNodes>,
+    exprs: Exprs,
     from: usize,
 }
 
 impl Model for SharedExprs {
-    ghost use Rattle.std.specs.Prelude.{List, drop, map};
+    ghost use Rattle.std.specs.Prelude.{List, drop};
     ghost use Rattle.std.specs.Coded.{codes};
     ghost use Rattle.class_defs.specs.contracts.expressions.Expr as expr;
     ghost use Rattle.class_defs.specs.declared.expressions.Expr.{Expr};
-    ghost use Rattle.lang_small_steps.specs.Plain.{plain};
 
     ghost Value = { List Expr };
 
     ghost coded = { Prim.hlevel (codes, expr.the_row.coded) };
 
-    ghost view = { λ e. map plain (drop e.from e.nodes) };
+    ghost view = { λ e. drop e.from e.exprs };
 }
 
 impl SharedExprs {
-    /// All the expressions of a node, as their other owner.
-    pub fn of(nodes: &Shared<ExprNodes>) -> Result<SharedExprs, NoMemory>
-        ensures { IfOk result (λ exprs. exprs ≡ map plain nodes.now) }
+    /// All of the expressions, as their other owner.
+    pub fn of(exprs: &Exprs) -> Result<SharedExprs, NoMemory>
+        ensures { IfOk result (λ made. made ≡ exprs.now) }
     {
         Ok(SharedExprs {
-            nodes: nodes.share()?,
+            exprs: exprs.share()?,
             from: 0,
         })
     }
 
-    /// The expression of a node at a place, with its owners.
+    /// The expression at a place.
     #[tactic(auto, using(crate::proofs::Drops::dropped, crate::proofs::Drops::none_there))]
-    pub fn at(nodes: &Shared<ExprNodes>, place: usize) -> Option<&Shared<ExprNode>>
-        ensures { MatchOption result (map plain (drop place nodes.now) ≡ []) (λ node. map plain (drop place nodes.now) ≡ plain node.now ∷ map plain (drop (place + 1) nodes.now)) }
+    pub fn at(exprs: &Exprs, place: usize) -> Option<&Expr>
+        ensures { MatchOption result (drop place exprs.now ≡ []) (λ expr. drop place exprs.now ≡ expr.now ∷ drop (place + 1) exprs.now) }
     {
-        nodes.get().get(place)
+        exprs.get().get(place)
     }
 
-    /// The expressions of a node behind a place, as their other owner.
-    pub fn behind(nodes: &Shared<ExprNodes>, place: usize) -> Result<SharedExprs, NoMemory>
+    /// The expressions behind a place, as their other owner.
+    pub fn behind(exprs: &Exprs, place: usize) -> Result<SharedExprs, NoMemory>
         requires { place < 2 ^ 64 - 1 }
-        ensures { IfOk result (λ exprs. exprs ≡ map plain (drop (place + 1) nodes.now)) }
+        ensures { IfOk result (λ made. made ≡ drop (place + 1) exprs.now) }
     {
         Ok(SharedExprs {
-            nodes: nodes.share()?,
+            exprs: exprs.share()?,
             from: place + 1,
         })
     }
 
-    /// The first, with those behind it.
+    /// A copy of the first, which shares its parts, with those behind it.
     #[tactic(auto, using(crate::proofs::Drops::drops))]
-    pub fn split_first(self) -> Result<Option<(SharedExpr, SharedExprs)>, NoMemory>
+    pub fn split_first(self) -> Result<Option<(Expr, SharedExprs)>, NoMemory>
         ensures { IfOk result (λ split. MatchOption split (self ≡ []) (λ p. self ≡ p.0 ∷ p.1)) }
     {
-        let SharedExprs { nodes, from } = self;
-        let count = nodes.get().len();
+        let SharedExprs { exprs, from } = self;
+        let count = exprs.len();
         if from >= count {
             return Ok(None);
         }
-        let first = match nodes.get().get(from) {
-            Some(node) => SharedExpr::of(node)?,
+        let first = match exprs.get().get(from) {
+            Some(expr) => expr.copy()?,
             None => return Ok(None),
         };
         let rest = SharedExprs {
-            nodes,
+            exprs,
             from: from + 1,
         };
         Ok(Some((first, rest)))
@@ -178,60 +127,49 @@ impl SharedExprs {
 /// Statements with several owners, from one of them on.
 #[derive(Drop)]
 pub struct SharedBlock {
-    nodes: Shared<StmtNodes>,
+    block: Block,
     from: usize,
 }
 
 impl Model for SharedBlock {
-    ghost use Rattle.std.specs.Prelude.{List, drop, map};
+    ghost use Rattle.std.specs.Prelude.{List, drop};
     ghost use Rattle.std.specs.Coded.{codes};
     ghost use Rattle.class_defs.specs.contracts.statements.Stmt as stmt;
     ghost use Rattle.class_defs.specs.declared.statements.Stmt.{Stmt};
-    ghost use Rattle.lang_small_steps.specs.Plain.{plain_stmt};
 
     ghost Value = { List Stmt };
 
     ghost coded = { Prim.hlevel (codes, stmt.the_row.coded) };
 
-    ghost view = { λ b. map plain_stmt (drop b.from b.nodes) };
+    ghost view = { λ b. drop b.from b.block };
 }
 
 impl SharedBlock {
-    /// A copy of a block, which can be shared from then on.
-    pub fn copy_of(alloc: Global, block: &Block) -> Result<SharedBlock, NoMemory>
-        ensures { IfOk result (λ copied. copied ≡ block.now) }
+    /// All statements of a block, as their other owner.
+    pub fn of(block: &Block) -> Result<SharedBlock, NoMemory>
+        ensures { IfOk result (λ made. made ≡ block.now) }
     {
         Ok(SharedBlock {
-            nodes: stmt_nodes(alloc, block)?,
+            block: block.share()?,
             from: 0,
         })
     }
 
-    /// The block of a node, as its other owner.
-    pub fn of(nodes: &Shared<StmtNodes>) -> Result<SharedBlock, NoMemory>
-        ensures { IfOk result (λ block. block ≡ map plain_stmt nodes.now) }
-    {
-        Ok(SharedBlock {
-            nodes: nodes.share()?,
-            from: 0,
-        })
-    }
-
-    /// The statement of a block at a place, with its owners.
+    /// The statement of a block at a place.
     #[tactic(auto, using(crate::proofs::Drops::dropped, crate::proofs::Drops::none_there))]
-    pub fn at(nodes: &Shared<StmtNodes>, place: usize) -> Option<&Shared<StmtNode>>
-        ensures { MatchOption result (map plain_stmt (drop place nodes.now) ≡ []) (λ node. map plain_stmt (drop place nodes.now) ≡ plain_stmt node.now ∷ map plain_stmt (drop (place + 1) nodes.now)) }
+    pub fn at(block: &Block, place: usize) -> Option<&Stmt>
+        ensures { MatchOption result (drop place block.now ≡ []) (λ stmt. drop place block.now ≡ stmt.now ∷ drop (place + 1) block.now) }
     {
-        nodes.get().get(place)
+        block.get().get(place)
     }
 
     /// The statements of a block behind a place, as their other owner.
-    pub fn behind(nodes: &Shared<StmtNodes>, place: usize) -> Result<SharedBlock, NoMemory>
+    pub fn behind(block: &Block, place: usize) -> Result<SharedBlock, NoMemory>
         requires { place < 2 ^ 64 - 1 }
-        ensures { IfOk result (λ block. block ≡ map plain_stmt (drop (place + 1) nodes.now)) }
+        ensures { IfOk result (λ made. made ≡ drop (place + 1) block.now) }
     {
         Ok(SharedBlock {
-            nodes: nodes.share()?,
+            block: block.share()?,
             from: place + 1,
         })
     }
@@ -241,39 +179,26 @@ impl SharedBlock {
         ensures { IfOk result (λ other. other ≡ self.now) }
     {
         Ok(SharedBlock {
-            nodes: self.nodes.share()?,
+            block: self.block.share()?,
             from: self.from,
         })
     }
 
-    /// Its first statement, with its owners.
-    pub fn first(&self) -> Option<&Shared<StmtNode>>
-        ensures { MatchOption result (self.now ≡ []) (λ node. self.now ≡ plain_stmt node.now ∷ drop 1 self.now) }
-    {
-        match self.nodes.get().get(self.from) {
-            Some(node) => Some(node),
-            None => None,
-        }
-    }
-
     /// The first, with those behind it.
-    #[tactic(auto, using(crate::proofs::Drops::drops))]
+    #[tactic(auto, using(crate::proofs::Drops::drops, crate::proofs::Placed::first_placed))]
     pub fn split_first(self) -> Result<Option<(SharedStmt, SharedBlock)>, NoMemory>
         ensures { IfOk result (λ split. MatchOption split (self ≡ []) (λ p. self ≡ p.0 ∷ p.1)) }
     {
-        let SharedBlock { nodes, from } = self;
-        let count = nodes.get().len();
-        if from >= count {
+        let SharedBlock { block, from } = self;
+        if from >= block.len() {
             return Ok(None);
         }
-        let first = match nodes.get().get(from) {
-            Some(node) => SharedStmt {
-                node: node.share()?,
-            },
-            None => return Ok(None),
+        let first = SharedStmt {
+            block: block.share()?,
+            place: from,
         };
         let rest = SharedBlock {
-            nodes,
+            block,
             from: from + 1,
         };
         Ok(Some((first, rest)))

@@ -5,7 +5,8 @@ ghost use Rattle.class_defs.specs.Objects.{fitted_or_beginning};
 ghost use Rattle.class_defs.specs.Upgrades.{field_of_object, object_behind, path_value, tf_value};
 
 use class_defs::{
-    Classes, ExprType, Name, Names, Object, PlainObjects, Tf, beginning, combined, fitted, number,
+    Classes, ExprType, Name, Names, Object, PlainObjects, Tf, beginning, combined, fitted,
+    literal_value, number,
 };
 use thor_value::Value;
 
@@ -48,7 +49,7 @@ pub fn object_behind(objects: &PlainObjects, value: Option<Value>) -> Option<&Ob
 {
     match value {
         Some(Value::Ref(oref)) => objects.get(oref),
-        Some(Value::Int(_)) | Some(Value::Null) | None => None,
+        Some(Value::Int(_)) | Some(Value::Null) | Some(Value::Text(_)) | None => None,
     }
 }
 
@@ -83,7 +84,7 @@ pub fn tf_value(
 {
     match tf {
         Tf::Null { line: _ } => Some(Value::Null),
-        Tf::Int { value, line: _ } => Some(Value::Int(*value)),
+        Tf::Literal { value, line: _ } => Some(literal_value(*value)),
         Tf::Path { names, line: _ } => path_value(classes, objects, object, names),
         Tf::Parens { inner, line: _ } => tf_value(classes, objects, object, inner.get()),
         Tf::Negate { operand, line: _ } => {

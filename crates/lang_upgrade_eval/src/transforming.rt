@@ -3,7 +3,8 @@ ghost use Rattle.std.specs.Option.{option_copied};
 ghost use Rattle.std.specs.Str.{bytes_eq};
 ghost use Rattle.thor_value.specs.FiniteMap.{get};
 ghost use Rattle.class_defs.specs.Objects.{fitted_or_beginning};
-ghost use Rattle.class_defs.specs.Types.{class_named, type_named};
+ghost use Rattle.class_defs.specs.Types.{class_named, class_or_word, type_named};
+ghost use Rattle.class_defs.specs.declared.types.ExprType.TheVariants as type;
 ghost use Rattle.class_defs.specs.Upgrades.{tf_value, transformed, upgrade_of};
 
 use crate::field_values::{fitted_or_beginning, tf_value};
@@ -58,16 +59,37 @@ fn is_class(classes: &Classes, name: &Name) -> bool
     class_place(classes, name).is_some()
 }
 
+/// The name, where it is one; else null.
+fn name_or_null(value: Option<Value>) -> Value
+    ensures { (c : ℕ) → result ≡ fitted_or_beginning (type.Class c) value }
+{
+    match value {
+        Some(Value::Ref(oref)) => Value::Ref(oref),
+        _ => Value::Null,
+    }
+}
+
+/// A value for a field whose type a word names; the one with which such a field begins, where there is none or it is of
+/// a wrong kind.
+fn value_for_word(classes: &Classes, word: &Name, value: Option<Value>) -> Value
+    ensures { result ≡ fitted_or_beginning (class_or_word word.now.text (class_named classes.now word.now.text)) value }
+{
+    if is_class(classes, word) {
+        name_or_null(value)
+    } else if word.text.as_slice() == b"text".as_slice() {
+        fitted_or_beginning(ExprType::Text, value)
+    } else {
+        fitted_or_beginning(ExprType::Untold, value)
+    }
+}
+
 /// A value for a field of a type; the one with which such a field begins, where there is none or it is of a wrong kind.
 fn value_for(classes: &Classes, type_name: &TypeName, value: Option<Value>) -> Value
     ensures { result ≡ fitted_or_beginning (type_named classes.now type_name.now) value }
 {
     match type_name {
         TypeName::Int { line: _ } => fitted_or_beginning(ExprType::Int, value),
-        TypeName::Class { name } => match value {
-            Some(Value::Ref(oref)) if is_class(classes, name) => Value::Ref(oref),
-            _ => Value::Null,
-        },
+        TypeName::Class { name } => value_for_word(classes, name, value),
     }
 }
 

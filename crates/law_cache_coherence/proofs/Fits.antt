@@ -21,7 +21,7 @@ use Rattle.thor_value.specs.FiniteMap.{get, has}
 use Rattle.thor_value.specs.Names.{same_oref}
 use Rattle.thor_value.specs.declared.names.Oref.{Oref}
 use Rattle.thor_value.specs.declared.values.Obj.{Obj}
-use Rattle.thor_value.specs.declared.values.Value.TheVariants.{Int, Null, Ref}
+use Rattle.thor_value.specs.declared.values.Value.TheVariants.{Int, Null, Ref, Text}
 use Rattle.thor_value.specs.declared.values.Value.{Value}
 
 one_copy : (y : Oref) (o : Obj) → copy_of_x y ≡ Some o → (y ≡ x) × (box 0 ≡ o)
@@ -136,6 +136,7 @@ first_of [] = 0
 first_of (Int z ∷ vs) = number_of z
 first_of (Ref y ∷ vs) = 0
 first_of (Null ∷ vs) = 0
+first_of (Text w ∷ vs) = 0
 
 abbrev number_in : Option Obj → ℕ
 number_in None = 0

@@ -1,12 +1,13 @@
 -- Statements and blocks that break no rule give an owned field nothing but a new part.
 use Rattle.class_defs.proofs.ActionWords.{over}
 use Rattle.class_defs.proofs.KeptRules.{ClassSound, held, nothing}
-use Rattle.class_defs.specs.ExpressionRules.{is_number, judged, line_of}
+use Rattle.class_defs.specs.ExpressionRules.{is_number, is_printable, judged, line_of}
+use Rattle.class_defs.specs.Kinds.{printed_as}
 use Rattle.class_defs.specs.Objects.{seen}
 use Rattle.class_defs.specs.Rules.{Sight, fits, is_free_type, is_part, local_named, must, root_named, scope_of}
 use Rattle.class_defs.specs.StatementRules.{Ruled, assigned_fits, block_rules, broken_at, declares_at, gives_part, in_turn, must_be_number, place_for, ruled}
 use Rattle.class_defs.specs.Statements.{assign_local, block_of, declare, holds, in_order, repeat, statement, statement_at, unless_returned}
-use Rattle.class_defs.specs.Steps.{Action, World, number, pure, step, ◌>>=◌, ◌>>◌}
+use Rattle.class_defs.specs.Steps.{Action, World, pure, step, ◌>>=◌, ◌>>◌}
 use Rattle.class_defs.specs.Types.{field_of, field_type, type_named}
 use Rattle.class_defs.specs.declared.classes.Class.{Class}
 use Rattle.class_defs.specs.declared.expressions.Expr.{Expr, out-Expr}
@@ -47,9 +48,11 @@ use Rattle.thor_value.specs.declared.values.Value.{Value}
 part_fits : (classes : List Class) (f : Oref → Option Object) (kind given : ExprType) (x : Oref) → fits kind given ≡ true → is_part classes kind ≡ true → ValueFits f given (value.Ref x) → is_part classes given ≡ true
 part_fits classes f (type.Class c) (type.Class d) x h part fit = subst (λ j. is_part classes (type.Class j) ≡ true) (sym (one_number c d h)) part
 part_fits classes f (type.Class c) type.Int x h part fit = absurd fit
+part_fits classes f (type.Class c) type.Text x h part fit = absurd fit
 part_fits classes f (type.Class c) type.Null x h part fit = absurd fit
 part_fits classes f (type.Class c) type.Untold x h part fit = absurd fit
 part_fits classes f type.Int given x h part fit = cc
+part_fits classes f type.Text given x h part fit = cc
 part_fits classes f type.Null given x h part fit = cc
 part_fits classes f type.Untold given x h part fit = cc
 
@@ -233,8 +236,8 @@ module _ (schema : Schema) (repos : ℕ) (sound : (c : ℕ) (d : Class) → slic
         let p = nothing (must_be_number here condition) (block_rules here body) ok in
         repeat_goes 100001 condition body m p.0 p.1 h tidy
     node_goes (Stmt-F.Print e) m ok h tidy =
-        let p = nothing ((judged here e).broken AsValue) (must (is_number (judged here e).kind) T3 (line_of e)) ok in
-        behind e AsValue _ m p.0 h tidy (λ a n good after. goes_next n (record n { printed = n.printed ++ number a ∷ [] }) after refl refl)
+        let p = nothing ((judged here e).broken AsValue) (must (is_printable (judged here e).kind) T3 (line_of e)) ok in
+        behind e AsValue _ m p.0 h tidy (λ a n good after. goes_next n (record n { printed = n.printed ++ printed_as a }) after refl refl)
     node_goes (Stmt-F.Evaluate e) m ok h tidy = behind e AsValue _ m ok h tidy (λ a n good after. still schema repos E Any n Next after tt)
 
   -- a statement that breaks no rule

@@ -51,6 +51,7 @@ no_receiver r e = cc
 part_is_class : (classes : List Class) (k : ExprType) → is_part classes k ≡ true → (c : ℕ) × (k ≡ type.Class c)
 part_is_class classes (type.Class c) h = (c, refl)
 part_is_class classes type.Int h = cc
+part_is_class classes type.Text h = cc
 part_is_class classes type.Null h = cc
 part_is_class classes type.Untold h = cc
 
@@ -119,6 +120,7 @@ taken_near names repo n h = from_place names repo (position (λ (y : Oref). y.re
 
 begins_bare : (k : ExprType) (y : Oref) → beginning k ≡ value.Ref y → ⊥
 begins_bare type.Int y h = cc
+begins_bare type.Text y h = cc
 begins_bare type.Null y h = cc
 begins_bare (type.Class c) y h = cc
 begins_bare type.Untold y h = cc

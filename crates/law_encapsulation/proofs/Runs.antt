@@ -1,13 +1,13 @@
 -- What whole runs of checked code do with parts.
 use Rattle.class_defs.proofs.ActionWords.{over}
-use Rattle.class_defs.proofs.KeptRules.{ClassSound, each_nothing, held, nothing, schema_sound}
+use Rattle.class_defs.proofs.KeptRules.{ClassSound, each_nothing, nothing, root_free, schema_sound}
 use Rattle.class_defs.proofs.SameNames.{one_name, same_itself}
 use Rattle.class_defs.specs.Objects.{first_of, seen}
-use Rattle.class_defs.specs.Rules.{is_class, is_part}
+use Rattle.class_defs.specs.Rules.{is_part, is_root_class}
 use Rattle.class_defs.specs.Run.{Ran, begun, changed, execute_all, meaning, ran_by, run, takes, world_of}
 use Rattle.class_defs.specs.SchemaRules.{class_names, classes_from, in_item, item_names, item_rules, root_at_rules, root_names, root_rules, schema_rules}
 use Rattle.class_defs.specs.StatementRules.{block_rules}
-use Rattle.class_defs.specs.Types.{class_named, class_or_untold}
+use Rattle.class_defs.specs.Types.{class_or_word, type_named}
 use Rattle.class_defs.specs.declared.classes.Class.{Class}
 use Rattle.class_defs.specs.declared.machine.Flow.{Flow}
 use Rattle.class_defs.specs.declared.machine.Machine.{Machine}
@@ -19,6 +19,7 @@ use Rattle.class_defs.specs.declared.store.Plain.{Plain}
 use Rattle.class_defs.specs.declared.store.RootDeclaration.{RootDeclaration}
 use Rattle.class_defs.specs.declared.store.Schema.{Schema}
 use Rattle.class_defs.specs.declared.types.ExprType.TheVariants as type
+use Rattle.class_defs.specs.declared.expressions.TypeName.TheVariants as type_name
 use Rattle.law_type_soundness.proofs.FitRun.{Both, both as typed_both, transaction_goes as typed_transaction}
 use Rattle.law_type_soundness.proofs.FitStatements.{block_goes as typed_block}
 use Rattle.law_type_soundness.specs.Fits.{Fresh, MachineFits, StoreFits}
@@ -118,7 +119,7 @@ taken_none (x ∷ xs) (y ∷ ys) z h none is = by (same_oref z x) refl is (and_p
 -- ---- as deep as n
 
 module _ (schema : Schema) (repos : ℕ) (sound : (c : ℕ) (d : Class) → slice_get schema.classes c ≡ Some d → ClassSound schema repos c d)
-    (roots : AllByRecursion (λ (r : RootDeclaration). is_part schema.classes (class_or_untold (class_named schema.classes r.class.text)) ≡ false) schema.roots)
+    (roots : AllByRecursion (λ (r : RootDeclaration). is_part schema.classes (type_named schema.classes (type_name.Class r.class)) ≡ false) schema.roots)
     (E : Oref → Option Object) where
   pub record Deep (n : ℕ) : Type 0 where
     pub parts : PartsGo schema repos E (meaning (over schema E) n).value_of
@@ -179,9 +180,11 @@ unfolding IsStrictlySortedBy
 begun_sorted names = tt
 
 pub roots_free : (classes : List Class) (repos : ℕ) (rs : List RootDeclaration) → AllByRecursion (λ (r : RootDeclaration). root_rules classes repos r ≡ []) rs
-    → AllByRecursion (λ (r : RootDeclaration). is_part classes (class_or_untold (class_named classes r.class.text)) ≡ false) rs
+    → AllByRecursion (λ (r : RootDeclaration). is_part classes (type_named classes (type_name.Class r.class)) ≡ false) rs
 roots_free classes repos [] h = tt
-roots_free classes repos (r ∷ rs) h = (not-true _ (held _ _ _ (nothing (is_class classes r.class) _ (nothing _ (root_at_rules repos r.at) h.0).0).1), roots_free classes repos rs h.1)
+roots_free classes repos (r ∷ rs) h =
+    let k = root_free classes r.class (nothing (is_root_class classes r.class) (root_at_rules repos r.at) h.0).0 in
+    (subst (λ o. is_part classes (class_or_word r.class.text o) ≡ false) (sym k.1) k.2, roots_free classes repos rs h.1)
 
 -- ---- runs
 

@@ -4,10 +4,10 @@ use Rattle.class_defs.proofs.ActionWords.{over}
 use Rattle.class_defs.proofs.KeptRules.{held, nothing}
 use Rattle.class_defs.specs.ExpressionRules.{judged}
 use Rattle.class_defs.specs.Objects.{class_found, seen, touch}
-use Rattle.class_defs.specs.Rules.{is_free_type, is_part}
+use Rattle.class_defs.specs.Rules.{is_free_type, is_part, is_type}
 use Rattle.class_defs.specs.StatementRules.{block_rules}
 use Rattle.class_defs.specs.Steps.{Action, World, after, step}
-use Rattle.class_defs.specs.Types.{class_named, class_or_untold, type_named}
+use Rattle.class_defs.specs.Types.{type_named}
 use Rattle.class_defs.specs.declared.classes.Class.{Class}
 use Rattle.class_defs.specs.declared.expressions.Expr.{Expr}
 use Rattle.class_defs.specs.declared.expressions.TypeName.TheVariants as type_name
@@ -42,12 +42,9 @@ use Rattle.thor_value.specs.declared.values.Value.TheVariants as value
 use Rattle.thor_value.specs.declared.values.Value.{Value}
 
 -- the type of a word for a parameter, a result or a local isn't a part class
-pub free_class : (classes : List Class) (o : Option ℕ) → not (is_part classes (class_or_untold o)) ≡ true → is_part classes (class_or_untold o) ≡ false
-free_class classes o h = not-true (is_part classes (class_or_untold o)) h
-
 pub free_type : (classes : List Class) (t : TypeName) → is_free_type classes t ≡ [] → is_part classes (type_named classes t) ≡ false
 free_type classes (type_name.Int line) h = refl
-free_type classes (type_name.Class name) h = free_class classes (class_named classes name.text) (held _ _ _ (nothing _ _ h).1)
+free_type classes (type_name.Class name) h = not-true (is_part classes (type_named classes (type_name.Class name))) (held _ _ _ (nothing (is_type classes (type_name.Class name)) _ h).1)
 
 -- nothing is owed of what an action gives
 abbrev pub Any : {A : Type 0} → A → Machine → Type 0

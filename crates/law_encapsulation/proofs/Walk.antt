@@ -4,6 +4,7 @@ use Rattle.class_defs.proofs.KeptRules.{ClassSound, MethodSound, found, held, me
 use Rattle.class_defs.specs.Calls.{bound, call, call_object, enter, enter_as, owners_at, run_body}
 use Rattle.class_defs.specs.ExpressionRules.{Judged, arguments_rules, at_rules, beside, broken_at, call_rules, called_rules, is_number, judged, kinds_at, may_be_made, may_be_read, may_be_this, method_called, parameters_of, takes}
 use Rattle.class_defs.specs.Expressions.{combined, expression, this_value, value_at, values_from, values_of}
+use Rattle.class_defs.specs.Kinds.{literal_type, literal_value}
 use Rattle.class_defs.specs.Objects.{create, field_value, first_of, named_value, scope_at, seen, touch}
 use Rattle.class_defs.specs.Rules.{Sight, is_class, is_part, must, root_named, roots_in_sight, scope_of, type_in_sight}
 use Rattle.class_defs.specs.SchemaRules.{in_method, method_rules, parameter_named}
@@ -15,6 +16,8 @@ use Rattle.class_defs.specs.declared.classes.Parameter.{Parameter}
 use Rattle.class_defs.specs.declared.expressions.Expr.TheOpen.{Expr-F}
 use Rattle.class_defs.specs.declared.expressions.Expr.{Expr, map-Expr, out-Expr}
 use Rattle.class_defs.specs.declared.expressions.Name.{Name}
+use Rattle.class_defs.specs.declared.literals.Literal.TheVariants as literal
+use Rattle.class_defs.specs.declared.literals.Literal.{Literal}
 use Rattle.class_defs.specs.declared.limits.TheConstants.{DEPTH_LIMIT, STEP_LIMIT}
 use Rattle.class_defs.specs.declared.machine.Flow.{Flow}
 use Rattle.class_defs.specs.declared.machine.Machine.{Machine}
@@ -31,6 +34,7 @@ use Rattle.class_defs.specs.declared.store.RootDeclaration.{RootDeclaration}
 use Rattle.class_defs.specs.declared.store.Schema.{Schema}
 use Rattle.class_defs.specs.declared.types.ExprType.TheVariants as type
 use Rattle.class_defs.specs.declared.types.ExprType.{ExprType}
+use Rattle.class_defs.specs.declared.expressions.TypeName.TheVariants as type_name
 use Rattle.law_type_soundness.proofs.FitArguments.{ArgumentsFit, Told, Unbroken, ValuesFit, arguments_fit, bound_fits, kinds, one_more_fits, unbroken, values_keep}
 use Rattle.law_type_soundness.proofs.FitActions.{touch_goes as typed_touch}
 use Rattle.law_type_soundness.proofs.FitCalls.{BlocksGo as TypedBlocks, ValuesGo as TypedValues, sight_of}
@@ -63,7 +67,7 @@ same_this : (p q : Receiver) → ◌≡◌ {A = Option Receiver} (Some p) (Some 
 same_this p q e = cc
 
 module _ (schema : Schema) (repos : ℕ) (sound : (c : ℕ) (d : Class) → slice_get schema.classes c ≡ Some d → ClassSound schema repos c d)
-    (roots : AllByRecursion (λ (r : RootDeclaration). is_part schema.classes (class_or_untold (class_named schema.classes r.class.text)) ≡ false) schema.roots)
+    (roots : AllByRecursion (λ (r : RootDeclaration). is_part schema.classes (type_named schema.classes (type_name.Class r.class)) ≡ false) schema.roots)
     (E : Oref → Option Object)
     (v : Expr → Action Value) (u : Expr → Sure Value) (b : List Stmt → Action Flow) (d : List Stmt → Sure Flow)
     (values : TypedValues schema repos E v u) (blocks : TypedBlocks schema repos E b d)
@@ -90,7 +94,7 @@ module _ (schema : Schema) (repos : ℕ) (sound : (c : ℕ) (d : Class) → slic
     kind_of n = n.kind
 
     abbrev root_kind : RootDeclaration → ExprType
-    root_kind q = class_or_untold (class_named schema.classes q.class.text)
+    root_kind q = type_named schema.classes (type_name.Class q.class)
 
     root_free : (u : Option ℕ) (P : RootDeclaration → Bool) (o : Option RootDeclaration) → find P (roots_in_sight schema u) ≡ o → is_part schema.classes (unwrap_or (option_map root_kind o) type.Untold) ≡ false
     root_free None P (Some q) is = found (λ (x : RootDeclaration). is_part schema.classes (root_kind x) ≡ false) P schema.roots q roots is
@@ -161,6 +165,7 @@ module _ (schema : Schema) (repos : ℕ) (sound : (c : ℕ) (d : Class) → slic
         by None is = refl
         by (Some q) is = free_type schema.classes q.result (sound_method c name q is).result
     called_free type.Int name = refl
+    called_free type.Text name = refl
     called_free type.Null name = refl
     called_free type.Untold name = refl
 
@@ -214,7 +219,9 @@ module _ (schema : Schema) (repos : ℕ) (sound : (c : ℕ) (d : Class) → slic
     call_goes (type.Class c) (value.Ref x) name es us m ok is fit h tidy can = object_goes (nat_lt m.depth DEPTH_LIMIT) c x (owners_at schema.classes c x m) name es us m ok is fit h tidy (can x refl)
     call_goes (type.Class c) value.Null name es us m ok is fit h tidy can = stops schema repos E Any m (stop.Fault fault.NullCall) tidy
     call_goes (type.Class c) (value.Int n) name es us m ok is fit h tidy can = stops schema repos E Any m (stop.Fault fault.NullCall) tidy
+    call_goes (type.Class c) (value.Text n) name es us m ok is fit h tidy can = stops schema repos E Any m (stop.Fault fault.NullCall) tidy
     call_goes type.Int a name es us m ok is fit h tidy can = stops schema repos E Any m (stop.Fault fault.NullCall) tidy
+    call_goes type.Text a name es us m ok is fit h tidy can = stops schema repos E Any m (stop.Fault fault.NullCall) tidy
     call_goes type.Null a name es us m ok is fit h tidy can = stops schema repos E Any m (stop.Fault fault.NullCall) tidy
     call_goes type.Untold a name es us m ok is fit h tidy can = stops schema repos E Any m (stop.Fault fault.NullCall) tidy
 
@@ -272,6 +279,7 @@ module _ (schema : Schema) (repos : ℕ) (sound : (c : ℕ) (d : Class) → slic
         by k true e fit can = can e
         by (type.Class c) false e fit can = inr (free_reached c x m tidy fit e)
         by type.Int false e fit can = absurd fit
+        by type.Text false e fit can = absurd fit
         by type.Null false e fit can = absurd fit
         by type.Untold false e fit can = absurd fit
 
@@ -323,12 +331,16 @@ module _ (schema : Schema) (repos : ℕ) (sound : (c : ℕ) (d : Class) → slic
     new_placed BesideNull k a n ok fresh = tt
     new_placed AsValue k a n ok fresh = not-true (is_part schema.classes k) ok
 
+    literal_free : (l : Literal) → is_part schema.classes (literal_type l) ≡ false
+    literal_free (literal.Int n) = refl
+    literal_free (literal.Text w) = refl
+
     int_placed : (place : Position) (a : Value) (m : Machine) → Here place type.Int a m
     int_placed place a m = placed_free schema repos E place type.Int a m refl
 
     node_goes : (x : Expr-F Expr) (place : Position) (m : Machine) → broken_at s (map-Expr Expr Judged (judged s) x) place ≡ [] → MachineFits w s m → TidyAt schema repos E m
         → Owed (Here place (node_kind x)) m (value_at w v b x m).0 (value_at w v b x m).1
-    node_goes (Expr-F.Int n line) place m ok h tidy = still schema repos E (Here place type.Int) m (value.Int n) tidy (int_placed place (value.Int n) m)
+    node_goes (Expr-F.Literal n line) place m ok h tidy = still schema repos E (Here place (literal_type n)) m (literal_value n) tidy (placed_free schema repos E place (literal_type n) (literal_value n) m (literal_free n))
     node_goes (Expr-F.Null line) place m ok h tidy = still schema repos E (Here place type.Null) m value.Null tidy (placed_free schema repos E place type.Null value.Null m refl)
     node_goes (Expr-F.This line) place m ok h tidy =
         let p = nothing (must (is_some t) T2 line) _ ok in
@@ -389,7 +401,7 @@ module _ (schema : Schema) (repos : ℕ) (sound : (c : ℕ) (d : Class) → slic
 
     node_held : (x : Expr-F Expr) (m : Machine) → broken_at s (map-Expr Expr Judged (judged s) x) AsReceiver ≡ [] → MachineFits w s m → TidyAt schema repos E m
         → is_part schema.classes (node_kind x) ≡ true → (a : Value) → (value_at w v b x m).0 ≡ Ok a → (z : Oref) → a ≡ value.Ref z → Held schema repos E m (value_at w v b x m).1 z
-    node_held (Expr-F.Int n line) m ok h tidy part a is z e = cc
+    node_held (Expr-F.Literal n line) m ok h tidy part a is z e = cc
     node_held (Expr-F.Null line) m ok h tidy part a is z e = cc
     node_held (Expr-F.This line) m ok h tidy part a is z e = this_held m m m.this refl z (ok_is (this_value m.this) a is ∙ e)
     node_held (Expr-F.Field name) m ok h tidy part a is z e =

@@ -14,6 +14,7 @@ use Rattle.class_defs.proofs.SameNames.{one_name, same_itself}
 use Rattle.class_defs.specs.Calls.{bound, call, call_object, enter, enter_as, owners_at, owners_by_kind, result_of, run_body}
 use Rattle.class_defs.specs.ExpressionRules.{Judged, arguments_rules, beside, broken_at, call_rules, called_rules, is_number, judged, method_called, parameters_of, takes}
 use Rattle.class_defs.specs.Expressions.{combined, expression, this_value, value_at, values_from, values_of}
+use Rattle.class_defs.specs.Kinds.{literal_value}
 use Rattle.class_defs.specs.Objects.{class_found, first_of, field_value, named_value, scope_at, seen, touch}
 use Rattle.class_defs.specs.Rules.{Sight, is_part, is_part_kind, must}
 use Rattle.class_defs.specs.Run.{meaning}
@@ -21,7 +22,7 @@ use Rattle.class_defs.specs.SchemaRules.{in_method, parameter_named}
 use Rattle.class_defs.specs.StatementRules.{block_rules}
 use Rattle.class_defs.specs.Statements.{block_of}
 use Rattle.class_defs.specs.Steps.{Action, World, after, step}
-use Rattle.class_defs.specs.Types.{class_named, class_or_untold, method_of, type_named, type_of}
+use Rattle.class_defs.specs.Types.{method_of, type_named, type_of}
 use Rattle.class_defs.specs.declared.classes.Class.{Class}
 use Rattle.class_defs.specs.declared.classes.ClassKind.{ClassKind}
 use Rattle.class_defs.specs.declared.classes.ClassKind.TheVariants.{Free, Part}
@@ -45,6 +46,7 @@ use Rattle.class_defs.specs.declared.store.RootDeclaration.{RootDeclaration}
 use Rattle.class_defs.specs.declared.store.Schema.{Schema}
 use Rattle.class_defs.specs.declared.types.ExprType.{ExprType}
 use Rattle.class_defs.specs.declared.types.ExprType.TheVariants as type
+use Rattle.class_defs.specs.declared.expressions.TypeName.TheVariants as type_name
 use Rattle.law_eval.proofs.Above.{AreAbove, State, Tells, above_on, choose, create_tells, faults, gives, here, on, same_run, same_stop, still, steps, whole}
 use Rattle.law_eval.proofs.Ends.{AllKnown, all_grow, known as is_known_here}
 use Rattle.law_eval.proofs.EndsCalls.{owners_known}
@@ -74,7 +76,7 @@ use Rattle.law_frame.proofs.AlikeRun.{block_alike, statement_alike}
 use Rattle.law_frame.proofs.AlikeSteps.{Alike, failing}
 
 module _ (schema : Schema) (repos : ℕ) (sound : (c : ℕ) (d : Class) → slice_get schema.classes c ≡ Some d → ClassSound schema repos c d)
-    (roots : AllByRecursion (λ (r : RootDeclaration). is_part schema.classes (class_or_untold (class_named schema.classes r.class.text)) ≡ false) schema.roots)
+    (roots : AllByRecursion (λ (r : RootDeclaration). is_part schema.classes (type_named schema.classes (type_name.Class r.class)) ≡ false) schema.roots)
     (f g : Oref → Option Object) (agrees : (x : Oref) → is_some (f x) ≡ true → g x ≡ f x) where
   abbrev pub In : Sight → Machine → Type 0
   In s m = State schema repos f g s m
@@ -454,7 +456,9 @@ module _ (schema : Schema) (repos : ℕ) (sound : (c : ℕ) (d : Class) → slic
           (λ new. owners_above c x first m h is (held x refl) this more new) (owners_known at_hand v b ends.values (ends_blocks at_hand (meaning at_hand n).execute ends.statements) c x m h.known)
       call_tells (type.Class c) value.Null name es us first m ok is fit h can held this more = faults schema repos f g Any m fault.NullCall
       call_tells (type.Class c) (value.Int k) name es us first m ok is fit h can held this more = faults schema repos f g Any m fault.NullCall
+      call_tells (type.Class c) (value.Text k) name es us first m ok is fit h can held this more = faults schema repos f g Any m fault.NullCall
       call_tells type.Int a name es us first m ok is fit h can held this more = faults schema repos f g Any m fault.NullCall
+      call_tells type.Text a name es us first m ok is fit h can held this more = faults schema repos f g Any m fault.NullCall
       call_tells type.Null a name es us first m ok is fit h can held this more = faults schema repos f g Any m fault.NullCall
       call_tells type.Untold a name es us first m ok is fit h can held this more = faults schema repos f g Any m fault.NullCall
 
@@ -522,7 +526,7 @@ module _ (schema : Schema) (repos : ℕ) (sound : (c : ℕ) (d : Class) → slic
 
       node_tells : (x : Expr-F Expr) (place : Position) (m : Machine) → broken_at s (map-Expr Expr Judged (judged s) x) place ≡ [] → In s m
           → Owed Any m (value_at at_hand v b x m).0 (value_at at_hand v b x m).1
-      node_tells (Expr-F.Int k line) place m ok h = still schema repos f g Any m (value.Int k) tt
+      node_tells (Expr-F.Literal k line) place m ok h = still schema repos f g Any m (literal_value k) tt
       node_tells (Expr-F.Null line) place m ok h = still schema repos f g Any m value.Null tt
       node_tells (Expr-F.This line) place m ok h = still schema repos f g Any m (this_value m.this) tt
       node_tells (Expr-F.Field name) place m ok h = still schema repos f g Any m (field_value at_hand m name.text) tt

@@ -7,7 +7,8 @@ use Rattle.thor_value.specs.declared.names.Oref.{Oref}
 use Rattle.thor_value.specs.declared.values.Fault.TheVariants as fault
 use Rattle.thor_value.specs.declared.values.Value.{Value}
 use Rattle.class_defs.proofs.KeptRules.{ClassSound, nothing}
-use Rattle.class_defs.specs.ExpressionRules.{is_number, judged, line_of}
+use Rattle.class_defs.specs.ExpressionRules.{is_number, is_printable, judged, line_of}
+use Rattle.class_defs.specs.Kinds.{printed_as}
 use Rattle.class_defs.specs.Objects.{assign_field}
 use Rattle.class_defs.specs.Rules.{Sight, fits, is_free_type, is_part, local_named, must, root_named, scope_of}
 use Rattle.class_defs.specs.Run.{execute_all, meaning}
@@ -15,7 +16,7 @@ use Rattle.class_defs.specs.SchemaRules.{in_item}
 use Rattle.class_defs.specs.StatementRules.{Ruled, assigned_fits, block_rules, broken_at, gives_part, in_turn, must_be_number, place_for, ruled}
 use Rattle.class_defs.specs.Statements.{assign_local, block_of, declare, holds, in_order, repeat, statement, statement_at, unless_returned}
 use Rattle.class_defs.specs.Steps.{Action, World, number, pure, step, ◌>>=◌, ◌>>◌}
-use Rattle.class_defs.specs.Types.{class_named, class_or_untold, field_of, field_type, type_named}
+use Rattle.class_defs.specs.Types.{field_of, field_type, type_named}
 use Rattle.class_defs.specs.declared.classes.Class.{Class}
 use Rattle.class_defs.specs.declared.expressions.Expr.{Expr, out-Expr}
 use Rattle.class_defs.specs.declared.machine.Flow.{Flow}
@@ -32,6 +33,7 @@ use Rattle.class_defs.specs.declared.store.Object.{Object}
 use Rattle.class_defs.specs.declared.store.RootDeclaration.{RootDeclaration}
 use Rattle.class_defs.specs.declared.store.Schema.{Schema}
 use Rattle.class_defs.specs.declared.types.ExprType.{ExprType}
+use Rattle.class_defs.specs.declared.expressions.TypeName.TheVariants as type_name
 use Rattle.law_eval.proofs.Above.{State, above_on, assign_this, choose, faults, gives, on, same_run, still, steps}
 use Rattle.law_eval.proofs.AboveCalls.{BlocksTell, Owed, ValuesTell, alike_at, all, at_hand, blocks_over, expression_tells, parts_over, value_goes}
 use Rattle.law_eval.proofs.EndsRun.{both as ends_at, block_goes as ends_blocks}
@@ -45,7 +47,7 @@ use Rattle.law_encapsulation.proofs.Steps.{Any, AreFree, GrowsTo, TidyAt}
 use Rattle.law_frame.proofs.AlikeRun.{block_alike}
 
 module _ (schema : Schema) (repos : ℕ) (sound : (c : ℕ) (d : Class) → slice_get schema.classes c ≡ Some d → ClassSound schema repos c d)
-    (roots : AllByRecursion (λ (r : RootDeclaration). is_part schema.classes (class_or_untold (class_named schema.classes r.class.text)) ≡ false) schema.roots)
+    (roots : AllByRecursion (λ (r : RootDeclaration). is_part schema.classes (type_named schema.classes (type_name.Class r.class)) ≡ false) schema.roots)
     (f g : Oref → Option Object) (agrees : (x : Oref) → is_some (f x) ≡ true → g x ≡ f x) where
   abbrev Held : Sight → Machine → Type 0
   Held s m = State schema repos f g s m
@@ -241,8 +243,8 @@ module _ (schema : Schema) (repos : ℕ) (sound : (c : ℕ) (d : Class) → slic
             let p = nothing (must_be_number here condition) (block_rules here body) ok in
             repeat_tells 100001 condition body m p.0 p.1 h
         node_tells (Stmt-F.Print e) m ok h =
-            let p = nothing ((judged here e).broken AsValue) (must (is_number (judged here e).kind) T3 (line_of e)) ok in
-            behind e AsValue _ m p.0 h (λ a o state. gives schema repos f g Any o (record o { printed = o.printed ++ number a ∷ [] }) Next refl tt)
+            let p = nothing ((judged here e).broken AsValue) (must (is_printable (judged here e).kind) T3 (line_of e)) ok in
+            behind e AsValue _ m p.0 h (λ a o state. gives schema repos f g Any o (record o { printed = o.printed ++ printed_as a }) Next refl tt)
         node_tells (Stmt-F.Evaluate e) m ok h = behind e AsValue _ m ok h (λ a o state. still schema repos f g Any o Next tt)
 
       -- a statement that breaks no rule

@@ -8,6 +8,7 @@ use Rattle.thor_value.specs.declared.values.Value.{Value}
 use Rattle.thor_value.specs.declared.values.Value.TheVariants as value
 use Rattle.class_defs.specs.Calls.{owners_at, owners_by_kind, bound, run_body, enter, enter_as, call_object, call}
 use Rattle.class_defs.specs.Expressions.{this_value, values_from, values_of, value_at, expression, combined}
+use Rattle.class_defs.specs.Kinds.{literal_value}
 use Rattle.class_defs.specs.Objects.{touch, scope_at, named_value, field_value}
 use Rattle.class_defs.specs.Steps.{World, Action, step, ◌>>=◌}
 use Rattle.class_defs.specs.Types.{method_of, type_of}
@@ -86,7 +87,9 @@ module _ (w : World) (v : Expr → Action Value) (b : List Stmt → Action Flow)
   call_goes (type.Class c) (value.Ref x) name arguments m s = call_object_goes c x name arguments m s
   call_goes (type.Class c) value.Null name arguments m s = stops w (stop.Fault fault.NullCall) m tt
   call_goes (type.Class c) (value.Int n) name arguments m s = stops w (stop.Fault fault.NullCall) m tt
+  call_goes (type.Class c) (value.Text n) name arguments m s = stops w (stop.Fault fault.NullCall) m tt
   call_goes type.Int r name arguments m s = stops w (stop.Fault fault.NullCall) m tt
+  call_goes type.Text r name arguments m s = stops w (stop.Fault fault.NullCall) m tt
   call_goes type.Null r name arguments m s = stops w (stop.Fault fault.NullCall) m tt
   call_goes type.Untold r name arguments m s = stops w (stop.Fault fault.NullCall) m tt
 
@@ -99,7 +102,7 @@ module _ (w : World) (v : Expr → Action Value) (b : List Stmt → Action Flow)
   values_of_go es = values_go [] es
 
   node_goes : (e : Expr-F Expr) → Goes w (value_at w v b e)
-  node_goes (Expr-F.Int n line) = value w (value.Int n)
+  node_goes (Expr-F.Literal n line) = value w (literal_value n)
   node_goes (Expr-F.Null line) = value w value.Null
   node_goes (Expr-F.This line) = tells w (λ m. this_value m.this)
   node_goes (Expr-F.Field name) = tells w (λ m. field_value w m name.text)

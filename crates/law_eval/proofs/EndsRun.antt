@@ -3,6 +3,7 @@ use Rattle.std.proofs.Common.{Bool, true, false, cond, List, [], ◌∷◌, ◌+
 use Rattle.thor_value.specs.declared.names.Oref.{Oref}
 use Rattle.thor_value.specs.declared.values.Fault.TheVariants as fault
 use Rattle.thor_value.specs.declared.values.Value.{Value}
+use Rattle.class_defs.specs.Kinds.{printed_as}
 use Rattle.class_defs.specs.Run.{meaning, execute_all, begun}
 use Rattle.class_defs.specs.Statements.{assign_local, block_of, branch, declare, holds, in_order, repeat, statement, statement_at, turn, unless_returned}
 use Rattle.class_defs.specs.Steps.{World, Action, step, ◌>>◌, pure, change, number}
@@ -69,7 +70,7 @@ module _ (w : World) where
         bind w _ _ (first_value condition) (λ t. branch_goes t _ _ (blocks then_block) (blocks otherwise))
     statement_at_goes (Stmt-F.While condition body) = repeat_goes 100001 condition body
     statement_at_goes (Stmt-F.Print e) =
-        bind w _ _ (first_value e) (λ t. changes (λ m. record m { printed = m.printed ++ number t ∷ [] }) Next (λ m. record { none = λ e. e; waiting = λ x k. k; made = λ e x k. inl k }) (λ m x k. k) (λ m k. k) (λ m k. record { this = k.this; written = k.written }))
+        bind w _ _ (first_value e) (λ t. changes (λ m. record m { printed = m.printed ++ printed_as t }) Next (λ m. record { none = λ e. e; waiting = λ x k. k; made = λ e x k. inl k }) (λ m x k. k) (λ m k. k) (λ m k. record { this = k.this; written = k.written }))
     statement_at_goes (Stmt-F.Evaluate e) = bind w _ _ (first_value e) (λ t. value w Next)
 
     statement_goes : (s : Stmt) → Goes w (statement w v b s)

@@ -8,6 +8,8 @@ use Rattle.thor_value.specs.declared.values.Value.TheVariants as value
 use Rattle.class_defs.proofs.ActionWords.{over}
 use Rattle.class_defs.specs.Calls.{bound, call, call_object, enter, enter_as, owners_at, run_body}
 use Rattle.class_defs.specs.Expressions.{combined, expression, this_value, value_at, values_from, values_of}
+use Rattle.class_defs.specs.Kinds.{literal_value}
+use Rattle.class_defs.specs.Kinds.{printed_as}
 use Rattle.class_defs.specs.Objects.{assign_field, field_value, named_value, scope_at, touch}
 use Rattle.class_defs.specs.Run.{begun, execute_all, meaning}
 use Rattle.class_defs.specs.Statements.{assign_local, block_of, branch, declare, holds, in_order, repeat, statement, statement_at, turn, unless_returned}
@@ -107,7 +109,9 @@ module _ (schema : Schema) (f g : Oref → Option Object) (v u : Expr → Action
   call_needs (type.Class c) (value.Ref x) name arguments m s = call_object_needs c x name arguments m s
   call_needs (type.Class c) value.Null name arguments m s = stops f g (stop.Fault fault.NullCall) m
   call_needs (type.Class c) (value.Int n) name arguments m s = stops f g (stop.Fault fault.NullCall) m
+  call_needs (type.Class c) (value.Text n) name arguments m s = stops f g (stop.Fault fault.NullCall) m
   call_needs type.Int r name arguments m s = stops f g (stop.Fault fault.NullCall) m
+  call_needs type.Text r name arguments m s = stops f g (stop.Fault fault.NullCall) m
   call_needs type.Null r name arguments m s = stops f g (stop.Fault fault.NullCall) m
   call_needs type.Untold r name arguments m s = stops f g (stop.Fault fault.NullCall) m
 
@@ -122,7 +126,7 @@ module _ (schema : Schema) (f g : Oref → Option Object) (v u : Expr → Action
   -- ---- expressions
 
   node_needs : (e : Expr-F Expr) → Needs f g (value_at one v b e) (value_at other u d e)
-  node_needs (Expr-F.Int n line) = value f g (value.Int n)
+  node_needs (Expr-F.Literal n line) = value f g (literal_value n)
   node_needs (Expr-F.Null line) = value f g value.Null
   node_needs (Expr-F.This line) = tells f g (λ m. this_value m.this)
   node_needs (Expr-F.Field name) = λ m s. given f g (field_value one m name.text) m m _ (field_value_alike schema f g name.text m s)
@@ -178,7 +182,7 @@ module _ (schema : Schema) (f g : Oref → Option Object) (v u : Expr → Action
       bind f g _ _ _ _ (first_value condition) (λ t. branch_needs t _ _ _ _ (blocks then_block) (blocks otherwise))
   statement_at_needs (Stmt-F.While condition body) = repeat_needs 100001 condition body
   statement_at_needs (Stmt-F.Print e) =
-      bind f g _ _ _ _ (first_value e) (λ t. changes f g (λ m. record m { printed = m.printed ++ number t ∷ [] }) Next (λ m. record { reads = λ x k. k; writes = λ x k. k }) (λ m k. record { this = k.this; created = k.created }))
+      bind f g _ _ _ _ (first_value e) (λ t. changes f g (λ m. record m { printed = m.printed ++ printed_as t }) Next (λ m. record { reads = λ x k. k; writes = λ x k. k }) (λ m k. record { this = k.this; created = k.created }))
   statement_at_needs (Stmt-F.Evaluate e) = bind f g _ _ _ _ (first_value e) (λ t. value f g Next)
 
   statement_needs : (s : Stmt) → Needs f g (statement one v b s) (statement other u d s)

@@ -11,6 +11,7 @@ use Rattle.law_frame.proofs.AlikeSteps.{Went, Alike, on, bind, gives, value, sto
 use Rattle.law_frame.proofs.AlikeObjects.{touch_alike, touch_known, field_value_alike, create_alike}
 use Rattle.class_defs.specs.Calls.{owners_at, bound, run_body, enter, enter_as, call_object, call}
 use Rattle.class_defs.specs.Expressions.{this_value, values_from, values_of, value_at, expression, combined}
+use Rattle.class_defs.specs.Kinds.{literal_value}
 use Rattle.class_defs.specs.Objects.{touch, scope_at, named_value}
 use Rattle.class_defs.specs.Steps.{World, Action, step, ◌>>=◌}
 use Rattle.class_defs.specs.Types.{method_of, type_of}
@@ -87,7 +88,9 @@ module _ (schema : Schema) (f g : Oref → Option Object) (v u : Expr → Action
   call_alike (type.Class c) (value.Ref x) name arguments m s = call_object_alike c x name arguments m s
   call_alike (type.Class c) value.Null name arguments m s = stops f g (stop.Fault fault.NullCall) m
   call_alike (type.Class c) (value.Int n) name arguments m s = stops f g (stop.Fault fault.NullCall) m
+  call_alike (type.Class c) (value.Text n) name arguments m s = stops f g (stop.Fault fault.NullCall) m
   call_alike type.Int r name arguments m s = stops f g (stop.Fault fault.NullCall) m
+  call_alike type.Text r name arguments m s = stops f g (stop.Fault fault.NullCall) m
   call_alike type.Null r name arguments m s = stops f g (stop.Fault fault.NullCall) m
   call_alike type.Untold r name arguments m s = stops f g (stop.Fault fault.NullCall) m
 
@@ -100,7 +103,7 @@ module _ (schema : Schema) (f g : Oref → Option Object) (v u : Expr → Action
   values_of_alike es = values_alike [] es
 
   node_alike : (e : Expr-F Expr) → Alike f g (value_at one v b e) (value_at other u d e)
-  node_alike (Expr-F.Int n line) = value f g (value.Int n)
+  node_alike (Expr-F.Literal n line) = value f g (literal_value n)
   node_alike (Expr-F.Null line) = value f g value.Null
   node_alike (Expr-F.This line) = tells f g (λ m. this_value m.this)
   node_alike (Expr-F.Field name) = field_value_alike schema f g name.text

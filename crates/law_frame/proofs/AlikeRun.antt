@@ -9,8 +9,9 @@ use Rattle.law_frame.proofs.AlikeSteps.{Agree, Alike, bind, gives, value, failin
 use Rattle.law_frame.proofs.AlikeObjects.{assign_field_alike}
 use Rattle.law_frame.proofs.AlikeCalls.{expression_alike}
 use Rattle.class_defs.specs.Run.{meaning, execute_all, begun}
+use Rattle.class_defs.specs.Kinds.{printed_as}
 use Rattle.class_defs.specs.Statements.{assign_local, block_of, branch, declare, holds, in_order, repeat, statement, statement_at, turn, unless_returned}
-use Rattle.class_defs.specs.Steps.{World, Action, step, ◌>>◌, pure, change, number}
+use Rattle.class_defs.specs.Steps.{World, Action, step, ◌>>◌, pure, change}
 use Rattle.class_defs.specs.Types.{type_named}
 use Rattle.class_defs.specs.declared.expressions.Expr.{Expr}
 use Rattle.class_defs.specs.declared.machine.Flow.{Flow}
@@ -81,7 +82,7 @@ module _ (schema : Schema) (f g : Oref → Option Object) (v u : Expr → Action
       bind f g _ _ _ _ (first_value condition) (λ t. branch_alike t _ _ _ _ (blocks then_block) (blocks otherwise))
   statement_at_alike (Stmt-F.While condition body) = repeat_alike 100001 condition body
   statement_at_alike (Stmt-F.Print e) =
-      bind f g _ _ _ _ (first_value e) (λ t. changes f g (λ m. record m { printed = m.printed ++ number t ∷ [] }) Next (λ m. record { reads = λ x k. k; writes = λ x k. k }) (λ m k. record { this = k.this; created = k.created }))
+      bind f g _ _ _ _ (first_value e) (λ t. changes f g (λ m. record m { printed = m.printed ++ printed_as t }) Next (λ m. record { reads = λ x k. k; writes = λ x k. k }) (λ m k. record { this = k.this; created = k.created }))
   statement_at_alike (Stmt-F.Evaluate e) = bind f g _ _ _ _ (first_value e) (λ t. value f g Next)
 
   pub statement_alike : (s : Stmt) → Alike f g (statement one v b s) (statement other u d s)

@@ -71,7 +71,7 @@ module _ (classes : List Class) (objects : Oref → Option Object) where
     by_layer : (y : Tf-F ((t : Tf) × IsSame t))
         → value_at (tf_step_on_line_1 (map-Tf Tf Tf tf_on_line_1 (trees y))) ≡ tf_step classes objects o (map-Tf Tf (Option Value) value_at (trees y))
     by_layer (Tf-F.Null line) = rolled (Tf-F.Null 1) (tf.Null 1) (tf.rolls-Null 1)
-    by_layer (Tf-F.Int n line) = rolled (Tf-F.Int n 1) (tf.Int n 1) (tf.rolls-Int n 1)
+    by_layer (Tf-F.Literal n line) = rolled (Tf-F.Literal n 1) (tf.Literal n 1) (tf.rolls-Literal n 1)
     by_layer (Tf-F.Path names line) = rolled (Tf-F.Path (map name_on_line_1 names) 1) (tf.Path (map name_on_line_1 names) 1) (tf.rolls-Path (map name_on_line_1 names) 1) ∙ path-aside (Some o) names
     by_layer (Tf-F.Parens inner line) = rolled (Tf-F.Parens (tf_on_line_1 inner.0) 1) (tf.Parens (tf_on_line_1 inner.0) 1) (tf.rolls-Parens (tf_on_line_1 inner.0) 1) ∙ inner.1
     by_layer (Tf-F.Negate operand line) =

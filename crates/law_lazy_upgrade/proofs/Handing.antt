@@ -35,6 +35,7 @@ pub record Given (old : List Class) (v : Object) (h : Option (Option ℕ)) (z : 
 fitted_ref : (d : ℕ) (z : Oref) (w : Option Value) → fitted_or_beginning (type.Class d) w ≡ value.Ref z → w ≡ Some (value.Ref z)
 fitted_ref d z (Some (value.Ref x)) h = ap Some h
 fitted_ref d z (Some (value.Int n)) h = cc
+fitted_ref d z (Some (value.Text n)) h = cc
 fitted_ref d z (Some value.Null) h = cc
 fitted_ref d z None h = cc
 
@@ -56,7 +57,7 @@ module _ (old : List Class) (objects : Oref → Option Object) (v : Object) (d :
       → fitted_or_beginning (type.Class d) (tf_step old objects v (map-Tf Tf (Option Value) (tf_value old objects v) y)) ≡ value.Ref z
       → Given old v (hands y) z
   by_layer (Tf-F.Null line) is h = cc
-  by_layer (Tf-F.Int n line) is h = absurd is
+  by_layer (Tf-F.Literal n line) is h = absurd is
   by_layer (Tf-F.Path names line) is h = by_path names is h
   by_layer (Tf-F.Parens inner line) is h = absurd is
   by_layer (Tf-F.Negate operand line) is h = absurd is

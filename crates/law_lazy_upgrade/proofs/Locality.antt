@@ -52,7 +52,7 @@ module _ (classes : List Class) (f g : Oref → Option Object) (v : Object)
       → tf_step classes f v (map-Tf Tf (Option Value) (tf_value classes f v) (map-Tf ((t : Tf) × IsAlike t) Tf (λ p. p.0) y))
       ≡ tf_step classes g v (map-Tf Tf (Option Value) (tf_value classes g v) (map-Tf ((t : Tf) × IsAlike t) Tf (λ p. p.0) y))
   by_layer (Tf-F.Null line) h = refl
-  by_layer (Tf-F.Int n line) h = refl
+  by_layer (Tf-F.Literal n line) h = refl
   by_layer (Tf-F.Path names line) h = paths names h
   by_layer (Tf-F.Parens inner line) h = inner.1 h
   by_layer (Tf-F.Negate operand line) h = ap (λ w. tf_step classes f v (Tf-F.Negate w line)) (operand.1 h)
@@ -94,6 +94,7 @@ module _ (classes : List Class) (v : Object) (d : ℕ) (z : Oref) where
       → part_class classes t ≡ Some d → Held classes v d z
   held_type i (Some (type.Class c)) t h e = held_class i c (is_part classes (type.Class c)) refl t h e
   held_type i (Some type.Int) t h e = cc
+  held_type i (Some type.Text) t h e = cc
   held_type i (Some type.Null) t h e = cc
   held_type i (Some type.Untold) t h e = cc
   held_type i None t h e = cc
@@ -185,6 +186,7 @@ module _ (s : Schemas) (e : ℕ) (keeps : AllKeepClasses s e) (m n : Objects) (P
         → path_value old ours (object_behind ours w) names ≡ path_value old theirs (object_behind theirs w) names
     by_value name names j y p rest q a is h (Some (value.Ref z)) f = by_class name names j y z p rest q a is f (part_held old p.class name) refl h
     by_value name names j y p rest q a is h (Some (value.Int i)) f = nothing_alike old ours theirs names
+    by_value name names j y p rest q a is h (Some (value.Text i)) f = nothing_alike old ours theirs names
     by_value name names j y p rest q a is h (Some value.Null) f = nothing_alike old ours theirs names
     by_value name names j y p rest q a is h None f = nothing_alike old ours theirs names
 

@@ -24,9 +24,15 @@ use Rattle.class_defs.specs.declared.upgrades.FieldUpgrade.{FieldUpgrade}
 
 fitted_twice : (t : ExprType) (w : Value) → fitted t (fitted t w) ≡ fitted t w
 fitted_twice type.Int (value.Int n) = refl
+fitted_twice type.Text (value.Int n) = refl
+fitted_twice type.Text (value.Text n) = refl
+fitted_twice type.Int (value.Text n) = refl
 fitted_twice type.Int (value.Ref x) = refl
+fitted_twice type.Text (value.Ref x) = refl
 fitted_twice type.Int value.Null = refl
+fitted_twice type.Text value.Null = refl
 fitted_twice (type.Class c) (value.Int n) = refl
+fitted_twice (type.Class c) (value.Text n) = refl
 fitted_twice (type.Class c) (value.Ref x) = refl
 fitted_twice (type.Class c) value.Null = refl
 fitted_twice type.Null w = refl
@@ -34,6 +40,7 @@ fitted_twice type.Untold w = refl
 
 fitted_beginning : (t : ExprType) → fitted t (fitted_or_beginning t None) ≡ fitted_or_beginning t None
 fitted_beginning type.Int = refl
+fitted_beginning type.Text = refl
 fitted_beginning (type.Class c) = refl
 fitted_beginning type.Null = refl
 fitted_beginning type.Untold = refl
@@ -46,9 +53,15 @@ fitted_then t None = fitted_beginning t
 fitted_class : (t : ExprType) (w : Option Value) (z : Oref) → fitted_or_beginning t w ≡ value.Ref z → (d : ℕ) × (t ≡ type.Class d)
 fitted_class (type.Class d) w z h = (d, refl)
 fitted_class type.Int (Some (value.Int n)) z h = cc
+fitted_class type.Text (Some (value.Int n)) z h = cc
+fitted_class type.Text (Some (value.Text n)) z h = cc
+fitted_class type.Int (Some (value.Text n)) z h = cc
 fitted_class type.Int (Some (value.Ref x)) z h = cc
+fitted_class type.Text (Some (value.Ref x)) z h = cc
 fitted_class type.Int (Some value.Null) z h = cc
+fitted_class type.Text (Some value.Null) z h = cc
 fitted_class type.Int None z h = cc
+fitted_class type.Text None z h = cc
 fitted_class type.Null (Some w) z h = cc
 fitted_class type.Null None z h = cc
 fitted_class type.Untold (Some w) z h = cc

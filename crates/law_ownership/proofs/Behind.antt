@@ -68,6 +68,7 @@ fields_count f classes (g ∷ gs) (u ∷ us) h = let e = fields_count f classes 
 reference_class : (f : Oref → Option Object) (t : ExprType) (z : Oref) → ValueFits f t (value_form.Ref z) → (d : ℕ) × (t ≡ type.Class d) × (class_of f z ≡ Some d)
 reference_class f (type.Class d) z h = (d, refl, h)
 reference_class f type.Int z h = absurd h
+reference_class f type.Text z h = absurd h
 reference_class f type.Null z h = absurd h
 reference_class f type.Untold z h = absurd h
 

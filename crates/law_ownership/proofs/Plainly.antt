@@ -10,7 +10,7 @@ use Rattle.class_defs.specs.Run.{Ran, begun, execute_all, ran_by, run, takes, wo
 use Rattle.class_defs.specs.SchemaRules.{schema_rules}
 use Rattle.class_defs.specs.Steps.{fitted}
 use Rattle.class_defs.specs.Stored.{Stored, all_written, in_epoch}
-use Rattle.class_defs.specs.Types.{IsDeclared, class_named, class_or_untold, fields_of, type_named}
+use Rattle.class_defs.specs.Types.{IsDeclared, class_named, fields_of, type_named, class_or_word}
 use Rattle.class_defs.specs.WellOwned.{IsOfItsClass, IsWellOwned}
 use Rattle.class_defs.specs.declared.classes.Class.{Class}
 use Rattle.class_defs.specs.declared.classes.Field.{Field}
@@ -57,9 +57,15 @@ some_and (Some x) P h = (x, refl, h)
 -- a value of its kind, whose reference is to an object of the class
 value_fits : (f : Oref → Option Object) (t : ExprType) (w : Value) → IsDeclared t → fitted t w ≡ w → ((d : ℕ) (z : Oref) → t ≡ type.Class d → w ≡ value_form.Ref z → class_of f z ≡ Some d) → ValueFits f t w
 value_fits f type.Int (value_form.Int n) told is refers = tt
+value_fits f type.Text (value_form.Int n) told is refers = cc
+value_fits f type.Text (value_form.Text n) told is refers = tt
+value_fits f type.Int (value_form.Text n) told is refers = cc
 value_fits f type.Int (value_form.Ref x) told is refers = cc
+value_fits f type.Text (value_form.Ref x) told is refers = cc
 value_fits f type.Int value_form.Null told is refers = cc
+value_fits f type.Text value_form.Null told is refers = cc
 value_fits f (type.Class c) (value_form.Int n) told is refers = cc
+value_fits f (type.Class c) (value_form.Text n) told is refers = cc
 value_fits f (type.Class c) (value_form.Ref x) told is refers = refers c x refl refl
 value_fits f (type.Class c) value_form.Null told is refers = tt
 value_fits f type.Null w told is refers = absurd told
@@ -171,7 +177,7 @@ module _ (s : Schemas) (N : Stored) (schema : Schema) (repos : ℕ) (epoch : sch
       let i : ℕ = k.0.0 in
       let q : Root = k.0.1 in
       let found = some_and (get (all_written (eager s N)).objects q.oref) (λ o. o.class ≡ q.class) (whole-owned.roots i q k.0.2).1 in
-      (subst (λ o. ValueFits F (class_or_untold o) (value_form.Ref d.oref)) (sym k.0.4) (subst (λ x. class_of F x ≡ Some q.class) k.0.3 (class_there (F q.oref) found.0 q.class (sym (all_at q.oref) ∙ found.1) found.2)), roots_fit ds k.1)
+      (subst (λ o. ValueFits F (class_or_word d.class.text o) (value_form.Ref d.oref)) (sym k.0.4) (subst (λ x. class_of F x ≡ Some q.class) k.0.3 (class_there (F q.oref) found.0 q.class (sym (all_at q.oref) ∙ found.1) found.2)), roots_fit ds k.1)
     where
       class_there : (o : Option Object) (p : Obj) (c : ℕ) → option_map (in_epoch N.epoch) o ≡ Some p → p.class ≡ c → option_map (λ (q : Object). q.class) o ≡ Some c
       class_there None p c e g = cc

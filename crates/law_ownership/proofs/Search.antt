@@ -42,10 +42,12 @@ module _ (s : Schemas) (m : Objects) (z : Oref) where
   abbrev owns_by : Option Value → Option ExprType → Bool
   owns_by (Some (value.Ref y)) (Some (type.Class d)) = same_oref y z && is_part (classes_of s 0) (type.Class d)
   owns_by (Some (value.Ref y)) (Some type.Int) = false
+  owns_by (Some (value.Ref y)) (Some type.Text) = false
   owns_by (Some (value.Ref y)) (Some type.Null) = false
   owns_by (Some (value.Ref y)) (Some type.Untold) = false
   owns_by (Some (value.Ref y)) None = false
   owns_by (Some (value.Int n)) t = false
+  owns_by (Some (value.Text n)) t = false
   owns_by (Some value.Null) t = false
   owns_by None t = false
 
@@ -57,10 +59,12 @@ module _ (s : Schemas) (m : Objects) (z : Oref) where
       let p = and_parts (same_oref y z) _ h in
       record { class = d; part = p.1; reference = record { object = o; stored = at; refers = record { declared = t; names = v ∙ ap (λ (x : Oref). Some (value.Ref x)) (one_name y z true p.0 refl) } } }
   found_by a o i at (Some (value.Ref y)) (Some type.Int) v t h = cc
+  found_by a o i at (Some (value.Ref y)) (Some type.Text) v t h = cc
   found_by a o i at (Some (value.Ref y)) (Some type.Null) v t h = cc
   found_by a o i at (Some (value.Ref y)) (Some type.Untold) v t h = cc
   found_by a o i at (Some (value.Ref y)) None v t h = cc
   found_by a o i at (Some (value.Int n)) t v e h = cc
+  found_by a o i at (Some (value.Text n)) t v e h = cc
   found_by a o i at (Some value.Null) t v e h = cc
   found_by a o i at None t v e h = cc
 

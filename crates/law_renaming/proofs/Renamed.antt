@@ -180,13 +180,20 @@ module _ (fresh : Oref → Bool) where
 
   pub value_later : (t u : Time) → Later t u → (a b : Value) → Values t a b → Values u a b
   value_later t u f (value.Int a) (value.Int b) h = h
+  value_later t u f (value.Text a) (value.Text b) h = h
+  value_later t u f (value.Int a) (value.Text b) h = absurd h
+  value_later t u f (value.Text a) (value.Int b) h = absurd h
   value_later t u f (value.Ref x) (value.Ref y) h = f x y h
   value_later t u f value.Null value.Null h = tt
   value_later t u f (value.Int a) (value.Ref y) h = absurd h
+  value_later t u f (value.Text a) (value.Ref y) h = absurd h
   value_later t u f (value.Int a) value.Null h = absurd h
+  value_later t u f (value.Text a) value.Null h = absurd h
   value_later t u f (value.Ref x) (value.Int b) h = absurd h
+  value_later t u f (value.Ref x) (value.Text b) h = absurd h
   value_later t u f (value.Ref x) value.Null h = absurd h
   value_later t u f value.Null (value.Int b) h = absurd h
+  value_later t u f value.Null (value.Text b) h = absurd h
   value_later t u f value.Null (value.Ref y) h = absurd h
 
   pub values_later : (t u : Time) → Later t u → (vs us : List Value) → AllZip (Values t) vs us → AllZip (Values u) vs us

@@ -66,6 +66,7 @@ module _ (fresh others : Oref → Bool) (fewer : (x : Oref) → others x ≡ tru
 
   old_value : (v : Value) → IsOld fresh v → IsOld others v
   old_value (value.Int n) h = tt
+  old_value (value.Text n) h = tt
   old_value (value.Ref x) h = stays_old x h
   old_value value.Null h = tt
 
@@ -85,6 +86,7 @@ module _ (fresh others : Oref → Bool) (fewer : (x : Oref) → others x ≡ tru
 
     known_value : (v u : Value) → Values fresh t v u → IsOld others v
     known_value (value.Int a) (value.Int b) h = tt
+    known_value (value.Text a) (value.Text b) h = tt
     known_value (value.Ref x) (value.Ref y) h = known_name x y h
     known_value value.Null value.Null h = tt
     known_value v u h = absurd h

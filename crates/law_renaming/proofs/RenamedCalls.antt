@@ -1,6 +1,6 @@
 -- That calls and expressions go the same way in runs whose new objects take other names, where their parts and the
 -- bodies of methods do.
-use Rattle.std.proofs.Common.{◌≡◌, Bool, true, false, cond, List, [], ◌∷◌, ◌++◌, Option, Some, None, Result, Ok, Err, refl, ap, sym, ◌∙◌, ℕ, ℤ, pos, slice_get}
+use Rattle.std.proofs.Common.{◌≡◌, Bool, true, false, cond, List, [], ◌∷◌, ◌++◌, Option, Some, None, Result, Ok, Err, refl, ap, sym, ◌∙◌, ℕ, ℤ, pos, length, map, slice_get}
 use Rattle.std.proofs.lemmas.List.Elements.{AllZip-push}
 use Rattle.std.specs.Int.{int_wrapping_sub, w64}
 use Rattle.std.specs.List.{AllZip}
@@ -15,7 +15,11 @@ use Rattle.law_renaming.proofs.Renamed.{Both, Locals, Names, Receivers, Time, La
 use Rattle.law_renaming.proofs.RenamedMachines.{Setting, Twins, now, Went, Alike, Nothing, on, bind, gives, fails, settled, tells, steps, same_scope, same_named}
 use Rattle.law_renaming.proofs.RenamedObjects.{Numbers, touch_same, begins_same, field_value_same, create_same}
 use Rattle.class_defs.specs.Calls.{owners_at, owners_by_kind, bound, bound_from, result_of, run_body, enter, enter_as, call_object, call}
+use Rattle.std.specs.Str.{bytes_eq}
+use Rattle.class_defs.specs.declared.literals.Literal.{Literal}
+use Rattle.class_defs.specs.declared.literals.Literal.TheVariants as literal
 use Rattle.class_defs.specs.Expressions.{same_value, this_value, values_from, values_of, called, value_at, expression, combined}
+use Rattle.class_defs.specs.Kinds.{literal_value, printed_as}
 use Rattle.class_defs.specs.Objects.{touch, scope_at, named_value, field_value}
 use Rattle.law_renaming.specs.Renaming.{SameFlow}
 use Rattle.class_defs.specs.Steps.{Action, step, number, beginning, ◌>>=◌}
@@ -51,32 +55,57 @@ module _ (s : Setting) where
 
   pub same_number : (t : Time) (a b : Value) → Values s.fresh t a b → number a ≡ number b
   same_number t (value.Int a) (value.Int b) h = h
+  same_number t (value.Text a) (value.Text b) h = refl
   same_number t (value.Ref x) (value.Ref y) h = refl
   same_number t value.Null value.Null h = refl
   same_number t a b h = absurd h
+
+  -- so is what printing them adds
+  pub same_printed : (t : Time) (a b : Value) → Values s.fresh t a b → printed_as a ≡ printed_as b
+  same_printed t (value.Int a) (value.Int b) h = ap (λ n. n ∷ []) h
+  same_printed t (value.Text a) (value.Text b) h = ap (λ w. pos (length w) ∷ map pos w) h
+  same_printed t (value.Ref x) (value.Ref y) h = refl
+  same_printed t value.Null value.Null h = refl
+  same_printed t a b h = absurd h
+
+  -- a literal is the same in both
+  literal_same : (t : Time) (l : Literal) → Values s.fresh t (literal_value l) (literal_value l)
+  literal_same t (literal.Int n) = refl
+  literal_same t (literal.Text w) = refl
 
   -- names that mean the same object are equal in the one where they are in the other
   module _ (t : Time) (one_one : (x y a b : Oref) → Names s.fresh t x y → Names s.fresh t a b → same_oref x a ≡ same_oref y b) where
     int_equal : (n : ℤ) (a b : Value) → Values s.fresh t a b → same_value (value.Int n) a ≡ same_value (value.Int n) b
     int_equal n (value.Int a) (value.Int b) h = ap (int_eq n) h
+    int_equal n (value.Text a) (value.Text b) h = refl
     int_equal n (value.Ref x) (value.Ref y) h = refl
     int_equal n value.Null value.Null h = refl
     int_equal n a b h = absurd h
 
     ref_equal : (x y : Oref) (a b : Value) → Names s.fresh t x y → Values s.fresh t a b → same_value (value.Ref x) a ≡ same_value (value.Ref y) b
     ref_equal x y (value.Int a) (value.Int b) i h = refl
+    ref_equal x y (value.Text a) (value.Text b) i h = refl
     ref_equal x y (value.Ref c) (value.Ref d) i h = one_one x y c d i h
     ref_equal x y value.Null value.Null i h = refl
     ref_equal x y a b i h = absurd h
 
     null_equal : (a b : Value) → Values s.fresh t a b → same_value value.Null a ≡ same_value value.Null b
     null_equal (value.Int a) (value.Int b) h = refl
+    null_equal (value.Text a) (value.Text b) h = refl
     null_equal (value.Ref c) (value.Ref d) h = refl
     null_equal value.Null value.Null h = refl
     null_equal a b h = absurd h
 
+    text_equal : (w : List ℕ) (a b : Value) → Values s.fresh t a b → same_value (value.Text w) a ≡ same_value (value.Text w) b
+    text_equal w (value.Int a) (value.Int b) h = refl
+    text_equal w (value.Text a) (value.Text b) h = ap (bytes_eq w) h
+    text_equal w (value.Ref x) (value.Ref y) h = refl
+    text_equal w value.Null value.Null h = refl
+    text_equal w a b h = absurd h
+
     equal : (a b c d : Value) → Values s.fresh t a b → Values s.fresh t c d → same_value a c ≡ same_value b d
     equal (value.Int a) (value.Int b) c d h i = ap (λ n. same_value (value.Int n) c) h ∙ int_equal b c d i
+    equal (value.Text a) (value.Text b) c d h i = ap (λ w. same_value (value.Text w) c) h ∙ text_equal b c d i
     equal (value.Ref x) (value.Ref y) c d h i = ref_equal x y c d h i
     equal value.Null value.Null c d h i = null_equal c d i
     equal a b c d h i = absurd h
@@ -244,8 +273,10 @@ module _ (s : Setting) where
     unfolding call
     call_same (type.Class c) (value.Ref x) (value.Ref y) name vs us m n tw h vals = call_object_same c x y name vs us m n tw h vals
     call_same (type.Class c) (value.Int x) (value.Int y) name vs us m n tw h vals = no_object m n tw
+    call_same (type.Class c) (value.Text x) (value.Text y) name vs us m n tw h vals = no_object m n tw
     call_same (type.Class c) value.Null value.Null name vs us m n tw h vals = no_object m n tw
     call_same type.Int r q name vs us m n tw h vals = no_object m n tw
+    call_same type.Text r q name vs us m n tw h vals = no_object m n tw
     call_same type.Null r q name vs us m n tw h vals = no_object m n tw
     call_same type.Untold r q name vs us m n tw h vals = no_object m n tw
     call_same k r q name vs us m n tw h vals = absurd h
@@ -283,7 +314,7 @@ module _ (s : Setting) where
         rw e (calls_same (type_of (scope_at s.world.schema m) receiver) t receiver method arguments m n lt tw)
 
     node_same : (t : Time) (e : Expr-F Expr) → Alike s (Values s.fresh) t (value_at s.world v b e) (value_at s.world v b e)
-    node_same t (Expr-F.Int n line) = settled s (Values s.fresh) t (value.Int n) (value.Int n) (λ u lt. refl)
+    node_same t (Expr-F.Literal n line) = settled s (Values s.fresh) t (literal_value n) (literal_value n) (λ u lt. literal_same u n)
     node_same t (Expr-F.Null line) = settled s (Values s.fresh) t value.Null value.Null (λ u lt. tt)
     node_same t (Expr-F.This line) = tells s (Values s.fresh) t (λ m. this_value m.this) (λ m n tw. this_value_same (now s m n) m.this n.this tw.this)
     node_same t (Expr-F.Field name) = tells s (Values s.fresh) t (λ m. field_value s.world m name.text)

@@ -52,6 +52,7 @@ module _ (w : World) (fresh : Oref → Bool) (unused : Unused fresh w) where
 
   old_itself : (v : Value) → IsOld fresh v → Values fresh none v v
   old_itself (value.Int n) h = refl
+  old_itself (value.Text n) h = refl
   old_itself (value.Ref x) h = inl (h, refl)
   old_itself value.Null h = tt
 

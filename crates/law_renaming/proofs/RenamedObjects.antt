@@ -126,15 +126,22 @@ module _ (s : Setting) where
 
   pub begins_same : (t : Time) (k : ExprType) → Values s.fresh t (beginning k) (beginning k)
   begins_same t type.Int = refl
+  begins_same t type.Text = refl
   begins_same t type.Null = tt
   begins_same t (type.Class c) = tt
   begins_same t type.Untold = tt
 
   fitted_same : (t : Time) (k : ExprType) (v u : Value) → Values s.fresh t v u → Values s.fresh t (fitted k v) (fitted k u)
   fitted_same t type.Int (value.Int a) (value.Int b) h = h
+  fitted_same t type.Int (value.Text a) (value.Text b) h = refl
+  fitted_same t type.Text (value.Int a) (value.Int b) h = refl
+  fitted_same t type.Text (value.Text a) (value.Text b) h = h
   fitted_same t type.Int (value.Ref x) (value.Ref y) h = refl
+  fitted_same t type.Text (value.Ref x) (value.Ref y) h = refl
   fitted_same t type.Int value.Null value.Null h = refl
+  fitted_same t type.Text value.Null value.Null h = refl
   fitted_same t (type.Class c) (value.Int a) (value.Int b) h = tt
+  fitted_same t (type.Class c) (value.Text a) (value.Text b) h = tt
   fitted_same t (type.Class c) (value.Ref x) (value.Ref y) h = h
   fitted_same t (type.Class c) value.Null value.Null h = tt
   fitted_same t type.Null v u h = tt

@@ -8,11 +8,12 @@ use Rattle.std.specs.Str.{bytes_eq}
 use Rattle.thor_value.specs.declared.values.Fault.TheVariants as fault
 use Rattle.thor_value.specs.declared.values.Value.{Value}
 use Rattle.law_renaming.proofs.Renamed.{Both, Locals, Time, Later, Values, each_at, each_front, each_placed, each_set, value_later}
-use Rattle.law_renaming.proofs.RenamedCalls.{Flows, same_number, expression_same}
+use Rattle.law_renaming.proofs.RenamedCalls.{Flows, same_number, same_printed, expression_same}
 use Rattle.law_renaming.proofs.RenamedMachines.{Setting, Twins, now, Went, Alike, Nothing, on, bind, gives, settled, failing, steps}
 use Rattle.law_renaming.proofs.RenamedObjects.{assign_field_same}
 use Rattle.class_defs.specs.Run.{meaning, execute_all}
 use Rattle.class_defs.specs.Statements.{assign_local, assigned, assigned_at, block_of, branch, declare, holds, in_order, repeat, statement, statement_at, turn, unless_returned, with_value}
+use Rattle.class_defs.specs.Kinds.{printed_as}
 use Rattle.class_defs.specs.Steps.{Action, step, ◌>>=◌, ◌>>◌, pure, change, number}
 use Rattle.class_defs.specs.Types.{type_named}
 use Rattle.class_defs.specs.declared.expressions.Expr.{Expr}
@@ -144,11 +145,11 @@ module _ (s : Setting) where
         (λ u lt a d i. λ m n later tw. h m n a d tw (value_later s.fresh u (now s m n) later a d i))
 
     printed_twins : (m n : Machine) (a d : Value) → Twins s m n → Values s.fresh (now s m n) a d
-        → Twins s (record m { printed = m.printed ++ number a ∷ [] }) (record n { printed = n.printed ++ number d ∷ [] })
+        → Twins s (record m { printed = m.printed ++ printed_as a }) (record n { printed = n.printed ++ printed_as d })
     printed_twins m n a d tw h = record {
       steps = tw.steps;
       depth = tw.depth;
-      printed = rw (tw.printed, same_number s (now s m n) a d h) refl;
+      printed = rw (tw.printed, same_printed s (now s m n) a d h) refl;
       reads = tw.reads;
       this = tw.this;
       locals = tw.locals;
@@ -180,7 +181,7 @@ module _ (s : Setting) where
         branch_same u a d _ _ h (blocks u then_block) (blocks u otherwise))
     statement_at_same t (Stmt-F.While condition body) = repeat_same 100001 condition body t
     statement_at_same t (Stmt-F.Print e) =
-        changed_by t e (λ a. λ m. record m { printed = m.printed ++ number a ∷ [] }) (λ m n a d tw h.
+        changed_by t e (λ a. λ m. record m { printed = m.printed ++ printed_as a }) (λ m n a d tw h.
         gives s (Flows s) m n _ _ Next Next (λ x y i. i) (printed_twins m n a d tw h) tt)
     statement_at_same t (Stmt-F.Evaluate e) =
         bind s (Values s.fresh) (Flows s) t (step >> v e) (step >> v e) _ _ (first_value t e)

@@ -26,6 +26,7 @@ abbrev pub IsOld : (Oref → Bool) → Value → Type 0
 IsOld fresh (value.Int n) = Unit {0}
 IsOld fresh (value.Ref x) = fresh x ≡ false
 IsOld fresh value.Null = Unit {0}
+IsOld fresh (value.Text w) = Unit {0}
 
 -- No root and no object at hand refers to a fresh name; and the stand-in names are fresh.
 pub record Unused (fresh : Oref → Bool) (w : World) : Type 0 where
@@ -70,12 +71,19 @@ module _ (fresh : Oref → Bool) (created others : List Oref) where
   SameValue (value.Int a) (value.Int b) = a ≡ b
   SameValue (value.Ref x) (value.Ref y) = SameName x y
   SameValue value.Null value.Null = Unit {0}
+  SameValue (value.Text w) (value.Text t) = w ≡ t
   SameValue (value.Int a) (value.Ref y) = ⊥
   SameValue (value.Int a) value.Null = ⊥
+  SameValue (value.Int a) (value.Text t) = ⊥
   SameValue (value.Ref x) (value.Int b) = ⊥
   SameValue (value.Ref x) value.Null = ⊥
+  SameValue (value.Ref x) (value.Text t) = ⊥
   SameValue value.Null (value.Int b) = ⊥
   SameValue value.Null (value.Ref y) = ⊥
+  SameValue value.Null (value.Text t) = ⊥
+  SameValue (value.Text w) (value.Int b) = ⊥
+  SameValue (value.Text w) (value.Ref y) = ⊥
+  SameValue (value.Text w) value.Null = ⊥
 
   -- so are the objects, where there are any
   abbrev pub SameObject : Option Object → Option Object → Type 0

@@ -10,7 +10,7 @@ use Rattle.class_defs.proofs.ActionWords.{over}
 use Rattle.law_type_soundness.proofs.FitActions.{Entered, touch_goes, field_goes, create_goes}
 use Rattle.law_type_soundness.proofs.FitArguments.{ValuesFit, values_keep, one_more_fits, ArgumentsFit, arguments_keep, kinds, Unbroken, unbroken, arguments_fit, bound_fits}
 use Rattle.law_type_soundness.proofs.FitKinds.{judged_out, kind_is, scope_is, named_there}
-use Rattle.law_type_soundness.proofs.FitObjects.{begins, one_number}
+use Rattle.law_type_soundness.proofs.FitObjects.{begins, literal_fits, one_number}
 use Rattle.class_defs.proofs.KeptRules.{ClassSound, MethodSound, method_sound, nothing, held, found, there, free_is_type, type_told}
 use Rattle.law_type_soundness.proofs.FitSteps.{Went, on, gives, value as good_value, faults, choose, where_so, steps, Fits}
 use Rattle.law_type_soundness.proofs.FitStrict.{same_number, is_of_so, number_so, operands_so, arguments_so}
@@ -24,6 +24,7 @@ use Rattle.class_defs.specs.Objects.{seen, touch, scope_at, named_value, field_v
 use Rattle.class_defs.specs.Rules.{Sight, must, is_class, is_part, scope_of, type_in_sight}
 use Rattle.class_defs.specs.SchemaRules.{in_method, method_rules, parameter_named}
 use Rattle.class_defs.specs.StatementRules.{block_rules}
+use Rattle.class_defs.specs.Kinds.{literal_type, literal_value}
 use Rattle.class_defs.specs.Steps.{World, Action, after, step}
 use Rattle.law_type_soundness.specs.Strict.{Sure, onward, only_if, is_of, is_int, are_operands, takes_arguments, reads_name, reads_field, strict_body, strict_enter, strict_object, strict_call, strict_values_from, strict_value_at, strict_expression}
 use Rattle.class_defs.specs.declared.classes.Class.{Class}
@@ -249,7 +250,9 @@ module _ (schema : Schema) (repos : ℕ) (sound : (c : ℕ) (d : Class) → slic
         (takes_so c name.text us m (ready c name es us m ok fit))
         (faults w (Valued (result_type schema.classes (type.Class c) name.text)) m fault.NullCall)
     call_goes (type.Class c) (value.Int n) name es us m ok is fit h = absurd is
+    call_goes (type.Class c) (value.Text n) name es us m ok is fit h = absurd is
     call_goes type.Int a name es us m ok is fit h = absurd (true≢false (sym (held false T2 name.line ok.called)))
+    call_goes type.Text a name es us m ok is fit h = absurd (true≢false (sym (held false T2 name.line ok.called)))
     call_goes type.Null a name es us m ok is fit h = absurd (true≢false (sym (held false T2 name.line ok.called)))
     call_goes type.Untold a name es us m ok is fit h = absurd is
 
@@ -351,7 +354,7 @@ module _ (schema : Schema) (repos : ℕ) (sound : (c : ℕ) (d : Class) → slic
 
     node_goes : (x : Expr-F Expr) (place : Position) (m : Machine) → broken_at s (map-Expr Expr Judged (judged s) x) place ≡ [] → MachineFits w s m
         → Went w Value (Valued (node_kind x)) m (value_at w v b x m).0 (value_at w v b x m).1 (strict_value_at w u d x m)
-    node_goes (Expr-F.Int n line) place m ok h = good_value w (Valued type.Int) m (value.Int n) (h, tt)
+    node_goes (Expr-F.Literal n line) place m ok h = good_value w (Valued (literal_type n)) m (literal_value n) (h, literal_fits _ n)
     node_goes (Expr-F.Null line) place m ok h = good_value w (Valued type.Null) m value.Null (h, tt)
     node_goes (Expr-F.This line) place m ok h =
         let is = held _ _ _ (nothing (must (is_some t) T2 line) _ ok).0 in

@@ -15,7 +15,7 @@ use Rattle.class_defs.specs.Objects as run
 use Rattle.class_defs.specs.Rules.{Sight, scope_of}
 use Rattle.class_defs.specs.Rules as rules
 use Rattle.law_type_soundness.specs.Strict.{value_named}
-use Rattle.class_defs.specs.Types.{class_named, class_or_untold, type_of, type_step}
+use Rattle.class_defs.specs.Types.{type_named, type_of, type_step}
 use Rattle.class_defs.specs.declared.classes.Class.{Class}
 use Rattle.class_defs.specs.declared.expressions.Expr.{Expr, out-Expr, map-Expr, roll-Expr}
 use Rattle.class_defs.specs.declared.expressions.Expr.TheFolds.{fold_out-Expr, fold-roll-Expr, ind-Expr}
@@ -29,6 +29,7 @@ use Rattle.class_defs.specs.declared.store.RootDeclaration.{RootDeclaration}
 use Rattle.class_defs.specs.declared.store.Schema.{Schema}
 use Rattle.class_defs.specs.declared.types.ExprType.{ExprType}
 use Rattle.class_defs.specs.declared.types.ExprType.TheVariants as type
+use Rattle.class_defs.specs.declared.expressions.TypeName.TheVariants as type_name
 
 -- ---- the type of an expression
 
@@ -46,7 +47,7 @@ module _ (s : Sight) where
   same_step : (y : Expr-F ((e : Expr) × Same e))
       → type_step (scope_of s) (kinds_at (map-Expr Expr Judged (judged s) (bare y))) ≡ type_step (scope_of s)
       (map-Expr Expr ExprType (type_of (scope_of s)) (bare y))
-  same_step (Expr-F.Int value line) = refl
+  same_step (Expr-F.Literal value line) = refl
   same_step (Expr-F.Null line) = refl
   same_step (Expr-F.This line) = refl
   same_step (Expr-F.Field name) = refl
@@ -118,7 +119,7 @@ module _ (objects : Oref → Option Object) where
       ap₂ (λ (t : Option ℕ) (n : List ℕ → Option ExprType). record { classes = s.schema.classes; this = t; named = n })
       (class_alike s.this m.this this)
       (fun_ext (λ name. ap₂ (λ (o p : Option ExprType). first_of o p) (kinds_alike name s.locals m.locals locals)
-      (ap (λ (rs : List RootDeclaration). option_map (λ r. class_or_untold (class_named s.schema.classes r.class.text))
+      (ap (λ (rs : List RootDeclaration). option_map (λ r. type_named s.schema.classes (type_name.Class r.class))
       (find (λ r. bytes_eq r.name.text name) rs)) (roots_alike s.schema s.this m.this this))))
 
   -- ---- the values of names
@@ -147,7 +148,7 @@ module _ (objects : Oref → Option Object) where
   local_fits name (n ∷ ns) (l ∷ ls) h = either_named _ _ n l _ _ (ap (λ t. bytes_eq t name) (sym h.0.name)) h.0 (local_fits name ns ls h.1)
 
   abbrev root_kind : List Class → RootDeclaration → ExprType
-  root_kind classes r = class_or_untold (class_named classes r.class.text)
+  root_kind classes r = type_named classes (type_name.Class r.class)
 
   abbrev root_value : RootDeclaration → Value
   root_value r = value.Ref r.oref

@@ -12,7 +12,10 @@ use Rattle.law_type_soundness.proofs.FitValues.{field_there}
 use Rattle.class_defs.specs.Types.{IsDeclared, field_named, field_of, fields_of, type_named}
 use Rattle.law_type_soundness.specs.Fits.{class_of, ValueFits, FieldsFit, ObjectFits, ObjectsFit}
 use Rattle.class_defs.specs.Rules.{fits, is_type}
+use Rattle.class_defs.specs.Kinds.{literal_type, literal_value}
 use Rattle.class_defs.specs.Steps.{beginning, fitted}
+use Rattle.class_defs.specs.declared.literals.Literal.{Literal}
+use Rattle.class_defs.specs.declared.literals.Literal.TheVariants as literal
 use Rattle.class_defs.specs.declared.classes.Class.{Class}
 use Rattle.class_defs.specs.declared.classes.Field.{Field}
 use Rattle.class_defs.specs.declared.store.Object.{Object}
@@ -24,25 +27,39 @@ use Rattle.class_defs.specs.declared.types.ExprType.TheVariants as type
 
 pub begins : (f : Oref → Option Object) (t : ExprType) → IsDeclared t → ValueFits f t (beginning t)
 begins f type.Int h = tt
+begins f type.Text h = tt
 begins f type.Null h = absurd h
 begins f (type.Class c) h = tt
 begins f type.Untold h = absurd h
 
+-- what a literal is, is of its type
+pub literal_fits : (f : Oref → Option Object) (l : Literal) → ValueFits f (literal_type l) (literal_value l)
+literal_fits f (literal.Int n) = tt
+literal_fits f (literal.Text w) = tt
+
 -- a value of the type counts as itself
 pub fitted_is : (f : Oref → Option Object) (t : ExprType) (v : Value) → ValueFits f t v → fitted t v ≡ v
 fitted_is f type.Int (value.Int n) h = refl
+fitted_is f type.Text (value.Int n) h = absurd h
+fitted_is f type.Text (value.Text n) h = refl
+fitted_is f type.Int (value.Text n) h = absurd h
 fitted_is f type.Int (value.Ref x) h = absurd h
+fitted_is f type.Text (value.Ref x) h = absurd h
 fitted_is f type.Int value.Null h = absurd h
+fitted_is f type.Text value.Null h = absurd h
 fitted_is f type.Null (value.Int n) h = absurd h
+fitted_is f type.Null (value.Text n) h = absurd h
 fitted_is f type.Null (value.Ref x) h = absurd h
 fitted_is f type.Null value.Null h = refl
 fitted_is f (type.Class c) (value.Int n) h = absurd h
+fitted_is f (type.Class c) (value.Text n) h = absurd h
 fitted_is f (type.Class c) (value.Ref x) h = refl
 fitted_is f (type.Class c) value.Null h = refl
 fitted_is f type.Untold v h = absurd h
 
 pub null_suits : (f : Oref → Option Object) (c : ℕ) (v : Value) → ValueFits f type.Null v → ValueFits f (type.Class c) v
 null_suits f c (value.Int n) h = absurd h
+null_suits f c (value.Text n) h = absurd h
 null_suits f c (value.Ref x) h = absurd h
 null_suits f c value.Null h = tt
 
@@ -53,10 +70,17 @@ one_number c d h = grind (arith, nat_tests)
 pub value_suits : (f : Oref → Option Object) (kind given : ExprType) (v : Value) → IsDeclared kind → fits kind given ≡ true → ValueFits f given v
     → ValueFits f kind v
 value_suits f type.Int type.Int v d h fit = fit
+value_suits f type.Int type.Text v d h fit = cc
+value_suits f type.Text type.Int v d h fit = cc
+value_suits f type.Text type.Text v d h fit = fit
 value_suits f type.Int type.Null v d h fit = cc
+value_suits f type.Text type.Null v d h fit = cc
 value_suits f type.Int (type.Class e) v d h fit = cc
+value_suits f type.Text (type.Class e) v d h fit = cc
 value_suits f type.Int type.Untold v d h fit = absurd fit
+value_suits f type.Text type.Untold v d h fit = absurd fit
 value_suits f (type.Class c) type.Int v d h fit = cc
+value_suits f (type.Class c) type.Text v d h fit = cc
 value_suits f (type.Class c) type.Null v d h fit = null_suits f c v fit
 value_suits f (type.Class c) (type.Class e) v d h fit = subst (λ k. ValueFits f (type.Class k) v) (one_number c e h) fit
 value_suits f (type.Class c) type.Untold v d h fit = absurd fit

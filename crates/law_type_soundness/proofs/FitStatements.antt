@@ -14,17 +14,18 @@ use Rattle.law_type_soundness.proofs.FitNames.{placed}
 use Rattle.law_type_soundness.proofs.FitObjects.{value_suits}
 use Rattle.class_defs.proofs.KeptRules.{ClassSound, nothing, held, place_found, free_is_type, type_told}
 use Rattle.law_type_soundness.proofs.FitSteps.{Went, on, gives, value as good_value, faults, weaker, where_so, steps, Fits}
-use Rattle.law_type_soundness.proofs.FitStrict.{is_of_so, number_so}
+use Rattle.law_type_soundness.proofs.FitStrict.{is_of_so, number_so, printable_so}
 use Rattle.law_type_soundness.proofs.FitValues.{locals_keep}
-use Rattle.class_defs.specs.ExpressionRules.{judged, is_number, line_of}
+use Rattle.class_defs.specs.ExpressionRules.{judged, is_number, is_printable, line_of}
+use Rattle.class_defs.specs.Kinds.{printed_as}
 use Rattle.class_defs.specs.Types.{IsDeclared, field_of, field_type, type_named}
 use Rattle.law_type_soundness.specs.Fits.{ValueFits, LocalFits, LocalsFit, MachineFits, FlowFits}
 use Rattle.class_defs.specs.Objects.{seen, assign_field}
 use Rattle.class_defs.specs.Rules.{Sight, fits, is_free_type, is_part, local_named, must, root_named, scope_of}
 use Rattle.class_defs.specs.StatementRules.{Ruled, ruled, rule_step, broken_at, declares_at, in_turn, block_rules, assigned_fits, gives_part, must_be_number, place_for}
 use Rattle.class_defs.specs.Statements.{assign_local, assigned, assigned_at, block_of, declare, holds, in_order, repeat, statement, statement_at, unless_returned, with_value}
-use Rattle.class_defs.specs.Steps.{World, Action, step, ◌>>◌, ◌>>=◌, pure, number}
-use Rattle.law_type_soundness.specs.Strict.{Sure, onward, only_if, is_of, is_int, writes_field, writes_local, strict_block, strict_in_order, strict_repeat, strict_statement, strict_statement_at, strict_unless_returned}
+use Rattle.class_defs.specs.Steps.{World, Action, step, ◌>>◌, ◌>>=◌, pure}
+use Rattle.law_type_soundness.specs.Strict.{Sure, onward, only_if, is_of, is_int, is_text, writes_field, writes_local, strict_block, strict_in_order, strict_repeat, strict_statement, strict_statement_at, strict_unless_returned}
 use Rattle.class_defs.specs.declared.classes.Class.{Class}
 use Rattle.class_defs.specs.declared.expressions.Expr.{Expr, out-Expr}
 use Rattle.class_defs.specs.declared.expressions.Name.{Name}
@@ -335,13 +336,13 @@ module _ (schema : Schema) (repos : ℕ) (sound : (c : ℕ) (d : Class) → slic
         })))
 
     abbrev printed : Value → Machine → Machine
-    printed a m = record m { printed = m.printed ++ number a ∷ [] }
+    printed a m = record m { printed = m.printed ++ printed_as a }
 
-    printed_goes : (a : Value) (n : Machine) → is_int a ≡ true → MachineFits world here n
-        → Went world Flow (Ends []) n (Ok Next) (printed a n) (only_if (is_int a) (λ q. Some (Ok Next, printed a q)) n)
+    printed_goes : (a : Value) (n : Machine) → (is_int a || is_text a) ≡ true → MachineFits world here n
+        → Went world Flow (Ends []) n (Ok Next) (printed a n) (only_if (is_int a || is_text a) (λ q. Some (Ok Next, printed a q)) n)
     unfolding seen
     printed_goes a n is h =
-        where_so world (Ends []) (is_int a) (λ q. Some (Ok Next, printed a q)) n _ _ is
+        where_so world (Ends []) (is_int a || is_text a) (λ q. Some (Ok Next, printed a q)) n _ _ is
         (gives world (Ends []) n (printed a n) Next (λ x c e. e) (λ e. e, λ e. e)
         (ends (printed a n) (record { objects = h.objects; this = h.this; locals = h.locals; names = h.names })))
 
@@ -398,8 +399,8 @@ module _ (schema : Schema) (repos : ℕ) (sound : (c : ℕ) (d : Class) → slic
         let p = nothing (must_be_number here condition) (block_rules here body) ok in
         as_end m _ _ _ (repeat_goes 100001 condition body m p.0 p.1 h)
     node_goes (Stmt-F.Print e) m ok h =
-        let p = nothing ((judged here e).broken AsValue) (must (is_number (judged here e).kind) T3 (line_of e)) ok in
-        behind e AsValue [] _ _ m p.0 h (λ a n fit good. printed_goes a n (number_so (seen world n) (judged here e).kind a (held _ _ _ p.1) good) fit)
+        let p = nothing ((judged here e).broken AsValue) (must (is_printable (judged here e).kind) T3 (line_of e)) ok in
+        behind e AsValue [] _ _ m p.0 h (λ a n fit good. printed_goes a n (printable_so (seen world n) (judged here e).kind a (held _ _ _ p.1) good) fit)
     node_goes (Stmt-F.Evaluate e) m ok h = behind e AsValue [] _ _ m ok h (λ a n fit good. good_value world (Ends []) n Next (ends n fit))
 
   -- a statement that breaks no rule ends well

@@ -35,12 +35,19 @@ Keeps f g = (x : Oref) (c : ℕ) → class_of f x ≡ Some c → class_of g x �
 module _ (f g : Oref → Option Object) (k : Keeps f g) where
   pub value_keeps : (t : ExprType) (v : Value) → ValueFits f t v → ValueFits g t v
   value_keeps type.Int (value.Int n) h = tt
+  value_keeps type.Text (value.Int n) h = absurd h
+  value_keeps type.Text (value.Text n) h = tt
+  value_keeps type.Int (value.Text n) h = absurd h
   value_keeps type.Int (value.Ref x) h = absurd h
+  value_keeps type.Text (value.Ref x) h = absurd h
   value_keeps type.Int value.Null h = absurd h
+  value_keeps type.Text value.Null h = absurd h
   value_keeps type.Null (value.Int n) h = absurd h
+  value_keeps type.Null (value.Text n) h = absurd h
   value_keeps type.Null (value.Ref x) h = absurd h
   value_keeps type.Null value.Null h = tt
   value_keeps (type.Class c) (value.Int n) h = absurd h
+  value_keeps (type.Class c) (value.Text n) h = absurd h
   value_keeps (type.Class c) (value.Ref x) h = k x c h
   value_keeps (type.Class c) value.Null h = tt
   value_keeps type.Untold v h = absurd h

@@ -1,16 +1,17 @@
 -- That the strict meaning, where it doesn't get stuck, is the meaning.
 use Rattle.std.proofs.Common.{◌≡◌, Bool, true, false, cond, List, [], ◌∷◌, ◌++◌, Option, Some, None, Result, Ok, Err, refl, sym, subst, ℕ, zero, suc, take, length}
-use Rattle.std.specs.Prelude.{◌+◌, ◌==◌, is_some, nat_lt}
+use Rattle.std.specs.Prelude.{◌+◌, ◌==◌, ◌||◌, is_some, nat_lt}
 use Rattle.thor_value.specs.declared.names.Oref.{Oref}
 use Rattle.thor_value.specs.declared.values.Fault.TheVariants as fault
 use Rattle.thor_value.specs.declared.values.Value.{Value}
 use Rattle.thor_value.specs.declared.values.Value.TheVariants as value
 use Rattle.class_defs.specs.Calls.{owners_at, bound, run_body, enter, enter_as, call_object, call, result_of}
 use Rattle.class_defs.specs.Expressions.{this_value, values_from, values_of, value_at, expression, combined}
+use Rattle.class_defs.specs.Kinds.{literal_value, printed_as}
 use Rattle.class_defs.specs.Objects.{seen, touch, create, scope_at, named_value, field_value, assign_field}
 use Rattle.class_defs.specs.Run.{meaning, execute_all}
 use Rattle.class_defs.specs.Statements.{assign_local, block_of, declare, holds, in_order, repeat, statement, statement_at, unless_returned}
-use Rattle.class_defs.specs.Steps.{World, Action, after, step, pure, change, fail, number, ◌>>=◌, ◌>>◌}
+use Rattle.class_defs.specs.Steps.{World, Action, after, step, pure, change, fail, ◌>>=◌, ◌>>◌}
 use Rattle.law_type_soundness.specs.Strict as strict
 use Rattle.law_type_soundness.specs.Strict.{Sure, going, onward, surely, stuck, only_if, strict_body, strict_enter, strict_enter_as, strict_object, strict_call, strict_values_from, strict_value_at, strict_expression, strict_unless_returned, strict_in_order, strict_block, strict_repeat, strict_statement_at, strict_statement, strict_meaning, strict_execute_all, give, alter}
 use Rattle.class_defs.specs.Types.{method_of, type_named, type_of}
@@ -121,7 +122,9 @@ module _ (w : World) (v : Expr → Action Value) (u : Expr → Sure Value) (b : 
   call_so (type.Class c) value.Null name us m r is =
       only (strict.can_call w d c name us m) (fail fault.NullCall) (surely (fail fault.NullCall)) (sure (fail fault.NullCall)) m r is
   call_so (type.Class c) (value.Int n) name us m r is = cc
+  call_so (type.Class c) (value.Text n) name us m r is = cc
   call_so type.Int a name us m r is = cc
+  call_so type.Text a name us m r is = cc
   call_so type.Null a name us m r is = cc
   call_so type.Untold a name us m r is = cc
 
@@ -131,7 +134,7 @@ module _ (w : World) (v : Expr → Action Value) (u : Expr → Sure Value) (b : 
 
   node_so : (x : Expr-F Expr) → Tells (value_at w v b x) (strict_value_at w u d x)
   unfolding values_of
-  node_so (Expr-F.Int n line) m r is = sure (pure (value.Int n)) m r is
+  node_so (Expr-F.Literal n line) m r is = sure (pure (literal_value n)) m r is
   node_so (Expr-F.Null line) m r is = sure (pure value.Null) m r is
   node_so (Expr-F.This line) m r is =
       only (is_some m.this) (pure (this_value m.this)) (give (this_value m.this)) (sure (pure (this_value m.this))) m r is
@@ -191,7 +194,7 @@ module _ (w : World) (v : Expr → Action Value) (u : Expr → Sure Value) (b : 
       bind _ _ _ _ (first_so condition) (λ a. branch_so a _ _ _ _ (blocks then_block) (blocks otherwise))
   statement_at_so (Stmt-F.While condition body) = repeat_so 100001 condition body
   statement_at_so (Stmt-F.Print e) =
-      bind _ _ _ _ (first_so e) (λ a. changed_so (λ m. strict.is_int a) (λ m. record m { printed = m.printed ++ number a ∷ [] }))
+      bind _ _ _ _ (first_so e) (λ a. changed_so (λ m. strict.is_int a || strict.is_text a) (λ m. record m { printed = m.printed ++ printed_as a }))
   statement_at_so (Stmt-F.Evaluate e) = bind _ _ _ _ (first_so e) (λ a. sure (pure Next))
 
   pub statement_so : (st : Stmt) → Tells (statement w v b st) (strict_statement w u d st)

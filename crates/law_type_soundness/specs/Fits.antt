@@ -9,7 +9,7 @@ use Rattle.thor_value.specs.declared.values.Value.TheVariants as value
 use Rattle.class_defs.specs.Objects.{seen, stand_in_name}
 use Rattle.class_defs.specs.Rules.{Sight}
 use Rattle.class_defs.specs.Steps.{World}
-use Rattle.class_defs.specs.Types.{IsDeclared, class_named, class_or_untold, fields_of, type_named}
+use Rattle.class_defs.specs.Types.{IsDeclared, fields_of, type_named}
 use Rattle.class_defs.specs.declared.classes.Class.{Class}
 use Rattle.class_defs.specs.declared.classes.Field.{Field}
 use Rattle.class_defs.specs.declared.machine.Flow.{Flow}
@@ -27,6 +27,7 @@ use Rattle.class_defs.specs.declared.store.RootDeclaration.{RootDeclaration}
 use Rattle.class_defs.specs.declared.store.Schema.{Schema}
 use Rattle.class_defs.specs.declared.types.ExprType.{ExprType}
 use Rattle.class_defs.specs.declared.types.ExprType.TheVariants as type
+use Rattle.class_defs.specs.declared.expressions.TypeName.TheVariants as type_name
 
 -- ---- values and objects
 
@@ -34,18 +35,25 @@ use Rattle.class_defs.specs.declared.types.ExprType.TheVariants as type
 abbrev pub class_of : (Oref → Option Object) → Oref → Option ℕ
 class_of objects x = option_map (λ o. o.class) (objects x)
 
--- A value of a type: a number; or null, or a reference to an object of just this class. Of a type that can't be
+-- A value of a type: a number; a text; or null, or a reference to an object of just this class. Of a type that can't be
 -- told there is none.
 abbrev pub ValueFits : (Oref → Option Object) → ExprType → Value → Type 0
 ValueFits objects type.Int (value.Int n) = Unit {0}
 ValueFits objects type.Int (value.Ref x) = ⊥
 ValueFits objects type.Int value.Null = ⊥
+ValueFits objects type.Int (value.Text w) = ⊥
+ValueFits objects type.Text (value.Int n) = ⊥
+ValueFits objects type.Text (value.Ref x) = ⊥
+ValueFits objects type.Text value.Null = ⊥
+ValueFits objects type.Text (value.Text w) = Unit {0}
 ValueFits objects type.Null (value.Int n) = ⊥
 ValueFits objects type.Null (value.Ref x) = ⊥
 ValueFits objects type.Null value.Null = Unit {0}
+ValueFits objects type.Null (value.Text w) = ⊥
 ValueFits objects (type.Class c) (value.Int n) = ⊥
 ValueFits objects (type.Class c) (value.Ref x) = class_of objects x ≡ Some c
 ValueFits objects (type.Class c) value.Null = Unit {0}
+ValueFits objects (type.Class c) (value.Text w) = ⊥
 ValueFits objects type.Untold v = ⊥
 
 -- as many values as fields, each of the field's type
@@ -62,7 +70,7 @@ pub record ObjectFits (objects : Oref → Option Object) (classes : List Class) 
 
 -- the root's object is there, and of its class
 abbrev pub RootFits : (Oref → Option Object) → List Class → RootDeclaration → Type 0
-RootFits objects classes r = ValueFits objects (class_or_untold (class_named classes r.class.text)) (value.Ref r.oref)
+RootFits objects classes r = ValueFits objects (type_named classes (type_name.Class r.class)) (value.Ref r.oref)
 
 -- objects that refer to one another, and to which the roots refer, as the classes say
 pub record ObjectsFit (schema : Schema) (objects : Oref → Option Object) : Type 0 where

@@ -1,6 +1,6 @@
 -- The meaning of the language once more, without stand-ins: stuck where a run of `Run` goes on with one, at a value of a
 -- wrong kind, a name that isn't declared, a method that isn't there, or a wrong number of arguments (this project's).
-use Rattle.std.specs.Prelude.{◌+◌, ◌==◌, ◌&&◌, if◌then◌else◌, nat_lt, ℕ, zero, suc, Bool, true, false, is_some, List, [], ◌∷◌, ◌++◌, length, take, Option, Some, None, option_map, Result, Ok, Err, pos}
+use Rattle.std.specs.Prelude.{◌+◌, ◌==◌, ◌&&◌, ◌||◌, if◌then◌else◌, nat_lt, ℕ, zero, suc, Bool, true, false, is_some, List, [], ◌∷◌, ◌++◌, length, take, Option, Some, None, option_map, Result, Ok, Err, pos}
 use Rattle.std.specs.Int.{int_wrapping_sub, w64}
 use Rattle.thor_value.specs.declared.names.Oref.{Oref}
 use Rattle.thor_value.specs.declared.values.Fault.TheVariants.{Depth, NullCall, Steps}
@@ -8,6 +8,7 @@ use Rattle.thor_value.specs.declared.values.Value.{Value}
 use Rattle.thor_value.specs.declared.values.Value.TheVariants as value
 use Rattle.class_defs.specs.Calls.{bound, owners_at, result_of}
 use Rattle.class_defs.specs.Expressions.{combined, this_value}
+use Rattle.class_defs.specs.Kinds.{literal_value, printed_as}
 use Rattle.class_defs.specs.Objects.{assign_field, create, field_at, field_value, first_of, local_named, named_value, root_named, scope_at, seen, touch}
 use Rattle.class_defs.specs.Statements.{assign_local, declare, holds}
 use Rattle.class_defs.specs.Steps.{Action, World, change, fail, number, pure, step}
@@ -85,23 +86,37 @@ abbrev pub is_classed : Option Object → ℕ → Bool
 is_classed None c = false
 is_classed (Some o) c = o.class == c
 
--- whether a value is of a type: a number; or null, or a reference to an object of just this class
+-- whether a value is of a type: a number; a text; or null, or a reference to an object of just this class
 abbrev pub is_of : (Oref → Option Object) → ExprType → Value → Bool
 is_of objects type.Int (value.Int n) = true
 is_of objects type.Int (value.Ref x) = false
 is_of objects type.Int value.Null = false
+is_of objects type.Int (value.Text w) = false
+is_of objects type.Text (value.Int n) = false
+is_of objects type.Text (value.Ref x) = false
+is_of objects type.Text value.Null = false
+is_of objects type.Text (value.Text w) = true
 is_of objects type.Null (value.Int n) = false
 is_of objects type.Null (value.Ref x) = false
 is_of objects type.Null value.Null = true
+is_of objects type.Null (value.Text w) = false
 is_of objects (type.Class c) (value.Int n) = false
 is_of objects (type.Class c) (value.Ref x) = is_classed (objects x) c
 is_of objects (type.Class c) value.Null = true
+is_of objects (type.Class c) (value.Text w) = false
 is_of objects type.Untold v = false
 
 abbrev pub is_int : Value → Bool
 is_int (value.Int n) = true
 is_int (value.Ref x) = false
 is_int value.Null = false
+is_int (value.Text w) = false
+
+abbrev pub is_text : Value → Bool
+is_text (value.Int n) = false
+is_text (value.Ref x) = false
+is_text value.Null = false
+is_text (value.Text w) = true
 
 -- a value is there, and of the type
 abbrev pub has_value : (Oref → Option Object) → ExprType → Option Value → Bool
@@ -113,15 +128,18 @@ abbrev pub is_of_some : (Oref → Option Object) → Option ExprType → Value �
 is_of_some objects None v = false
 is_of_some objects (Some t) v = is_of objects t v
 
--- two numbers, or neither of them one
+-- two numbers, two texts, or none of either
 abbrev pub are_comparable : Value → Value → Bool
 are_comparable (value.Int a) b = is_int b
 are_comparable (value.Ref x) (value.Int b) = false
 are_comparable (value.Ref x) (value.Ref y) = true
 are_comparable (value.Ref x) value.Null = true
+are_comparable (value.Ref x) (value.Text w) = false
 are_comparable value.Null (value.Int b) = false
 are_comparable value.Null (value.Ref y) = true
 are_comparable value.Null value.Null = true
+are_comparable value.Null (value.Text w) = false
+are_comparable (value.Text w) b = is_text b
 
 -- whether an operator takes these values
 abbrev pub are_operands : Operator → Value → Value → Bool
@@ -209,7 +227,9 @@ module _ (w : World) (block : List Stmt → Sure Flow) where
   strict_call (type.Class c) (value.Ref x) name arguments = only_where (can_call c name arguments) (strict_object c x name arguments)
   strict_call (type.Class c) value.Null name arguments = only_where (can_call c name arguments) (surely (fail NullCall))
   strict_call (type.Class c) (value.Int n) name arguments = stuck
+  strict_call (type.Class c) (value.Text t) name arguments = stuck
   strict_call type.Int v name arguments = stuck
+  strict_call type.Text v name arguments = stuck
   strict_call type.Null v name arguments = stuck
   strict_call type.Untold v name arguments = stuck
 
@@ -227,7 +247,7 @@ module _ (w : World) (value_of : Expr → Sure Value) (block : List Stmt → Sur
     strict_call w block (type_of (scope_at w.schema m) receiver) r method vs) m
 
   abbrev pub strict_value_at : Expr-F Expr → Sure Value
-  strict_value_at (Expr-F.Int n line) = give (value.Int n)
+  strict_value_at (Expr-F.Literal l line) = give (literal_value l)
   strict_value_at (Expr-F.Null line) = give value.Null
   strict_value_at (Expr-F.This line) = λ m. only_if (is_some m.this) (give (this_value m.this)) m
   strict_value_at (Expr-F.Field name) = λ m. only_if (reads_field w m name.text) (give (field_value w m name.text)) m
@@ -281,7 +301,7 @@ module _ (w : World) (value_of : Expr → Sure Value) (block : List Stmt → Sur
   strict_assign_field name v = only_where (λ m. writes_field w m name v) (alter (assign_field w name v) >> give Next)
 
   abbrev pub strict_print : Value → Sure Flow
-  strict_print v = only_if (is_int v) (alter (λ m. record m { printed = m.printed ++ number v ∷ [] }) >> give Next)
+  strict_print v = only_if (is_int v || is_text v) (alter (λ m. record m { printed = m.printed ++ printed_as v }) >> give Next)
 
   abbrev pub strict_statement_at : Stmt-F Stmt → Sure Flow
   strict_statement_at (Stmt-F.Var type_name name line e) =

@@ -8,7 +8,7 @@ use Rattle.std.specs.Prelude.{◌+◌, unwrap_or}
 use Rattle.std.specs.Str.{bytes_eq}
 use Rattle.class_defs.specs.Applied.{class_behind, classes_behind, new_field, said_of}
 use Rattle.class_defs.specs.Rules.{is_part, is_part_kind}
-use Rattle.class_defs.specs.Types.{class_named, class_or_untold, fields_of, type_named}
+use Rattle.class_defs.specs.Types.{class_named, class_or_word, fields_of, type_named}
 use Rattle.class_defs.specs.declared.classes.Class.{Class}
 use Rattle.class_defs.specs.declared.classes.Field.{Field}
 use Rattle.class_defs.specs.declared.expressions.Name.{Name}
@@ -47,7 +47,7 @@ module _ (u : Upgrade) where
 
   pub same_type : (t : TypeName) (ds : List Class) → type_named (classes_behind u ds) t ≡ type_named ds t
   same_type (type_name.Int line) ds = refl
-  same_type (type_name.Class name) ds = ap class_or_untold (same_class name.text ds)
+  same_type (type_name.Class name) ds = ap (class_or_word name.text) (same_class name.text ds)
 
   pub same_names : (ds : List Class) → map (λ d. d.name) (classes_behind u ds) ≡ map (λ d. d.name) ds
   same_names [] = refl
@@ -68,6 +68,7 @@ module _ (u : Upgrade) where
   pub same_kind : (t : ExprType) (ds : List Class) → is_part (classes_behind u ds) t ≡ is_part ds t
   same_kind (type.Class c) ds = ap (λ (o : Option Class). is_part_kind (option_map (λ d. d.kind) o)) (slice_get-map step ds c) ∙ kind_of (slice_get ds c)
   same_kind type.Int ds = refl
+  same_kind type.Text ds = refl
   same_kind type.Null ds = refl
   same_kind type.Untold ds = refl
 

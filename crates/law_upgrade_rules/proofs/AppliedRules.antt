@@ -3,13 +3,13 @@ use Rattle.std.proofs.Common.{◌≡◌, cond, not, List, [], ◌∷◌, ◌++�
 use Rattle.std.specs.List.{flat_map}
 use Rattle.std.specs.Prelude.{◌+◌, find, slice_get}
 use Rattle.std.specs.Str.{bytes_eq}
-use Rattle.law_upgrade_rules.proofs.AppliedClasses.{keeps_name, same_class, same_kind, same_names, step}
+use Rattle.law_upgrade_rules.proofs.AppliedClasses.{keeps_name, same_kind, same_names, same_type, step}
 use Rattle.class_defs.proofs.KeptRules.{each_nothing, nothing}
 use Rattle.law_upgrade_rules.proofs.KeptByRules.{Sound, at_place}
 use Rattle.class_defs.specs.Applied.{applied, class_behind, classes_behind, said_of}
-use Rattle.class_defs.specs.Rules.{is_free_class, is_part, is_type, must, stand_once}
+use Rattle.class_defs.specs.Rules.{is_root_class, is_root_type, is_told, is_type, must, stand_once}
 use Rattle.class_defs.specs.SchemaRules.{class_names, class_rules, classes_from, item_rules, member_names, method_rules, root_at_rules, root_names, root_rules, schema_rules}
-use Rattle.class_defs.specs.Types.{class_named, class_or_untold}
+use Rattle.class_defs.specs.Types.{type_named}
 use Rattle.class_defs.specs.UpgradeOrder.{inside_class, inside_rules, outside_class, outside_rules, over_classes}
 use Rattle.class_defs.specs.declared.classes.Class.{Class}
 use Rattle.class_defs.specs.declared.classes.Field.{Field}
@@ -22,6 +22,8 @@ use Rattle.class_defs.specs.declared.store.RootDeclaration.{RootDeclaration}
 use Rattle.class_defs.specs.declared.store.Schema.{Schema}
 use Rattle.class_defs.specs.declared.upgrades.ClassUpgrade.{ClassUpgrade}
 use Rattle.class_defs.specs.declared.upgrades.Upgrade.{Upgrade}
+use Rattle.class_defs.specs.declared.types.ExprType.TheVariants as type
+use Rattle.class_defs.specs.declared.types.ExprType.{ExprType}
 
 none : {A : Type 0} (xs ys : List A) → xs ≡ [] → ys ≡ [] → (xs ++ ys) ≡ []
 none xs ys h g = ap (λ zs. zs ++ ys) h ∙ g
@@ -37,17 +39,24 @@ module _ (schema : Schema) (repos : ℕ) (u : Upgrade) where
   abbrev new : List Class
   new = classes_behind u old
 
-  same_free : (n : Name) → is_free_class new n ≡ is_free_class old n
-  same_free n =
-      ap (λ o. must (is_some o) T2 n.line ++ must (not (is_part new (class_or_untold o))) T5 n.line) (same_class u n.text old)
-      ∙ ap (λ b. must (is_some (class_named old n.text)) T2 n.line ++ must (not b) T5 n.line) (same_kind u (class_or_untold (class_named old n.text)) old)
+  same_root_type : (t : ExprType) → is_root_type new t ≡ is_root_type old t
+  same_root_type type.Int = refl
+  same_root_type type.Text = refl
+  same_root_type type.Null = refl
+  same_root_type (type.Class c) = ap (λ b. not b) (same_kind u (type.Class c) old)
+  same_root_type type.Untold = refl
+
+  same_root_class : (n : Name) → is_root_class new n ≡ is_root_class old n
+  same_root_class n =
+      ap (λ t. must (is_told t) T2 n.line ++ must (is_root_type new t) T5 n.line) (same_type u (type_name.Class n) old)
+      ∙ ap (λ b. must (is_told (type_named old (type_name.Class n))) T2 n.line ++ must b T5 n.line) (same_root_type (type_named old (type_name.Class n)))
 
   same_root : (r : RootDeclaration) → root_rules new repos r ≡ root_rules old repos r
-  same_root r = ap (λ fs. fs ++ root_at_rules repos r.at) (same_free r.class)
+  same_root r = ap (λ fs. fs ++ root_at_rules repos r.at) (same_root_class r.class)
 
   same_is_type : (t : TypeName) → is_type new t ≡ is_type old t
   same_is_type (type_name.Int line) = refl
-  same_is_type (type_name.Class n) = ap (λ o. must (is_some o) T2 n.line) (same_class u n.text old)
+  same_is_type (type_name.Class n) = ap (λ t. must (is_told t) T2 n.line) (same_type u (type_name.Class n) old)
 
   abbrev says_of : Name → Option ClassUpgrade
   says_of n = find (λ k. bytes_eq k.name.text n.text) u.classes

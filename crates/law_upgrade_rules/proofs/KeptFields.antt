@@ -11,7 +11,7 @@ use Rattle.class_defs.specs.Types.{IsDeclared, field_named, type_named}
 use Rattle.class_defs.specs.KeptOwnership.{IsHanded, handed, handed_path, handed_step, is_owned_path, owned_step, part_class, reads_owned}
 use Rattle.class_defs.specs.Ownership.{type_at}
 use Rattle.class_defs.specs.Rules.{is_part}
-use Rattle.class_defs.specs.UpgradeRules.{as_list, field_at_path, field_behind, field_read, field_rules, gives_int, gives_reference, goes_through_parts, handed_as, handed_once, hands_over, int_step, is_field_of, is_int, is_new, is_of_class, max_names, may_go_on, part_step, path_type, reads_parts, value_rules}
+use Rattle.class_defs.specs.UpgradeRules.{as_list, field_at_path, field_behind, field_read, field_rules, gives_int, gives_reference, gives_text, goes_through_parts, handed_as, handed_once, hands_over, int_step, is_field_of, is_int, is_new, is_text_field, is_of_class, max_names, may_go_on, part_step, path_type, reads_parts, value_rules}
 use Rattle.class_defs.specs.declared.classes.Class.{Class}
 use Rattle.class_defs.specs.declared.expressions.Name.{Name}
 use Rattle.class_defs.specs.declared.types.ExprType.{ExprType}
@@ -39,6 +39,7 @@ module _ (classes : List Class) where
       subst (λ b. is_owned_path classes (cond b (Some d) None) (next ∷ names) ≡ true) (sym part)
       (rest d i ((and_parts (is_part classes (type.Class d)) _ g).1))
   goes_on (Some type.Int) next names rest i g = sym (ends_nowhere names) ∙ i
+  goes_on (Some type.Text) next names rest i g = sym (ends_nowhere names) ∙ i
   goes_on (Some type.Null) next names rest i g = sym (ends_nowhere names) ∙ i
   goes_on (Some type.Untold) next names rest i g = sym (ends_nowhere names) ∙ i
   goes_on None next names rest i g = sym (ends_nowhere names) ∙ i
@@ -65,7 +66,7 @@ module _ (classes : List Class) where
         → int_step classes c (map-Tf Tf Bool (gives_int classes c) (trees y)) ≡ true
         → owned_step classes c (map-Tf Tf Bool (reads_owned classes c) (trees y)) ≡ true
     by_layer (Tf-F.Null line) h g = refl
-    by_layer (Tf-F.Int n line) h g = refl
+    by_layer (Tf-F.Literal n line) h g = refl
     by_layer (Tf-F.Path names line) h g = int_path_owned names c ((and_parts (nat_le (length names) max_names) _ g).1) h
     by_layer (Tf-F.Parens inner line) h g = inner.1 h g
     by_layer (Tf-F.Negate operand line) h g = operand.1 h g
@@ -86,6 +87,7 @@ module _ (classes : List Class) where
     of_class : (d : ℕ) (t : Option ExprType) → is_of_class d t ≡ true → t ≡ Some (type.Class d)
     of_class d (Some (type.Class e)) h = ap (λ n. Some (type.Class n)) (sym ((Decides-eqb d e).0 h))
     of_class d (Some type.Int) h = cc
+    of_class d (Some type.Text) h = cc
     of_class d (Some type.Null) h = cc
     of_class d (Some type.Untold) h = cc
     of_class d None h = cc
@@ -103,11 +105,24 @@ module _ (classes : List Class) where
 
     layer_owned : (d : ℕ) (x : Tf-F Tf) → gives_reference classes c d x ≡ true → owned_layer x ≡ true
     layer_owned d (Tf-F.Null line) h = refl
-    layer_owned d (Tf-F.Int n line) h = refl
+    layer_owned d (Tf-F.Literal n line) h = refl
     layer_owned d (Tf-F.Path names line) h = path_owned d names h
     layer_owned d (Tf-F.Parens inner line) h = cc
     layer_owned d (Tf-F.Negate operand line) h = cc
     layer_owned d (Tf-F.Binary operator left right line) h = cc
+
+    text_path_owned : (names : List Name) → is_text_field classes c names ≡ true → is_owned_path classes (Some c) names ≡ true
+    text_path_owned [] h = refl
+    text_path_owned (name ∷ []) h = refl
+    text_path_owned (name ∷ next ∷ names) h = cc
+
+    layer_worded : (x : Tf-F Tf) → gives_text classes c x ≡ true → owned_layer x ≡ true
+    layer_worded (Tf-F.Null line) h = cc
+    layer_worded (Tf-F.Literal n line) h = refl
+    layer_worded (Tf-F.Path names line) h = text_path_owned names h
+    layer_worded (Tf-F.Parens inner line) h = cc
+    layer_worded (Tf-F.Negate operand line) h = cc
+    layer_worded (Tf-F.Binary operator left right line) h = cc
 
     one_handed : (d : ℕ) (i : Option ℕ) → is_of_class d (option_and_then (type_at classes c) i) ≡ true → IsHanded classes c d (Some i)
     one_handed d None h = tt
@@ -120,7 +135,7 @@ module _ (classes : List Class) where
 
     layer_handed : (d : ℕ) (x : Tf-F Tf) → gives_reference classes c d x ≡ true → IsHanded classes c d (handed_layer x)
     layer_handed d (Tf-F.Null line) h = tt
-    layer_handed d (Tf-F.Int n line) h = cc
+    layer_handed d (Tf-F.Literal n line) h = cc
     layer_handed d (Tf-F.Path names line) h = path_handed d names h
     layer_handed d (Tf-F.Parens inner line) h = cc
     layer_handed d (Tf-F.Negate operand line) h = cc
@@ -133,7 +148,7 @@ module _ (classes : List Class) where
 
     layer_read : (j : ℕ) (x : Tf-F Tf) → handed_layer x ≡ Some (Some j) → field_read classes c x ≡ Some j
     layer_read j (Tf-F.Null line) h = cc
-    layer_read j (Tf-F.Int n line) h = cc
+    layer_read j (Tf-F.Literal n line) h = cc
     layer_read j (Tf-F.Path names line) h = path_read j names h
     layer_read j (Tf-F.Parens inner line) h = cc
     layer_read j (Tf-F.Negate operand line) h = cc
@@ -155,12 +170,14 @@ module _ (classes : List Class) where
         let same : b ≡ d = cc in
         subst (λ n. gives_reference classes c n (out-Tf e) ≡ true) same (held _ _ _ h)
     reference_given type.Int e d is h = cc
+    reference_given type.Text e d is h = cc
     reference_given type.Null e d is h = cc
     reference_given type.Untold e d is h = cc
 
     owned_by_type : (t : ExprType) (e : Tf) → IsDeclared t → value_rules classes c t e ≡ [] → reads_parts classes c e ≡ true
         → reads_owned classes c e ≡ true
     owned_by_type type.Int e declared h g = int_reads_owned e g (held _ _ _ h)
+    owned_by_type type.Text e declared h g = owned_out e ∙ layer_worded (out-Tf e) (held _ _ _ h)
     owned_by_type (type.Class d) e declared h g = owned_out e ∙ layer_owned d (out-Tf e) (held _ _ _ h)
     owned_by_type type.Null e declared h g = absurd declared
     owned_by_type type.Untold e declared h g = absurd declared

@@ -40,6 +40,7 @@ module _ (classes : List Class) (f g : Oref → Option Object) where
   pub behind_alike : (v : Option Value) → SameOn (named v) f g → object_behind g v ≡ object_behind f v
   behind_alike (Some (value.Ref z)) h = h z (Contains-push [] z)
   behind_alike (Some (value.Int n)) h = refl
+  behind_alike (Some (value.Text n)) h = refl
   behind_alike (Some value.Null) h = refl
   behind_alike None h = refl
 
@@ -86,7 +87,7 @@ module _ (classes : List Class) (f g : Oref → Option Object) where
         → tf_step classes g o (map-Tf Tf (Option Value) (tf_value classes g o) (map-Tf ((t : Tf) × IsAlike t) Tf (λ p. p.0) y))
         ≡ tf_step classes f o (map-Tf Tf (Option Value) (tf_value classes f o) (map-Tf ((t : Tf) × IsAlike t) Tf (λ p. p.0) y))
     by_layer (Tf-F.Null line) h = refl
-    by_layer (Tf-F.Int n line) h = refl
+    by_layer (Tf-F.Literal n line) h = refl
     by_layer (Tf-F.Path names line) h = (path_alike names (left_of (path_reads classes f o names) [] f g h)).0
     by_layer (Tf-F.Parens inner line) h = inner.1 h
     by_layer (Tf-F.Negate operand line) h = ap (λ w. tf_step classes g o (Tf-F.Negate w line)) (operand.1 h)

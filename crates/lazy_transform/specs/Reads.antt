@@ -29,7 +29,7 @@ SameOn names objects others = (x : Oref) → Contains names x → others x ≡ o
 
 abbrev pub paths_step : Tf-F (List (List Name)) → List (List Name)
 paths_step (Tf-F.Null line) = []
-paths_step (Tf-F.Int n line) = []
+paths_step (Tf-F.Literal l line) = []
 paths_step (Tf-F.Path names line) = names ∷ []
 paths_step (Tf-F.Parens inner line) = inner
 paths_step (Tf-F.Negate operand line) = operand
@@ -48,6 +48,7 @@ abbrev pub named : Option Value → List Oref
 named (Some (value.Ref z)) = z ∷ []
 named (Some (value.Int n)) = []
 named (Some value.Null) = []
+named (Some (value.Text w)) = []
 named None = []
 
 -- a field of an object, where there is one

@@ -11,7 +11,7 @@ fn push_paths<'a>(tf: &'a Tf, paths: &mut Vec<&'a Names>) -> Result<(), NoMemory
     ensures { OnOk result (map (λ p. p.now) paths.new.items ≡ map (λ p. p.now) paths.old.items ++ paths_of tf.now) }
 {
     match tf {
-        Tf::Null { line: _ } | Tf::Int { value: _, line: _ } => Ok(()),
+        Tf::Null { line: _ } | Tf::Literal { value: _, line: _ } => Ok(()),
         Tf::Path { names, line: _ } => {
             paths.push(names)?;
             Ok(())

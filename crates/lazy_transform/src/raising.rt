@@ -128,7 +128,7 @@ fn named(value: Option<Value>) -> Option<Oref>
 {
     match value {
         Some(Value::Ref(part)) => Some(part),
-        Some(Value::Int(_)) | Some(Value::Null) | None => None,
+        Some(Value::Int(_)) | Some(Value::Null) | Some(Value::Text(_)) | None => None,
     }
 }
 

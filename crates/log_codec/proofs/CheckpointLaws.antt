@@ -48,7 +48,7 @@ exact_texts =
 
 exact_version : IsExactFormat version_format
 unfolding version_format
-exact_version = exact_such (λ n. eqb n 1) u8_format exact_u8
+exact_version = exact_such (λ n. eqb n 2) u8_format exact_u8
 
 exact_count : IsExactFormat count_format
 unfolding count_format
@@ -154,7 +154,7 @@ Parts = head_format then texts_format then kept_state_format
 state_fits : (s : State) → StateFits s → Parts.Fits (state_parts s)
 unfolding version_format count_format pages_format sides_format mob_format prepared_format kept_format alone_format root_format request_format
 state_fits s h = (
-  ((tt, ap (λ (n : ℕ). eqb n 1) h.version), (tt, (tt, (h.life, ((omega (arith, h.count), lt-ltb s.count (2 ^ 62) h.count), (h.threshold, (omega (arith, h.next_page), le-leb s.next_page 65536 h.next_page))))))),
+  ((tt, ap (λ (n : ℕ). eqb n 2) h.version), (tt, (tt, (h.life, ((omega (arith, h.count), lt-ltb s.count (2 ^ 62) h.count), (h.threshold, (omega (arith, h.next_page), le-leb s.next_page 65536 h.next_page))))))),
   (
     (any_bytes s.classes, (h.roots, texts_any s.upgrades)),
     (
@@ -176,7 +176,7 @@ state_fits s h = (
 state_has : (s : State) → Parts.Fits (state_parts s) → StateFits s
 unfolding version_format count_format pages_format sides_format mob_format prepared_format kept_format alone_format root_format request_format
 state_has s p = record {
-  version = eqb-true s.format 1 p.0.0.1;
+  version = eqb-true s.format 2 p.0.0.1;
   life = p.0.1.1.1.0;
   count = ltb-true s.count (2 ^ 62) p.0.1.1.1.1.0.1;
   threshold = p.0.1.1.1.1.1.0;

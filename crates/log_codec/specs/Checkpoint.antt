@@ -45,7 +45,7 @@ root_format = of_those RootFits (made (λ p. record { name = p.0; class = p.1.0;
 
 -- the format's own number
 unfoldable pub version_format : Format ℕ
-version_format = such_that (λ n. nat_eq n 1) u8_format
+version_format = such_that (λ n. nat_eq n 2) u8_format
 
 -- a count of entries
 unfoldable pub count_format : Format ℕ
@@ -111,7 +111,7 @@ StampFits a = TsFits a.1
 -- The states that have a spelling: each number is one of the formats, and what is a set stands in rising
 -- order, the buffered objects in an order of their own.
 pub record StateFits (s : State) : Type 0 where
-  pub version : s.format ≡ 1
+  pub version : s.format ≡ 2
   pub life : s.life < 2 ^ 32
   pub count : s.count < 2 ^ 62
   pub threshold : TsFits s.threshold

@@ -25,8 +25,8 @@ use thor_value::{
     NoMemory, Obj, Oref, OrefMap, PAGES, Sequence, Stamps, Text, Texts, Ts, Writes, both,
 };
 
-/// The one format of a store.
-const FORMAT: u8 = 1;
+/// The format of a store, as a checkpoint tells it.
+const FORMAT: u8 = 2;
 
 /// The end of the counts of entries.
 const COUNT_END: u64 = 1 << 62;

@@ -14,7 +14,7 @@ pub type Alones = Sequence<(u8, Ts)>;
 /// The state for which a log stands, as a checkpoint spells it.
 #[derive(Debug, Drop)]
 pub struct State {
-    /// The format of the store: 1.
+    /// The format of the store: 2.
     pub format: u8,
     /// The repository's number.
     pub repo: u8,

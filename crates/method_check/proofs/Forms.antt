@@ -11,7 +11,7 @@ use Rattle.class_defs.specs.declared.expressions.Operator.{Operator}
 use Rattle.class_defs.specs.declared.rules.Position.{Position}
 
 line_mapped : (f : Expr → Judged) (x : Expr-F Expr) → line_at (map-Expr Expr Judged f x) ≡ line_at x
-line_mapped f (Expr-F.Int value line) = refl
+line_mapped f (Expr-F.Literal value line) = refl
 line_mapped f (Expr-F.Null line) = refl
 line_mapped f (Expr-F.This line) = refl
 line_mapped f (Expr-F.Field name) = refl
@@ -23,7 +23,7 @@ line_mapped f (Expr-F.Binary operator left right line) = refl
 line_mapped f (Expr-F.Call receiver method arguments) = refl
 
 null_mapped : (f : Expr → Judged) (x : Expr-F Expr) → null_at (map-Expr Expr Judged f x) ≡ null_at x
-null_mapped f (Expr-F.Int value line) = refl
+null_mapped f (Expr-F.Literal value line) = refl
 null_mapped f (Expr-F.Null line) = refl
 null_mapped f (Expr-F.This line) = refl
 null_mapped f (Expr-F.Field name) = refl

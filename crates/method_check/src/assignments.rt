@@ -5,16 +5,20 @@ ghost use Rattle.class_defs.specs.Rules.{least_with};
 ghost use Rattle.class_defs.specs.StatementRules as spec;
 ghost use Rattle.class_defs.specs.Types as types;
 ghost use Rattle.class_defs.specs.declared.expressions.Expr.{out-Expr};
+ghost use Rattle.class_defs.specs.declared.expressions.TypeName.TheVariants as type_name;
 ghost use Rattle.method_check.specs.Bodies.{sight};
 
 use crate::body::Body;
 use crate::judge::judge;
-use crate::kinds::{field_in_sight, field_type, fits, is_number, is_part, local_named, root_named};
+use crate::kinds::{
+    field_in_sight, field_type, fits, is_number, is_part, is_printable, is_root_type, local_named,
+    root_named,
+};
 use crate::least::must;
-use crate::nodes::{is_class, line_of};
+use crate::nodes::{is_word, line_of};
 use class_defs::{
     Classes, Expr, ExprType, Name, NamedType, NamedTypes, Position, RootDeclaration, Rule,
-    RuleFault, TypeName, class_type, type_named,
+    RuleFault, TypeName, class_type, type_named, word_type,
 };
 use thor_value::{NoMemory, TryCopy};
 
@@ -33,7 +37,7 @@ pub fn must_fit(
     must(fits(declared, kind), Rule::T3, line_of(value), found);
 }
 
-/// What an expression breaks that gives a condition or is printed.
+/// What an expression breaks that gives a condition.
 #[tactic(auto, using(crate::proofs::Pieces::least_append))]
 pub fn must_be_number(
     body: &Body<'_>,
@@ -47,15 +51,40 @@ pub fn must_be_number(
     must(is_number(kind), Rule::T3, line_of(value), found);
 }
 
-/// T2 and T5: the name is that of a class, and not of a part class.
+/// What an expression breaks that is printed.
 #[tactic(auto, using(crate::proofs::Pieces::least_append))]
-pub fn is_free_class(classes: &Classes, name: &Name, found: &mut Option<RuleFault>)
-    requires { length classes.now ≤ 65536 }
-    ensures { found.new ≡ least_with found.old (rules.is_free_class classes.now name.now) }
+pub fn must_be_printable(
+    body: &Body<'_>,
+    locals: &NamedTypes,
+    value: &Expr,
+    found: &mut Option<RuleFault>,
+)
+    ensures { found.new ≡ least_with found.old (spec.must_be_printable (sight body.now locals.now) value.now) }
 {
-    is_class(classes, name, found);
-    let free = !is_part(classes, class_type(classes, name));
-    must(free, Rule::T5, name.line, found);
+    let kind = judge(body, locals, value, Position::Value, found);
+    must(is_printable(kind), Rule::T3, line_of(value), found);
+}
+
+/// T2 and T5 of a word: it names a type, and not a part class.
+#[tactic(auto, using(crate::proofs::Pieces::least_append))]
+fn is_free_word(classes: &Classes, word: &Name, found: &mut Option<RuleFault>)
+    requires { length classes.now ≤ 65536 }
+    ensures { found.new ≡ least_with found.old (rules.is_free_type classes.now (type_name.Class word.now)) }
+{
+    is_word(classes, word, found);
+    let free = !is_part(classes, word_type(classes, word));
+    must(free, Rule::T5, word.line, found);
+}
+
+/// T2 and T5 of the word that a root is made of.
+#[tactic(auto, using(crate::proofs::Pieces::least_append))]
+pub fn is_root_class(classes: &Classes, word: &Name, found: &mut Option<RuleFault>)
+    requires { length classes.now ≤ 65536 }
+    ensures { found.new ≡ least_with found.old (rules.is_root_class classes.now word.now) }
+{
+    is_word(classes, word, found);
+    let free = is_root_type(classes, word_type(classes, word));
+    must(free, Rule::T5, word.line, found);
 }
 
 /// T2 and T5 of the word of a parameter's, a result's or a local's type.
@@ -65,7 +94,7 @@ pub fn is_free_type(classes: &Classes, type_name: &TypeName, found: &mut Option<
 {
     match type_name {
         TypeName::Int { line: _ } => {}
-        TypeName::Class { name } => is_free_class(classes, name, found),
+        TypeName::Class { name } => is_free_word(classes, name, found),
     }
 }
 

@@ -4,7 +4,8 @@ ghost use Rattle.class_defs.specs.StatementRules.{ruled, block_rules};
 ghost use Rattle.method_check.specs.Bodies.{sight};
 
 use crate::assignments::{
-    assign_rules, declare, field_assign_rules, must_be_number, must_fit, var_rules,
+    assign_rules, declare, field_assign_rules, must_be_number, must_be_printable, must_fit,
+    var_rules,
 };
 use crate::body::Body;
 use crate::judge::judge;
@@ -60,7 +61,7 @@ fn statement(
             must_be_number(body, locals, condition, found);
             block(body, locals, repeated, found)?;
         }
-        Stmt::Print { value } => must_be_number(body, locals, value, found),
+        Stmt::Print { value } => must_be_printable(body, locals, value, found),
         Stmt::Evaluate { value } => {
             judge(body, locals, value, Position::Value, found);
         }

@@ -6,7 +6,7 @@ ghost use Rattle.class_defs.specs.SchemaRules as spec;
 ghost use Rattle.class_defs.specs.SchemaRules.{schema_rules, item_rules};
 ghost use Rattle.method_check.specs.Told.{Tells};
 
-use crate::assignments::is_free_class;
+use crate::assignments::is_root_class;
 use crate::blocks::block;
 use crate::body::Body;
 use crate::classes::classes;
@@ -48,7 +48,7 @@ fn root_rules(classes: &Classes, repos: u8, root: &RootDeclaration, found: &mut 
     requires { length classes.now ≤ 65536 }
     ensures { found.new ≡ least_with found.old (spec.root_rules classes.now repos root.now) }
 {
-    is_free_class(classes, &root.class, found);
+    is_root_class(classes, &root.class, found);
     if let Some(at) = root.at {
         let there = at.number < u64::from(repos);
         must(there, Rule::T8, at.number_line, found);

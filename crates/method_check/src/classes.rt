@@ -7,7 +7,7 @@ ghost use Rattle.class_defs.specs.SchemaRules as spec;
 use crate::declared::names_of;
 use crate::methods::method_rules;
 use crate::names::stand_once;
-use crate::nodes::is_class;
+use crate::nodes::is_word;
 use class_defs::{Class, Classes, Field, Method, Names, RuleFault, Schema, TypeName};
 use std::alloc::Global;
 use thor_value::NoMemory;
@@ -19,7 +19,7 @@ fn is_type(classes: &Classes, type_name: &TypeName, found: &mut Option<RuleFault
 {
     match type_name {
         TypeName::Int { line: _ } => {}
-        TypeName::Class { name } => is_class(classes, name, found),
+        TypeName::Class { name } => is_word(classes, name, found),
     }
 }
 

@@ -11,7 +11,9 @@ use crate::nodes::{
     argument_fits, behind_first, beside, called_rules, field_rules, line_of, name_rules, new_rules,
     parameters_of, result_type, this_rules,
 };
-use class_defs::{Expr, ExprType, Exprs, NamedTypes, Parameter, Position, Rule, RuleFault};
+use class_defs::{
+    Expr, ExprType, Exprs, NamedTypes, Parameter, Position, Rule, RuleFault, literal_type,
+};
 
 /// Finds the rules that an expression breaks where it stands, and gives its type.
 #[cycle(judge)]
@@ -27,7 +29,7 @@ pub fn judge(
     ensures broken { found.new ≡ least_with found.old ((judged (sight body.now locals.now) expr.now).broken place) }
 {
     match expr {
-        Expr::Int { value: _, line: _ } => ExprType::Int,
+        Expr::Literal { value, line: _ } => literal_type(*value),
         Expr::Null { line: _ } => ExprType::Null,
         Expr::This { line } => this_rules(body, locals, *line, place, found),
         Expr::Field { name } => field_rules(body, locals, name, place, found),

@@ -8,8 +8,29 @@ ghost use Rattle.method_check.specs.Bodies.{sight};
 use crate::body::Body;
 use class_defs::{
     ClassKind, Classes, ExprType, Field, Method, Name, NamedType, NamedTypes, Operator,
-    RootDeclaration, class_type, type_named,
+    RootDeclaration, type_named, word_type,
 };
+
+/// Whether a type can be told.
+pub fn is_told(kind: ExprType) -> bool
+    ensures { result ≡ rules.is_told kind }
+{
+    match kind {
+        ExprType::Int | ExprType::Text | ExprType::Null | ExprType::Class(_) => true,
+        ExprType::Untold => false,
+    }
+}
+
+/// Whether a type may be that of a root: it is neither a part class nor that of texts.
+pub fn is_root_type(classes: &Classes, kind: ExprType) -> bool
+    ensures { result ≡ rules.is_root_type classes.now kind }
+{
+    match kind {
+        ExprType::Text => false,
+        ExprType::Class(_) => !is_part(classes, kind),
+        ExprType::Int | ExprType::Null | ExprType::Untold => true,
+    }
+}
 
 /// Whether a type is a part class.
 pub fn is_part(classes: &Classes, kind: ExprType) -> bool
@@ -23,7 +44,7 @@ pub fn is_part(classes: &Classes, kind: ExprType) -> bool
             },
             None => false,
         },
-        ExprType::Int | ExprType::Null | ExprType::Untold => false,
+        ExprType::Int | ExprType::Text | ExprType::Null | ExprType::Untold => false,
     }
 }
 
@@ -33,10 +54,17 @@ pub fn fits(declared: ExprType, given: ExprType) -> bool
 {
     match (declared, given) {
         (ExprType::Int, ExprType::Int) => true,
+        (ExprType::Int, ExprType::Text) => false,
         (ExprType::Int, ExprType::Null) => false,
         (ExprType::Int, ExprType::Class(_)) => false,
         (ExprType::Int, ExprType::Untold) => true,
+        (ExprType::Text, ExprType::Int) => false,
+        (ExprType::Text, ExprType::Text) => true,
+        (ExprType::Text, ExprType::Null) => false,
+        (ExprType::Text, ExprType::Class(_)) => false,
+        (ExprType::Text, ExprType::Untold) => true,
         (ExprType::Class(_), ExprType::Int) => false,
+        (ExprType::Class(_), ExprType::Text) => false,
         (ExprType::Class(_), ExprType::Null) => true,
         (ExprType::Class(class), ExprType::Class(other)) => class == other,
         (ExprType::Class(_), ExprType::Untold) => true,
@@ -52,17 +80,27 @@ pub fn is_number(kind: ExprType) -> bool
     fits(ExprType::Int, kind)
 }
 
+/// Whether an expression of this type can be printed: a number or a text.
+pub fn is_printable(kind: ExprType) -> bool
+    ensures { result ≡ expression_rules.is_printable kind }
+{
+    is_number(kind) || fits(ExprType::Text, kind)
+}
+
 /// Whether two values can be compared by `==` and `!=`.
 fn comparable(classes: &Classes, left: ExprType, right: ExprType) -> bool
     ensures { result ≡ expression_rules.comparable classes.now left right }
 {
     match (left, right) {
         (ExprType::Int, other) => is_number(other),
+        (ExprType::Text, other) => fits(ExprType::Text, other),
         (ExprType::Null, ExprType::Int) => false,
+        (ExprType::Null, ExprType::Text) => false,
         (ExprType::Null, ExprType::Null) => false,
         (ExprType::Null, ExprType::Class(_)) => true,
         (ExprType::Null, ExprType::Untold) => true,
         (ExprType::Class(_), ExprType::Int) => false,
+        (ExprType::Class(_), ExprType::Text) => false,
         (ExprType::Class(_), ExprType::Null) => true,
         (ExprType::Class(class), ExprType::Class(other)) => {
             class == other && !is_part(classes, left)
@@ -143,7 +181,7 @@ pub fn type_in_sight(body: &Body<'_>, locals: &NamedTypes, name: &Name) -> Optio
     match local_named(locals, name) {
         Some(local) => Some(local.kind),
         None => match root_named(body, locals, name) {
-            Some(root) => Some(class_type(&body.schema.classes, &root.class)),
+            Some(root) => Some(word_type(&body.schema.classes, &root.class)),
             None => None,
         },
     }
@@ -162,6 +200,6 @@ pub fn method_called<'a>(
             Some(found) => class_defs::method_of(&found.methods, name.text.as_slice()),
             None => None,
         },
-        ExprType::Int | ExprType::Null | ExprType::Untold => None,
+        ExprType::Int | ExprType::Text | ExprType::Null | ExprType::Untold => None,
     }
 }

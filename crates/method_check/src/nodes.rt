@@ -8,14 +8,15 @@ ghost use Rattle.class_defs.specs.Types as types;
 ghost use Rattle.class_defs.specs.Types.{class_or_untold};
 ghost use Rattle.class_defs.specs.declared.rules.Rule.TheVariants.{T2};
 ghost use Rattle.class_defs.specs.declared.expressions.Expr.{out-Expr};
+ghost use Rattle.class_defs.specs.declared.expressions.TypeName.TheVariants as type_name;
 ghost use Rattle.method_check.specs.Bodies.{sight};
 
 use crate::body::Body;
-use crate::kinds::{field_in_sight, field_type, fits, is_part, type_in_sight};
+use crate::kinds::{field_in_sight, field_type, fits, is_part, is_told, type_in_sight};
 use crate::least::must;
 use class_defs::{
     At, Classes, Expr, ExprType, Method, Name, NamedTypes, Operator, Parameter, Position, Rule,
-    RuleFault, class_named, class_type, type_named,
+    RuleFault, class_named, class_type, type_named, word_type,
 };
 
 /// The line of an expression's own token.
@@ -23,7 +24,7 @@ pub fn line_of(expr: &Expr) -> u32
     ensures { result ≡ line_at (out-Expr expr.now) }
 {
     match expr {
-        Expr::Int { value: _, line } => *line,
+        Expr::Literal { value: _, line } => *line,
         Expr::Null { line } => *line,
         Expr::This { line } => *line,
         Expr::Field { name } => name.line,
@@ -106,6 +107,15 @@ pub fn is_class(classes: &Classes, name: &Name, found: &mut Option<RuleFault>)
 {
     let declared = class_named(classes, name.text.as_slice()).is_some();
     must(declared, Rule::T2, name.line, found);
+}
+
+/// T2: the word names a type.
+pub fn is_word(classes: &Classes, word: &Name, found: &mut Option<RuleFault>)
+    requires { length classes.now ≤ 65536 }
+    ensures { found.new ≡ least_with found.old (rules.is_type classes.now (type_name.Class word.now)) }
+{
+    let told = is_told(word_type(classes, word));
+    must(told, Rule::T2, word.line, found);
 }
 
 /// What `this` breaks.
@@ -199,16 +209,6 @@ pub fn new_rules(
     must(stays, Rule::T8, class.line, found);
     at_rules(body, locals, at, found);
     kind
-}
-
-/// Whether the type of a receiver is told.
-fn is_told(kind: ExprType) -> bool
-    ensures { result ≡ spec.is_told kind }
-{
-    match kind {
-        ExprType::Int | ExprType::Null | ExprType::Class(_) => true,
-        ExprType::Untold => false,
-    }
 }
 
 /// What the method of a call breaks.

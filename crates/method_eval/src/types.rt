@@ -7,6 +7,7 @@ ghost use Rattle.class_defs.specs.Types.{type_named, field_type, name_type, resu
 use crate::world::Program;
 use class_defs::{
     Expr, ExprType, Field, Local, Machine, Method, RootDeclaration, TypeName, class_type,
+    literal_type, word_type,
 };
 
 /// The type that a type's word names.
@@ -88,7 +89,7 @@ pub fn name_type(program: &Program<'_>, machine: &Machine, name: &[u8]) -> ExprT
     match local_named(machine, name) {
         Some(local) => local.kind,
         None => match root_named(program, machine, name) {
-            Some(root) => class_type(&program.schema.classes, &root.class),
+            Some(root) => word_type(&program.schema.classes, &root.class),
             None => ExprType::Untold,
         },
     }
@@ -103,7 +104,7 @@ pub fn result_type(program: &Program<'_>, receiver: ExprType, name: &[u8]) -> Ex
             Some(method) => type_named(program, &method.result),
             None => ExprType::Untold,
         },
-        ExprType::Int | ExprType::Null | ExprType::Untold => ExprType::Untold,
+        ExprType::Int | ExprType::Text | ExprType::Null | ExprType::Untold => ExprType::Untold,
     }
 }
 
@@ -113,7 +114,7 @@ pub fn type_of(program: &Program<'_>, machine: &Machine, expr: &Expr) -> ExprTyp
     ensures { result ≡ type_of (scope_at program.now.schema.now machine.now) expr.now }
 {
     match expr {
-        Expr::Int { value: _, line: _ } => ExprType::Int,
+        Expr::Literal { value, line: _ } => literal_type(*value),
         Expr::Null { line: _ } => ExprType::Null,
         Expr::This { line: _ } => match &machine.this {
             Some(this) => ExprType::Class(this.class),

@@ -11,13 +11,13 @@ use Rattle.script_text.specs.declared.token.TokenKind.TheVariants as kinds
 use Rattle.class_defs.specs.declared.expressions.Name.{Name}
 use Rattle.class_defs.specs.declared.expressions.TypeName.{TypeName}
 use Rattle.class_defs.specs.declared.expressions.TypeName.TheVariants as types
-use Rattle.class_defs.specs.Words.{Word, Fixed, FixedAt, Numbered, name_word}
+use Rattle.class_defs.specs.Words.{Word, Fixed, FixedAt, Numbered, Quoted, name_word}
 use Rattle.class_defs.specs.Spelling as spelling
-use Rattle.script_text.specs.Marks.{number_in}
+use Rattle.script_text.specs.Marks.{number_in, text_in}
 use Rattle.method_parse.specs.declared.deep.Level.{Level}
 use Rattle.method_parse.specs.declared.deep.Level.TheVariants as levels
 use Rattle.method_parse.specs.Matching.{IsWord, AreWords, is, is_name_kind, is_fixed_kind}
-use Rattle.method_parse.specs.Reader.{Reader, ◌>>=◌, onward, give, take_by, word, name, name_in, number, with_line, type_word, type_in, next}
+use Rattle.method_parse.specs.Reader.{Reader, ◌>>=◌, onward, give, take_by, word, name, name_in, number, quoted, with_line, type_word, type_in, next}
 use Rattle.method_parse.specs.Expressions.{operator_of, operator_by, operator_in}
 
 -- a token that is a keyword or symbol
@@ -103,11 +103,23 @@ module _ {B : Type 0} (rest : List Token) (result : Result (B × List Token) ℕ
   number_then n line ws (t ∷ us) next h goes =
       after_taken (λ t. with_line (number_in t) t.line) (n, line) t (us ++ rest) next (number_says n line t (number_in t) refl h.0.0 h.0.1) (goes us h.1)
 
+  text_says : (w : List ℕ) (line : ℕ) (t : Token) (o : Option (List ℕ)) → text_in t ≡ o → o ≡ Some w → t.line ≡ line → with_line o t.line ≡ Some (w, line)
+  text_says w line t (Some v) e h l = let same : (v, t.line) ≡ (w, line) = cc in ap (λ (p : List ℕ × ℕ). Some p) same
+  text_says w line t None e h l = absurd cc
+
+  pub quoted_then : (w : List ℕ) (line : ℕ) (ws : List Word) (ts : List Token) (next : List ℕ × ℕ → Reader B) → AreWords ts (Quoted w line ∷ ws)
+      → ((us : List Token) → AreWords us ws → next (w, line) (us ++ rest) ≡ result) → (quoted >>= next) (ts ++ rest) ≡ result
+  unfolding quoted
+  quoted_then w line ws [] next h goes = absurd h
+  quoted_then w line ws (t ∷ us) next h goes =
+      after_taken (λ t. with_line (text_in t) t.line) (w, line) t (us ++ rest) next (text_says w line t (text_in t) refl h.0.0 h.0.1) (goes us h.1)
+
   name_is_no_word : (k : TokenKind) (a : Bool) → is_name_kind k ≡ true → (is_fixed_kind k && a) ≡ false
   name_is_no_word kinds.Name a e = refl
   name_is_no_word kinds.Number a e = absurd cc
   name_is_no_word kinds.Keyword a e = absurd cc
   name_is_no_word kinds.Symbol a e = absurd cc
+  name_is_no_word kinds.Quoted a e = absurd cc
 
   type_says : (ty : TypeName) (t : Token) → IsWord t (spelling.type_word ty) → type_in t ≡ Some ty
   type_says (types.Int line) t h = rw (fixed_is (codes "int") t h.0 h.1) (ap (λ (l : ℕ). Some (types.Int l)) h.2)
@@ -156,6 +168,7 @@ operator_none level t text fixed same none = by_kind t.kind t.text fixed (ap (op
     by_kind : (k : TokenKind) (x : List ℕ) → is_fixed_kind k ≡ true → operator_of level x ≡ None → is_some (operator_by level k x) ≡ false
     by_kind kinds.Name x f e = refl
     by_kind kinds.Number x f e = refl
+    by_kind kinds.Quoted x f e = refl
     by_kind kinds.Keyword x f e = rw e refl
     by_kind kinds.Symbol x f e = rw e refl
 

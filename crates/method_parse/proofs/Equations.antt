@@ -8,6 +8,7 @@ use Rattle.class_defs.specs.declared.expressions.Expr.{Expr}
 use Rattle.class_defs.specs.declared.expressions.Expr.TheOpen.{Expr-F}
 use Rattle.class_defs.specs.declared.expressions.Expr.TheVariants as e
 use Rattle.class_defs.specs.declared.expressions.Expr.TheFolds.{fold-roll-Expr}
+use Rattle.class_defs.specs.declared.literals.Literal.{Literal}
 use Rattle.class_defs.specs.declared.statements.Stmt.{Stmt}
 use Rattle.class_defs.specs.declared.statements.Stmt.TheOpen.{Stmt-F}
 use Rattle.class_defs.specs.declared.statements.Stmt.TheVariants as s
@@ -17,11 +18,11 @@ use Rattle.class_defs.specs.Words.{Word}
 use Rattle.class_defs.specs.Spelling.{expr_step, expr_words, stmt_step, stmt_words}
 use Rattle.class_defs.specs.Shape.{Shape, shape_step, shape, Form, form_step, form}
 
-pub words-Int : (v : ℤ) (l : ℕ) → expr_words (e.Int v l) ≡ expr_step (Expr-F.Int v l)
-words-Int v l = ap expr_words (sym (e.rolls-Int v l)) ∙ fold-roll-Expr (List Word) expr_step (Expr-F.Int v l)
+pub words-Literal : (v : Literal) (l : ℕ) → expr_words (e.Literal v l) ≡ expr_step (Expr-F.Literal v l)
+words-Literal v l = ap expr_words (sym (e.rolls-Literal v l)) ∙ fold-roll-Expr (List Word) expr_step (Expr-F.Literal v l)
 
-pub shape-Int : (p : Place) (v : ℤ) (l : ℕ) → shape p (e.Int v l) ≡ shape_step p (Expr-F.Int v l)
-shape-Int p v l = ap (shape p) (sym (e.rolls-Int v l)) ∙ fold-roll-Expr Shape (shape_step p) (Expr-F.Int v l)
+pub shape-Literal : (p : Place) (v : Literal) (l : ℕ) → shape p (e.Literal v l) ≡ shape_step p (Expr-F.Literal v l)
+shape-Literal p v l = ap (shape p) (sym (e.rolls-Literal v l)) ∙ fold-roll-Expr Shape (shape_step p) (Expr-F.Literal v l)
 
 pub words-Null : (l : ℕ) → expr_words (e.Null l) ≡ expr_step (Expr-F.Null l)
 words-Null l = ap expr_words (sym (e.rolls-Null l)) ∙ fold-roll-Expr (List Word) expr_step (Expr-F.Null l)

@@ -17,8 +17,9 @@ use Rattle.class_defs.specs.declared.expressions.Operator.{Operator}
 use Rattle.class_defs.specs.declared.expressions.Operator.TheVariants as operators
 use Rattle.class_defs.specs.declared.expressions.Expr.{Expr}
 use Rattle.class_defs.specs.declared.expressions.Expr.TheVariants as e
+use Rattle.class_defs.specs.declared.literals.Literal.TheVariants as literal
 use Rattle.class_defs.specs.declared.places.Place.{Place}
-use Rattle.class_defs.specs.Words.{Word, Fixed, FixedAt, Numbered, name_word, symbol_of, with_commas}
+use Rattle.class_defs.specs.Words.{Word, Fixed, FixedAt, Numbered, Quoted, name_word, symbol_of, with_commas}
 use Rattle.class_defs.specs.Spelling.{at_words, expr_words}
 use Rattle.class_defs.specs.Shape.{Shape, shape, all_proper, in_method, level_of, left_level, right_level}
 use Rattle.method_parse.specs.declared.deep.Deep.{Deep}
@@ -32,7 +33,7 @@ use Rattle.method_parse.specs.Matching.{AreWords, is, is_fixed_kind}
 use Rattle.method_parse.specs.Reader.{Reader, ◌>>=◌, repeat}
 use Rattle.method_parse.specs.Expressions.{at, with_argument, first_argument, argument, is_comma, more_arguments, some_arguments, listed, arguments, call, leaf, may_call, is_field_call, after_field, after_this, created, parens, fixed_start, start_by, start, primary_by, primary, called, is_call, calls, postfix, Parts, is_minus, unary, operator_of, operator_by, operator_in, with_operator_line, operator, tighter, joined, is_join, joins, at_level, expression_in}
 use Rattle.method_parse.proofs.Lawful.{Says, Lawful, Some_text, behind, lawful_bind, lawful_give, lawful_last, lawful_stuck, lawful_as, lawful_if, lawful_repeat, lawful_repeat_all}
-use Rattle.method_parse.proofs.Matched.{join, plain, SaysWord, SaysName, lawful_one, lawful_word, lawful_name, lawful_number}
+use Rattle.method_parse.proofs.Matched.{join, plain, SaysWord, SaysName, lawful_one, lawful_word, lawful_name, lawful_number, lawful_quoted}
 use Rattle.method_parse.proofs.Equations as eq
 use Rattle.method_parse.proofs.Fits.{tightness, FitsIn, IsRead, looser, ListFits, IsListed, IsBegun, IsApplied, commas-push, filled-push, deepest-push, nested-push, proper-push}
 
@@ -179,6 +180,7 @@ symbol_is levels.Comparison text o h =
 operator_kind : (level : Level) (k : TokenKind) (text : List ℕ) (o : Operator) → operator_by level k text ≡ Some o → (is_fixed_kind k ≡ true) × (operator_of level text ≡ Some o)
 operator_kind level kinds.Name text o h = absurd cc
 operator_kind level kinds.Number text o h = absurd cc
+operator_kind level kinds.Quoted text o h = absurd cc
 operator_kind level kinds.Keyword text o h = (refl, h)
 operator_kind level kinds.Symbol text o h = (refl, h)
 
@@ -335,6 +337,7 @@ module _ (place : Place) (room : Room) (below : ℕ) (deeper : room.depth ≡ be
   -- what a beginning asks of the place and the room
   abbrev Allows : Start → Type 0
   Allows starts.Number = Unit {0}
+  Allows starts.Quoted = Unit {0}
   Allows starts.Name = Unit {0}
   Allows starts.Null = Unit {0}
   Allows starts.This = in_method place ≡ true
@@ -355,6 +358,7 @@ module _ (place : Place) (room : Room) (below : ℕ) (deeper : room.depth ≡ be
   kind_allows : (k : TokenKind) (text : List ℕ) → Allows (start_by place room k text)
   kind_allows kinds.Name text = tt
   kind_allows kinds.Number text = tt
+  kind_allows kinds.Quoted text = tt
   kind_allows kinds.Keyword text = fixed_allows text
   kind_allows kinds.Symbol text = fixed_allows text
 
@@ -370,8 +374,10 @@ module _ (place : Place) (room : Room) (below : ℕ) (deeper : room.depth ≡ be
 
   by_start : (s : Start) → Allows s → Lawful (Here 4) (primary_by room inner s)
   unfolding primary_by
-  by_start starts.Number a = lawful_last (λ n. leaf (e.Int (pos n.0) n.1)) lawful_number (λ n f s.
-      leaf_read (e.Int (pos n.0) n.1) 0 true f (Numbered (pos n.0) n.1 ∷ []) (eq.words-Int (pos n.0) n.1) (eq.shape-Int place (pos n.0) n.1) (omega arith) refl s)
+  by_start starts.Number a = lawful_last (λ n. leaf (e.Literal (literal.Int (pos n.0)) n.1)) lawful_number (λ n f s.
+      leaf_read (e.Literal (literal.Int (pos n.0)) n.1) 0 true f (Numbered (pos n.0) n.1 ∷ []) (eq.words-Literal (literal.Int (pos n.0)) n.1) (eq.shape-Literal place (literal.Int (pos n.0)) n.1) (omega arith) refl s)
+  by_start starts.Quoted a = lawful_last (λ t. leaf (e.Literal (literal.Text t.0) t.1)) lawful_quoted (λ t f s.
+      leaf_read (e.Literal (literal.Text t.0) t.1) 0 true f (Quoted t.0 t.1 ∷ []) (eq.words-Literal (literal.Text t.0) t.1) (eq.shape-Literal place (literal.Text t.0) t.1) (omega arith) refl s)
   by_start starts.Name a = lawful_last (λ n. leaf (e.Variable n)) lawful_name (λ n f s.
       leaf_read (e.Variable n) 0 true f (name_word n ∷ []) (eq.words-Variable n) (eq.shape-Variable place n) (omega arith) refl s)
   by_start starts.Null a = null_law

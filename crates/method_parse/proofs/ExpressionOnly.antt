@@ -12,11 +12,13 @@ use Rattle.class_defs.specs.declared.expressions.Operator.TheVariants as operato
 use Rattle.class_defs.specs.declared.expressions.Expr.{Expr, out-Expr, roll-Expr, roll-out-Expr}
 use Rattle.class_defs.specs.declared.expressions.Expr.TheOpen.{Expr-F}
 use Rattle.class_defs.specs.declared.expressions.Expr.TheVariants as e
+use Rattle.class_defs.specs.declared.literals.Literal.TheVariants as literal
+use Rattle.class_defs.specs.declared.literals.Literal.{Literal}
 use Rattle.class_defs.specs.declared.places.Place.{Place}
-use Rattle.class_defs.specs.Words.{Word, Fixed, FixedAt, Numbered, name_word, with_commas}
+use Rattle.class_defs.specs.Words.{Word, Fixed, FixedAt, Numbered, Quoted, name_word, with_commas}
 use Rattle.class_defs.specs.Spelling.{expr_words, at_words}
 use Rattle.class_defs.specs.Shape.{Shape, shape, deepest, most_nested, all_proper, in_method, level_of}
-use Rattle.script_text.specs.Marks.{number_by, number_in}
+use Rattle.script_text.specs.Marks.{number_by, number_in, text_by}
 use Rattle.method_parse.specs.declared.deep.Deep.{Deep}
 use Rattle.method_parse.specs.declared.deep.Level.{Level}
 use Rattle.method_parse.specs.declared.deep.Room.{Room}
@@ -28,7 +30,7 @@ use Rattle.method_parse.specs.Expressions.{at, arguments, call, leaf, may_call, 
 use Rattle.method_parse.proofs.Repeats.{no_turn}
 use Rattle.method_parse.proofs.Fits.{tightness}
 use Rattle.method_parse.proofs.Equations as eq
-use Rattle.method_parse.proofs.Eats.{fixed_is, first, split, nothing, word_then, line_then, name_then, number_then, part_then, stops_before, stop_close}
+use Rattle.method_parse.proofs.Eats.{fixed_is, first, split, nothing, word_then, line_then, name_then, number_then, quoted_then, part_then, stops_before, stop_close}
 use Rattle.method_parse.proofs.Heads.{positive}
 use Rattle.method_parse.proofs.ListOnly.{deep, Suits, ReadsAll, SuitAll, bind_assoc, head_passes, head_fails, turn, arguments_then}
 
@@ -47,12 +49,14 @@ at_reads (Some a) (t ∷ ts) rest h none =
 fixed_starts : (place : Place) (room : Room) (k : TokenKind) (text known : List ℕ) → is_fixed_kind k ≡ true → text ≡ known → start_by place room k text ≡ fixed_start place room known
 fixed_starts place room kinds.Name text known f same = absurd cc
 fixed_starts place room kinds.Number text known f same = absurd cc
+fixed_starts place room kinds.Quoted text known f same = absurd cc
 fixed_starts place room kinds.Keyword text known f same = ap (fixed_start place room) same
 fixed_starts place room kinds.Symbol text known f same = ap (fixed_start place room) same
 
 name_starts : (place : Place) (room : Room) (k : TokenKind) (text : List ℕ) → is_name_kind k ≡ true → start_by place room k text ≡ starts.Name
 name_starts place room kinds.Name text f = refl
 name_starts place room kinds.Number text f = absurd cc
+name_starts place room kinds.Quoted text f = absurd cc
 name_starts place room kinds.Keyword text f = absurd cc
 name_starts place room kinds.Symbol text f = absurd cc
 
@@ -61,6 +65,14 @@ number_starts place room kinds.Name text v f = absurd cc
 number_starts place room kinds.Number text v f = refl
 number_starts place room kinds.Keyword text v f = absurd cc
 number_starts place room kinds.Symbol text v f = absurd cc
+number_starts place room kinds.Quoted text v f = absurd cc
+
+quoted_starts : (place : Place) (room : Room) (k : TokenKind) (text w : List ℕ) → text_by k text ≡ Some w → start_by place room k text ≡ starts.Quoted
+quoted_starts place room kinds.Name text w f = absurd cc
+quoted_starts place room kinds.Number text w f = absurd cc
+quoted_starts place room kinds.Keyword text w f = absurd cc
+quoted_starts place room kinds.Symbol text w f = absurd cc
+quoted_starts place room kinds.Quoted text w f = refl
 
 starts_at : (place : Place) (room : Room) (ts rest : List Token) (w : Word) (ws : List Word) (s : Start) → AreWords ts (w ∷ ws) → ((t : Token) → IsWord t w → start_by place room t.kind t.text ≡ s) → start place room (ts ++ rest) ≡ s
 unfolding start
@@ -106,25 +118,37 @@ module _ (place : Place) (room : Room) (below : ℕ) (deeper : room.depth ≡ be
   abbrev Primary : Expr-F Expr → Expr → Type 0
   Primary o x = (ts rest : List Token) → AreWords ts (expr_words x) → Fit 5 x → Calm rest → NoDot o rest → primary_here (ts ++ rest) ≡ Ok (deep place x, rest)
 
-  natural_reads : (n l : ℕ) (ts rest : List Token) → AreWords ts (Numbered (pos n) l ∷ []) → primary_here (ts ++ rest) ≡ got (deep place (e.Int (pos n) l)) rest
+  natural_reads : (n l : ℕ) (ts rest : List Token) → AreWords ts (Numbered (pos n) l ∷ []) → primary_here (ts ++ rest) ≡ got (deep place (e.Literal (literal.Int (pos n)) l)) rest
   unfolding primary_by
   natural_reads n l ts rest k =
       by_start starts.Number (ts ++ rest) _ (starts_at place room ts rest _ [] starts.Number k (λ t w. number_starts place room t.kind t.text (pos n) w.0))
-      (number_then rest _ n l [] ts (λ m. give (leaf (e.Int (pos m.0) m.1))) k
-      (λ us m. ap (λ (u : List Token). got (leaf (e.Int (pos n) l)) (u ++ rest)) (nothing us m) ∙ read_is place (e.Int (pos n) l) 1 rest (depth_is (eq.shape-Int place (pos n) l))))
+      (number_then rest _ n l [] ts (λ m. give (leaf (e.Literal (literal.Int (pos m.0)) m.1))) k
+      (λ us m. ap (λ (u : List Token). got (leaf (e.Literal (literal.Int (pos n)) l)) (u ++ rest)) (nothing us m) ∙ read_is place (e.Literal (literal.Int (pos n)) l) 1 rest (depth_is (eq.shape-Literal place (literal.Int (pos n)) l))))
 
-  int_by : (v : ℤ) (l : ℕ) (o : Option ℕ) (ts rest : List Token) → option_map pos o ≡ Some v → AreWords ts (Numbered v l ∷ []) → primary_here (ts ++ rest) ≡ got (deep place (e.Int v l)) rest
+  int_by : (v : ℤ) (l : ℕ) (o : Option ℕ) (ts rest : List Token) → option_map pos o ≡ Some v → AreWords ts (Numbered v l ∷ []) → primary_here (ts ++ rest) ≡ got (deep place (e.Literal (literal.Int v) l)) rest
   int_by v l (Some n) ts rest is k =
       let same : pos n ≡ v = cc in
-      subst (λ (w : ℤ). primary_here (ts ++ rest) ≡ got (deep place (e.Int w l)) rest) same
+      subst (λ (w : ℤ). primary_here (ts ++ rest) ≡ got (deep place (e.Literal (literal.Int w) l)) rest) same
       (natural_reads n l ts rest (subst (λ (w : ℤ). AreWords ts (Numbered w l ∷ [])) (sym same) k))
   int_by v l None ts rest is k = absurd cc
 
-  int_reads : (v : ℤ) (l : ℕ) → Primary (Expr-F.Int v l) (e.Int v l)
+  int_reads : (v : ℤ) (l : ℕ) → Primary (Expr-F.Literal (literal.Int v) l) (e.Literal (literal.Int v) l)
   int_reads v l ts rest h fit calm dot =
-      let k : AreWords ts (Numbered v l ∷ []) = subst (λ (w : List Word). AreWords ts w) (eq.words-Int v l) h in
+      let k : AreWords ts (Numbered v l ∷ []) = subst (λ (w : List Word). AreWords ts w) (eq.words-Literal (literal.Int v) l) h in
       let f = first ts (Numbered v l) [] k in
       int_by v l (number_in f.token) ts rest f.is.0 k
+
+  text_reads : (v : List ℕ) (l : ℕ) → Primary (Expr-F.Literal (literal.Text v) l) (e.Literal (literal.Text v) l)
+  unfolding primary_by
+  text_reads v l ts rest h fit calm dot =
+      let k : AreWords ts (Quoted v l ∷ []) = subst (λ (w : List Word). AreWords ts w) (eq.words-Literal (literal.Text v) l) h in
+      by_start starts.Quoted (ts ++ rest) _ (starts_at place room ts rest _ [] starts.Quoted k (λ t w. quoted_starts place room t.kind t.text v w.0))
+      (quoted_then rest _ v l [] ts (λ m. give (leaf (e.Literal (literal.Text m.0) m.1))) k
+      (λ us m. ap (λ (u : List Token). got (leaf (e.Literal (literal.Text v) l)) (u ++ rest)) (nothing us m) ∙ read_is place (e.Literal (literal.Text v) l) 1 rest (depth_is (eq.shape-Literal place (literal.Text v) l))))
+
+  literal_reads : (v : Literal) (l : ℕ) → Primary (Expr-F.Literal v l) (e.Literal v l)
+  literal_reads (literal.Int v) l = int_reads v l
+  literal_reads (literal.Text v) l = text_reads v l
 
   null_reads : (l : ℕ) → Primary (Expr-F.Null l) (e.Null l)
   unfolding primary_by
@@ -340,7 +364,7 @@ module _ (place : Place) (room : Room) (below : ℕ) (deeper : room.depth ≡ be
 
   -- at the form, from its claim at the variant
   spine_form : (m : ℕ) → SpineTo m → (o : Expr-F Expr) → (shape place (roll-Expr o)).depth ≤ suc m → Fit 4 (roll-Expr o) → Spine o (roll-Expr o)
-  spine_form m to (Expr-F.Int v l) le fit = subst (λ (y : Expr). Spine (Expr-F.Int v l) y) (sym (e.rolls-Int v l)) (spine_base _ _ (λ ts rest h calm dot. int_reads v l ts rest h (five _ _ (eq.shape-Int place v l) (omega arith) (subst (λ (y : Expr). Fit 4 y) (e.rolls-Int v l) fit)) calm dot))
+  spine_form m to (Expr-F.Literal v l) le fit = subst (λ (y : Expr). Spine (Expr-F.Literal v l) y) (sym (e.rolls-Literal v l)) (spine_base _ _ (λ ts rest h calm dot. literal_reads v l ts rest h (five _ _ (eq.shape-Literal place v l) (omega arith) (subst (λ (y : Expr). Fit 4 y) (e.rolls-Literal v l) fit)) calm dot))
   spine_form m to (Expr-F.Null l) le fit = subst (λ (y : Expr). Spine (Expr-F.Null l) y) (sym (e.rolls-Null l)) (spine_base _ _ (λ ts rest h calm dot. null_reads l ts rest h (five _ _ (eq.shape-Null place l) (omega arith) (subst (λ (y : Expr). Fit 4 y) (e.rolls-Null l) fit)) calm dot))
   spine_form m to (Expr-F.This l) le fit = subst (λ (y : Expr). Spine (Expr-F.This l) y) (sym (e.rolls-This l)) (spine_base _ _ (λ ts rest h calm dot. this_reads l ts rest h (five _ _ (eq.shape-This place l) (omega arith) (subst (λ (y : Expr). Fit 4 y) (e.rolls-This l) fit)) calm dot))
   spine_form m to (Expr-F.Field n) le fit = subst (λ (y : Expr). Spine (Expr-F.Field n) y) (sym (e.rolls-Field n)) (spine_base _ _ (λ ts rest h calm dot. field_reads n ts rest h (five _ _ (eq.shape-Field place n) (omega arith) (subst (λ (y : Expr). Fit 4 y) (e.rolls-Field n) fit)) calm dot))

@@ -8,14 +8,15 @@ use Rattle.class_defs.specs.declared.expressions.TypeName.TheVariants as type_na
 use Rattle.class_defs.specs.declared.expressions.Expr.{Expr, map-Expr, roll-Expr}
 use Rattle.class_defs.specs.declared.expressions.Expr.TheFolds.{fold-roll-Expr, ind-Expr}
 use Rattle.class_defs.specs.declared.expressions.Expr.TheOpen.{Expr-F}
+use Rattle.class_defs.specs.declared.literals.Literal.TheVariants as literal
 use Rattle.class_defs.specs.declared.places.Place.{Place}
 use Rattle.class_defs.specs.Words.{Word, Fixed, FixedAt, name_word, symbol_of, behind_commas, with_commas, in_turn}
 use Rattle.class_defs.specs.Spelling.{type_word, at_words, expr_step, expr_words}
 use Rattle.class_defs.specs.Shape.{Shape, shape_step, shape}
 use Rattle.class_defs.specs.LinesAside.{name_on_line_1, type_on_line_1, at_on_line_1, expr_step_on_line_1, expr_on_line_1}
 use Rattle.method_parse.proofs.PrintedTokens.{first_line}
-use Rattle.method_parse.proofs.Equations.{words-Int, words-Null, words-This, words-Field, words-Variable, words-New, words-Parens, words-Negate}
-use Rattle.method_parse.proofs.Equations.{words-Binary, words-Call, shape-Int, shape-Null, shape-This, shape-Field, shape-Variable, shape-New}
+use Rattle.method_parse.proofs.Equations.{words-Literal, words-Null, words-This, words-Field, words-Variable, words-New, words-Parens, words-Negate}
+use Rattle.method_parse.proofs.Equations.{words-Binary, words-Call, shape-Literal, shape-Null, shape-This, shape-Field, shape-Variable, shape-New}
 use Rattle.method_parse.proofs.Equations.{shape-Parens, shape-Negate, shape-Binary, shape-Call}
 
 -- words on line 1
@@ -72,7 +73,8 @@ args_shape place (p ∷ ps) = ap₂ (λ (w : Shape) (ws : List Shape). w ∷ ws)
 
 step_words : (y : Expr-F Held) → expr_words (expr_step_on_line_1 (on_line_1 (bare y)))
     ≡ lined (expr_step (map-Expr Expr (List Word) expr_words (bare y)))
-step_words (Expr-F.Int value line) = words-Int value 1
+step_words (Expr-F.Literal (literal.Int n) line) = words-Literal (literal.Int n) 1
+step_words (Expr-F.Literal (literal.Text w) line) = words-Literal (literal.Text w) 1
 step_words (Expr-F.Null line) = words-Null 1
 step_words (Expr-F.This line) = words-This 1
 step_words (Expr-F.Field name) = words-Field (name_on_line_1 name)
@@ -103,7 +105,7 @@ step_words (Expr-F.Call receiver method arguments) =
 
 step_shape : (place : Place) (y : Expr-F Held) → shape place (expr_step_on_line_1 (on_line_1 (bare y)))
     ≡ shape_step place (map-Expr Expr Shape (shape place) (bare y))
-step_shape place (Expr-F.Int value line) = shape-Int place value 1
+step_shape place (Expr-F.Literal value line) = shape-Literal place value 1
 step_shape place (Expr-F.Null line) = shape-Null place 1
 step_shape place (Expr-F.This line) = shape-This place 1
 step_shape place (Expr-F.Field name) = shape-Field place (name_on_line_1 name)

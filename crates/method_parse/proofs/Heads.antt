@@ -8,11 +8,13 @@ use Rattle.script_text.specs.declared.token.TokenKind.TheVariants as kinds
 use Rattle.class_defs.specs.declared.expressions.Expr.{Expr, out-Expr, roll-Expr, roll-out-Expr}
 use Rattle.class_defs.specs.declared.expressions.Expr.TheOpen.{Expr-F}
 use Rattle.class_defs.specs.declared.expressions.Expr.TheFolds.{fold-roll-Expr, map-Expr}
+use Rattle.class_defs.specs.declared.literals.Literal.TheVariants as literal
+use Rattle.class_defs.specs.declared.literals.Literal.{Literal}
 use Rattle.class_defs.specs.declared.places.Place.{Place}
 use Rattle.class_defs.specs.Words.{Word}
-use Rattle.class_defs.specs.Spelling.{expr_step, expr_words}
+use Rattle.class_defs.specs.Spelling.{expr_step, expr_words, literal_word}
 use Rattle.class_defs.specs.Shape.{Shape, shape_step, shape}
-use Rattle.script_text.specs.Marks.{number_by}
+use Rattle.script_text.specs.Marks.{number_by, text_by}
 use Rattle.method_parse.specs.Matching.{IsWord, AreWords, is, is_name_kind, is_fixed_kind}
 use Rattle.method_parse.proofs.Eats.{is_not, split, first}
 
@@ -27,7 +29,7 @@ pub depth_of : (p : Place) (o : Expr-F Expr) → (shape p (roll-Expr o)).depth �
 depth_of p o = ap (λ (s : Shape). s.depth) (shape_of p o)
 
 positive_roll : (p : Place) (o : Expr-F Expr) → 0 < (shape p (roll-Expr o)).depth
-positive_roll p (Expr-F.Int v l) = omega (arith, depth_of p (Expr-F.Int v l))
+positive_roll p (Expr-F.Literal v l) = omega (arith, depth_of p (Expr-F.Literal v l))
 positive_roll p (Expr-F.Null l) = omega (arith, depth_of p (Expr-F.Null l))
 positive_roll p (Expr-F.This l) = omega (arith, depth_of p (Expr-F.This l))
 positive_roll p (Expr-F.Field n) = omega (arith, depth_of p (Expr-F.Field n))
@@ -80,19 +82,32 @@ name_plain kinds.Name e = refl
 name_plain kinds.Number e = absurd cc
 name_plain kinds.Keyword e = absurd cc
 name_plain kinds.Symbol e = absurd cc
+name_plain kinds.Quoted e = refl
 
 number_plain : (k : TokenKind) (text : List ℕ) (v : ℤ) → option_map pos (number_by k text) ≡ Some v → is_fixed_kind k ≡ false
 number_plain kinds.Name text v e = refl
 number_plain kinds.Number text v e = refl
 number_plain kinds.Keyword text v e = absurd cc
 number_plain kinds.Symbol text v e = absurd cc
+number_plain kinds.Quoted text v e = refl
+
+quoted_plain : (k : TokenKind) (text w : List ℕ) → text_by k text ≡ Some w → is_fixed_kind k ≡ false
+quoted_plain kinds.Name text w e = refl
+quoted_plain kinds.Number text w e = refl
+quoted_plain kinds.Keyword text w e = absurd cc
+quoted_plain kinds.Symbol text w e = absurd cc
+quoted_plain kinds.Quoted text w e = refl
+
+literal_plain : (t : Token) (v : Literal) (l : ℕ) → IsWord t (literal_word v l) → is_fixed_kind t.kind ≡ false
+literal_plain t (literal.Int v) l w = number_plain t.kind t.text v w.0
+literal_plain t (literal.Text v) l w = quoted_plain t.kind t.text v w.0
 
 at_word : (ts : List Token) (w : Word) (ws : List Word) → AreWords ts (w ∷ ws) → ((t : Token) → IsWord t w → IsHead t) → Headed ts
 at_word ts w ws h head = let f = first ts w ws h in record { token = f.token; rest = f.rest; parts = f.parts; head = head f.token f.is }
 
 by_form : (m : ℕ) (p : Place) → ((x : Expr) → (shape p x).depth ≤ m → (ts : List Token) → AreWords ts (expr_words x) → Headed ts)
     → (o : Expr-F Expr) → (shape p (roll-Expr o)).depth ≤ suc m → (ts : List Token) → AreWords ts (expr_step (map-Expr Expr (List Word) expr_words o)) → Headed ts
-by_form m p on (Expr-F.Int v l) le ts h = at_word ts _ _ h (λ t w. inl (number_plain t.kind t.text v w.0))
+by_form m p on (Expr-F.Literal v l) le ts h = at_word ts _ _ h (λ t w. inl (literal_plain t v l w))
 by_form m p on (Expr-F.Null l) le ts h = at_word ts _ _ h (λ t w. inr (AtNull, w.1))
 by_form m p on (Expr-F.This l) le ts h = at_word ts _ _ h (λ t w. inr (AtThis, w.1))
 by_form m p on (Expr-F.Field n) le ts h = at_word ts _ _ h (λ t w. inr (AtThis, w.1))

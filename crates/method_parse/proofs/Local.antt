@@ -3,7 +3,7 @@ use Rattle.std.proofs.Common.{◌≡◌, ℕ, zero, suc, ◌+◌, ◌≤◌, ◌
 use Rattle.std.proofs.lemmas.List.{length-append}
 use Rattle.script_text.specs.declared.token.Token.{Token}
 use Rattle.method_parse.specs.Matching.{is}
-use Rattle.method_parse.specs.Reader.{Reader, onward, ◌>>=◌, give, stuck, taken, take_by, word, name, number, type_word, next, if_next, repeat, repeat_all}
+use Rattle.method_parse.specs.Reader.{Reader, onward, ◌>>=◌, give, stuck, taken, take_by, word, name, number, quoted, type_word, next, if_next, repeat, repeat_all}
 
 -- no more tokens are left than there were
 abbrev pub Within : {X : Type 0} → ℕ → Result (X × List Token) ℕ → Type 0
@@ -215,6 +215,10 @@ local_name = local_one _
 pub local_number : Local number
 unfolding number
 local_number = local_one _
+
+pub local_quoted : Local quoted
+unfolding quoted
+local_quoted = local_one _
 
 pub local_type : Local type_word
 unfolding type_word

@@ -11,11 +11,11 @@ use Rattle.script_text.specs.declared.token.TokenKind.TheVariants as kinds
 use Rattle.class_defs.specs.declared.expressions.Name.{Name}
 use Rattle.class_defs.specs.declared.expressions.TypeName.{TypeName}
 use Rattle.class_defs.specs.declared.expressions.TypeName.TheVariants as types
-use Rattle.class_defs.specs.Words.{Word, Fixed, FixedAt, Numbered, name_word}
+use Rattle.class_defs.specs.Words.{Word, Fixed, FixedAt, Numbered, Quoted, name_word}
 use Rattle.class_defs.specs.Spelling as spelling
-use Rattle.script_text.specs.Marks.{number_in}
+use Rattle.script_text.specs.Marks.{number_in, text_in}
 use Rattle.method_parse.specs.Matching.{AreWords, is, is_name_kind, is_fixed_kind}
-use Rattle.method_parse.specs.Reader.{taken, take_by, word, name, name_in, number, with_line, type_word, type_in}
+use Rattle.method_parse.specs.Reader.{taken, take_by, word, name, name_in, number, quoted, with_line, type_word, type_in}
 use Rattle.method_parse.proofs.Lawful.{Says, Reads, Some_text, Lawful}
 
 -- words behind words
@@ -38,6 +38,9 @@ SaysName n ts = AreWords ts (name_word n ∷ [])
 
 abbrev pub SaysNumber : Says (ℕ × ℕ)
 SaysNumber n ts = AreWords ts (Numbered (pos n.0) n.1 ∷ [])
+
+abbrev pub SaysQuoted : Says (List ℕ × ℕ)
+SaysQuoted t ts = AreWords ts (Quoted t.0 t.1 ∷ [])
 
 abbrev pub SaysType : Says TypeName
 SaysType t ts = AreWords ts (spelling.type_word t ∷ [])
@@ -89,6 +92,18 @@ unfolding number
 lawful_number = lawful_one SaysNumber (λ t. with_line (number_in t) t.line)
     (λ t n e. numbered t (number_in t) n refl e)
     (record { value = (0, 1); text = token_of kinds.Number [] ∷ []; said = ((refl, refl), tt) })
+
+texted : (t : Token) (o : Option (List ℕ)) (w : List ℕ × ℕ) → text_in t ≡ o → with_line o t.line ≡ Some w → SaysQuoted w (t ∷ [])
+texted t (Some v) w e h =
+    let p : (v, t.line) ≡ w = cc in
+    subst (λ (m : List ℕ × ℕ). SaysQuoted m (t ∷ [])) p ((e, refl), tt)
+texted t None w e h = absurd cc
+
+pub lawful_quoted : Lawful SaysQuoted quoted
+unfolding quoted
+lawful_quoted = lawful_one SaysQuoted (λ t. with_line (text_in t) t.line)
+    (λ t w e. texted t (text_in t) w refl e)
+    (record { value = ([], 1); text = token_of kinds.Quoted [] ∷ []; said = ((refl, refl), tt) })
 
 typed : (t : Token) (b : Bool) (ty : TypeName) → is (codes "int") t ≡ b → cond b (Some (types.Int t.line)) (cond (is_name_kind t.kind) (Some (types.Class (record { text = t.text; line = t.line }))) None) ≡ Some ty → SaysType ty (t ∷ [])
 typed t true ty e h =

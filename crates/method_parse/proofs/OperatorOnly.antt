@@ -11,11 +11,13 @@ use Rattle.class_defs.specs.declared.expressions.Operator.TheVariants as operato
 use Rattle.class_defs.specs.declared.expressions.Expr.{Expr, out-Expr, roll-Expr, roll-out-Expr}
 use Rattle.class_defs.specs.declared.expressions.Expr.TheOpen.{Expr-F}
 use Rattle.class_defs.specs.declared.expressions.Expr.TheVariants as e
+use Rattle.class_defs.specs.declared.literals.Literal.TheVariants as literal
+use Rattle.class_defs.specs.declared.literals.Literal.{Literal}
 use Rattle.class_defs.specs.declared.places.Place.{Place}
 use Rattle.class_defs.specs.Words.{Word, Fixed, FixedAt, symbol_of}
-use Rattle.class_defs.specs.Spelling.{expr_words}
+use Rattle.class_defs.specs.Spelling.{expr_words, literal_word}
 use Rattle.class_defs.specs.Shape.{Shape, shape, level_of, left_level, right_level}
-use Rattle.script_text.specs.Marks.{number_by}
+use Rattle.script_text.specs.Marks.{number_by, text_by}
 use Rattle.method_parse.specs.declared.deep.Deep.{Deep}
 use Rattle.method_parse.specs.declared.deep.Level.{Level}
 use Rattle.method_parse.specs.declared.deep.Level.TheVariants as levels
@@ -62,6 +64,7 @@ by_symbol levels.Comparison operators.Less of = refl
 pub operator_found : (level : Level) (o : Operator) (k : TokenKind) (text : List ℕ) → is_fixed_kind k ≡ true → text ≡ symbol_of o → tightness level ≡ level_of o → operator_by level k text ≡ Some o
 operator_found level o kinds.Name text f same of = absurd cc
 operator_found level o kinds.Number text f same of = absurd cc
+operator_found level o kinds.Quoted text f same of = absurd cc
 operator_found level o kinds.Keyword text f same of = ap (operator_of level) same ∙ by_symbol level o of
 operator_found level o kinds.Symbol text f same of = ap (operator_of level) same ∙ by_symbol level o of
 
@@ -109,12 +112,25 @@ name_plain kinds.Name e = refl
 name_plain kinds.Number e = absurd cc
 name_plain kinds.Keyword e = absurd cc
 name_plain kinds.Symbol e = absurd cc
+name_plain kinds.Quoted e = refl
 
 pub number_plain : (k : TokenKind) (text : List ℕ) (v : ℤ) → option_map pos (number_by k text) ≡ Some v → is_fixed_kind k ≡ false
 number_plain kinds.Name text v e = refl
 number_plain kinds.Number text v e = refl
 number_plain kinds.Keyword text v e = absurd cc
 number_plain kinds.Symbol text v e = absurd cc
+number_plain kinds.Quoted text v e = refl
+
+pub quoted_plain : (k : TokenKind) (text w : List ℕ) → text_by k text ≡ Some w → is_fixed_kind k ≡ false
+quoted_plain kinds.Name text w e = refl
+quoted_plain kinds.Number text w e = refl
+quoted_plain kinds.Keyword text w e = absurd cc
+quoted_plain kinds.Symbol text w e = absurd cc
+quoted_plain kinds.Quoted text w e = refl
+
+pub literal_plain : (t : Token) (v : Literal) (l : ℕ) → IsWord t (literal_word v l) → is_fixed_kind t.kind ≡ false
+literal_plain t (literal.Int v) l w = number_plain t.kind t.text v w.0
+literal_plain t (literal.Text v) l w = quoted_plain t.kind t.text v w.0
 
 pub operator_takes : {B : Type 0} (level : Level) (o : Operator) (line : ℕ) (ws : List Word) (ts rest : List Token) (result : Result (B × List Token) ℕ) (next : Operator × ℕ → Reader B)
     → tightness level ≡ level_of o → AreWords ts (FixedAt (symbol_of o) line ∷ ws) → ((us : List Token) → AreWords us ws → next (o, line) (us ++ rest) ≡ result) → (operator level >>= next) (ts ++ rest) ≡ result
@@ -154,7 +170,7 @@ module _ (place : Place) (room : Room) (below : ℕ) (deeper : room.depth ≡ be
   level_small operators.Less = omega arith
 
   no_minus_form : (m : ℕ) → NoMinus m → (o : Expr-F Expr) → (x : Expr) → roll-Expr o ≡ x → (shape place x).depth ≤ suc m → Fit 4 x → (ts rest : List Token) → AreWords ts (expr_words x) → next (is_minus room) (ts ++ rest) ≡ false
-  no_minus_form m to (Expr-F.Int v l) x is le fit ts rest h = no_minus_at ts rest _ _ (subst (λ (w : List Word). AreWords ts w) (ap expr_words (sym is ∙ e.rolls-Int v l) ∙ eq.words-Int v l) h) (λ t w. rw (number_plain t.kind t.text v w.0) refl)
+  no_minus_form m to (Expr-F.Literal v l) x is le fit ts rest h = no_minus_at ts rest _ _ (subst (λ (w : List Word). AreWords ts w) (ap expr_words (sym is ∙ e.rolls-Literal v l) ∙ eq.words-Literal v l) h) (λ t w. rw (literal_plain t v l w) refl)
   no_minus_form m to (Expr-F.Null l) x is le fit ts rest h = no_minus_at ts rest _ _ (subst (λ (w : List Word). AreWords ts w) (ap expr_words (sym is ∙ e.rolls-Null l) ∙ eq.words-Null l) h) (λ t w. is_not (codes "null") (codes "-") t w.1 refl)
   no_minus_form m to (Expr-F.This l) x is le fit ts rest h = no_minus_at ts rest _ _ (subst (λ (w : List Word). AreWords ts w) (ap expr_words (sym is ∙ e.rolls-This l) ∙ eq.words-This l) h) (λ t w. is_not (codes "this") (codes "-") t w.1 refl)
   no_minus_form m to (Expr-F.Field n) x is le fit ts rest h = no_minus_at ts rest _ _ (subst (λ (w : List Word). AreWords ts w) (ap expr_words (sym is ∙ e.rolls-Field n) ∙ eq.words-Field n) h) (λ t w. is_not (codes "this") (codes "-") t w.1 refl)
@@ -205,7 +221,7 @@ module _ (place : Place) (room : Room) (below : ℕ) (deeper : room.depth ≡ be
   tighter_four x s same le fit = record { within = fit.within; nested = fit.nested; tight = subst (λ (t : Shape). 4 ≤ t.level) (sym same) le; proper = fit.proper }
 
   unary_form : (o : Expr-F Expr) (x : Expr) → roll-Expr o ≡ x → Fit 3 x → (ts rest : List Token) → AreWords ts (expr_words x) → Stops 3 rest → unary place room inner parts (ts ++ rest) ≡ got (deep place x) rest
-  unary_form (Expr-F.Int v l) x is fit ts rest h stops = postfix_case x (tighter_four x _ (ap (shape place) (sym is ∙ e.rolls-Int v l) ∙ eq.shape-Int place v l) (omega arith) fit) ts rest h stops
+  unary_form (Expr-F.Literal v l) x is fit ts rest h stops = postfix_case x (tighter_four x _ (ap (shape place) (sym is ∙ e.rolls-Literal v l) ∙ eq.shape-Literal place v l) (omega arith) fit) ts rest h stops
   unary_form (Expr-F.Null l) x is fit ts rest h stops = postfix_case x (tighter_four x _ (ap (shape place) (sym is ∙ e.rolls-Null l) ∙ eq.shape-Null place l) (omega arith) fit) ts rest h stops
   unary_form (Expr-F.This l) x is fit ts rest h stops = postfix_case x (tighter_four x _ (ap (shape place) (sym is ∙ e.rolls-This l) ∙ eq.shape-This place l) (omega arith) fit) ts rest h stops
   unary_form (Expr-F.Field n) x is fit ts rest h stops = postfix_case x (tighter_four x _ (ap (shape place) (sym is ∙ e.rolls-Field n) ∙ eq.shape-Field place n) (omega arith) fit) ts rest h stops
@@ -319,7 +335,7 @@ module _ (place : Place) (room : Room) (below : ℕ) (deeper : room.depth ≡ be
         row_step o l r line of f (to l (omega (arith, depth_is (eq.shape-Binary place o l r line))) (record { within = f.left.within; nested = f.left.nested; tight = omega (arith, left_above o, f.left.tight); proper = f.left.proper }))
 
     row_form : (m : ℕ) → RowTo m → (o : Expr-F Expr) (x : Expr) → roll-Expr o ≡ x → (shape place x).depth ≤ suc m → Fit (tightness level) x → Row x
-    row_form m to (Expr-F.Int v l) x is le fit = row_base x (raise x _ (ap (shape place) (sym is ∙ e.rolls-Int v l) ∙ eq.shape-Int place v l) (omega arith) fit)
+    row_form m to (Expr-F.Literal v l) x is le fit = row_base x (raise x _ (ap (shape place) (sym is ∙ e.rolls-Literal v l) ∙ eq.shape-Literal place v l) (omega arith) fit)
     row_form m to (Expr-F.Null l) x is le fit = row_base x (raise x _ (ap (shape place) (sym is ∙ e.rolls-Null l) ∙ eq.shape-Null place l) (omega arith) fit)
     row_form m to (Expr-F.This l) x is le fit = row_base x (raise x _ (ap (shape place) (sym is ∙ e.rolls-This l) ∙ eq.shape-This place l) (omega arith) fit)
     row_form m to (Expr-F.Field n) x is le fit = row_base x (raise x _ (ap (shape place) (sym is ∙ e.rolls-Field n) ∙ eq.shape-Field place n) (omega arith) fit)

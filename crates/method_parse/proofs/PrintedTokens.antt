@@ -1,16 +1,21 @@
 -- Words with one space between two are tokens: just those words, on one line.
-use Rattle.std.proofs.Common.{◌≡◌, ℕ, ℤ, pos, suc, ◌+◌, List, [], ◌∷◌, ◌++◌, length, map, Option, Some, None, refl, sym, ap, ap₂, subst, arith}
+use Rattle.std.proofs.Common.{◌≡◌, ℕ, ℤ, pos, suc, ◌+◌, ◌-◌, ◌∙◌, true, List, [], ◌∷◌, ◌++◌, length, map, Option, Some, None, refl, sym, ap, ap₂, subst, arith, length-append}
 use Rattle.std.specs.Prelude.{option_map}
 use Rattle.std.specs.List.{flat_map, AllByRecursion}
+use Rattle.std.proofs.lemmas.Bool.{cond-true}
+use Rattle.std.proofs.lemmas.List.{take_at}
+use Rattle.std.proofs.lemmas.Option.{cond_some}
+use Rattle.thor_value.specs.Words.{fits_word, word_from}
+use Rattle.script_text.specs.Words.{quotation_mark}
 use Rattle.script_text.specs.declared.token.Token.{Token}
 use Rattle.script_text.specs.declared.token.TokenKind.{TokenKind}
 use Rattle.script_text.specs.declared.token.TokenKind.TheVariants as kinds
 use Rattle.script_text.specs.Tokens.{line_at}
 use Rattle.script_text.specs.Laws.{AreSpelled}
-use Rattle.script_text.specs.Grammar.{IsToken, Part, Separator, Lexeme, bytes_of, EndsBefore, AreParts, tokens_in, AreTokensOf}
-use Rattle.class_defs.specs.Words.{Word, Fixed, FixedAt, Named, Numbered}
+use Rattle.script_text.specs.Grammar.{IsToken, quoted, Part, Separator, Lexeme, bytes_of, EndsBefore, AreParts, tokens_in, AreTokensOf}
+use Rattle.class_defs.specs.Words.{Word, Fixed, FixedAt, Named, Numbered, Quoted}
 use Rattle.class_defs.specs.Printed.{word_text, spaced_words, with_spaces}
-use Rattle.script_text.specs.Marks.{number_by}
+use Rattle.script_text.specs.Marks.{inside, number_by, text_by}
 use Rattle.method_parse.specs.Matching.{AreWords, IsWord}
 use Rattle.method_parse.proofs.PrintedNumbers.{decimal_token, decimal_number, number_small}
 use Rattle.method_parse.proofs.PrintedWords.{OnOneLine, line_both, line_cons, line_take, token_line, ends_before_space, ends_at_end}
@@ -21,6 +26,7 @@ first_line (Fixed text) = Fixed text
 first_line (FixedAt text line) = FixedAt text 1
 first_line (Named text line) = Named text 1
 first_line (Numbered value line) = Numbered value 1
+first_line (Quoted text line) = Quoted text 1
 
 -- what a token of a kind is, wherever its text stands
 abbrev Again : TokenKind → Word → Type 0
@@ -39,6 +45,7 @@ number_printed kind text None value line e h = absurd cc
 number_printed kinds.Name text (Some n) value line e h = absurd cc
 number_printed kinds.Keyword text (Some n) value line e h = absurd cc
 number_printed kinds.Symbol text (Some n) value line e h = absurd cc
+number_printed kinds.Quoted text (Some n) value line e h = absurd cc
 number_printed kinds.Number text (Some n) value line e h =
     let small = number_small text n e in
     let is : pos n ≡ value = cc in
@@ -46,6 +53,24 @@ number_printed kinds.Number text (Some n) value line e h =
       token = decimal_token n small;
       again = λ from to. (ap (λ (o : Option ℕ). option_map pos o) (decimal_number n small), refl);
     })
+
+-- what stands between the marks of a text is the text
+text_inside : (word : List ℕ) → inside (quoted word) ≡ word
+text_inside word = take_at word (quotation_mark ∷ []) (length (word ++ quotation_mark ∷ []) - 1) (omega (arith, length-append word (quotation_mark ∷ [])))
+
+-- a text that a token is
+text_printed : (kind : TokenKind) (text word : List ℕ) (line : ℕ) → text_by kind text ≡ Some word → IsPrinted kind (Quoted word line)
+text_printed kinds.Name text word line e = absurd cc
+text_printed kinds.Number text word line e = absurd cc
+text_printed kinds.Keyword text word line e = absurd cc
+text_printed kinds.Symbol text word line e = absurd cc
+text_printed kinds.Quoted text word line e =
+    let w = cond_some (fits_word (inside text)) (inside text) word e in
+    let fits : fits_word word ≡ true = ap fits_word (sym w.1) ∙ w.0 in
+    record {
+      token = record { word = word; fits = fits; is = refl };
+      again = λ from to. (ap word_from (text_inside word) ∙ cond-true (fits_word word) (Some word) None fits, refl);
+    }
 
 word_printed : (t : Token) (w : Word) → IsToken t.kind t.text → IsWord t w → IsPrinted t.kind w
 word_printed t (Fixed text) spelled is = record {
@@ -61,6 +86,7 @@ word_printed t (Named text line) spelled is = record {
   again = λ from to. (is.0, refl, refl);
 }
 word_printed t (Numbered value line) spelled is = number_printed t.kind t.text _ value line refl is.0
+word_printed t (Quoted text line) spelled is = text_printed t.kind t.text text line is.0
 
 -- words, each with the kind of its token
 abbrev pub Kinds : Type 0
@@ -180,6 +206,7 @@ text_lined (Fixed text) = refl
 text_lined (FixedAt text line) = refl
 text_lined (Named text line) = refl
 text_lined (Numbered value line) = refl
+text_lined (Quoted text line) = refl
 
 spaced_lined : (ws : List Word) → spaced_words (map first_line ws) ≡ spaced_words ws
 spaced_lined [] = refl

@@ -7,10 +7,11 @@ use Rattle.std.specs.Str.{bytes_eq}
 use Rattle.std.proofs.lemmas.Bool.{or_cases, or_left, or_right, and_parts, and_from, eqb-true, false_from_ne_true, both_ways}
 use Rattle.std.proofs.lemmas.List.Sums.{sum_by-append, sum_by-cons}
 use Rattle.std.proofs.lemmas.Slice.Eq.{bytes_eq-Decides}
+use Rattle.thor_value.specs.Words.{fits_word, is_text_byte}
 use Rattle.script_text.specs.declared.token.TokenKind.{TokenKind}
-use Rattle.script_text.specs.declared.token.TokenKind.TheVariants.{Name, Number, Keyword, Symbol}
+use Rattle.script_text.specs.declared.token.TokenKind.TheVariants.{Name, Number, Keyword, Symbol, Quoted}
 use Rattle.script_text.specs.Bytes.{is_newline, is_letter, is_digit, is_word_byte}
-use Rattle.script_text.specs.Words.{long_symbols, short_symbols}
+use Rattle.script_text.specs.Words.{long_symbols, quotation_mark, short_symbols}
 use Rattle.script_text.specs.Grammar.{is_word, is_number, is_symbol, IsToken, EndsBefore}
 
 abbrev counted : ℕ → ℕ
@@ -64,12 +65,18 @@ number_bytes : (text : List ℕ) → is_number text ≡ true → list_all is_dig
 number_bytes [] e = refl
 number_bytes (b ∷ bs) e = e
 
+all_bytes : (word : List ℕ) → fits_word word ≡ true → list_all is_text_byte word ≡ true
+all_bytes word fits = (and_parts _ (list_all is_text_byte word) fits).1
+
 pub token_line : (kind : TokenKind) (text : List ℕ) → IsToken kind text → OnOneLine text
 token_line Name text h = passing is_word_byte refl text (word_bytes text h.0)
 token_line Keyword text h = passing is_word_byte refl text (word_bytes text h.0)
 token_line Number text h = passing is_digit refl text (number_bytes text h.0)
 token_line Symbol text h = each_among OnOneLine symbols text
     (refl, (refl, (refl, (refl, (refl, (refl, (refl, (refl, (refl, (refl, (refl, (refl, (refl, (refl, tt)))))))))))))) h
+token_line Quoted text h =
+    let bytes : OnOneLine h.word = passing is_text_byte refl h.word (all_bytes h.word h.fits) in
+    subst OnOneLine (sym h.is) (line_cons quotation_mark (h.word ++ quotation_mark ∷ []) refl (line_both h.word (quotation_mark ∷ []) bytes (line_cons quotation_mark [] refl refl)))
 
 -- a space stands in the text
 abbrev has_space : List ℕ → Bool
@@ -91,9 +98,11 @@ ends_before_space Name text behind = refl
 ends_before_space Keyword text behind = refl
 ends_before_space Number text behind = refl
 ends_before_space Symbol text behind = no_symbol text
+ends_before_space Quoted text behind = tt
 
 pub ends_at_end : (kind : TokenKind) (text : List ℕ) → EndsBefore kind text []
 ends_at_end Name text = tt
 ends_at_end Keyword text = tt
 ends_at_end Number text = tt
 ends_at_end Symbol text = tt
+ends_at_end Quoted text = tt

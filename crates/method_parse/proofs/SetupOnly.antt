@@ -73,6 +73,7 @@ name_is kinds.Name a e = refl
 name_is kinds.Number a e = absurd cc
 name_is kinds.Keyword a e = absurd cc
 name_is kinds.Symbol a e = absurd cc
+name_is kinds.Quoted a e = absurd cc
 
 type_fails : (ty : TypeName) (ws : List Word) (ts rest : List Token) → AreWords ts (spelling.type_word ty ∷ ws) → next (is (codes ")")) (ts ++ rest) ≡ false
 type_fails ty ws [] rest h = absurd h
@@ -88,6 +89,7 @@ fixed_no_type text (t ∷ ts) rest ws h e = rw (is_not text (codes "int") t h.0.
     fixed_no_name kinds.Number e = absurd cc
     fixed_no_name kinds.Keyword e = refl
     fixed_no_name kinds.Symbol e = refl
+    fixed_no_name kinds.Quoted e = absurd cc
 
 field_reads : (x : Field) (ts rest : List Token) → AreWords ts (field_words x) → Any x → field (ts ++ rest) ≡ gives x rest
 unfolding field

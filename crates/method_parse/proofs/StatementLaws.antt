@@ -179,7 +179,7 @@ module _ (place : Place) (brackets : ℕ) where
   by_form : (x : Expr) (front : List Token) → IsExpr place brackets x front → (o : Expr-F Expr) → roll-Expr o ≡ x → Lawful (behind front (IsStmt place brackets)) (after_expression_by place brackets x o)
   by_form x front r (Expr-F.Variable n) is = lawful_assigned_name n front (subst (λ (y : Expr). IsExpr place brackets y front) (sym is ∙ e.rolls-Variable n) r)
   by_form x front r (Expr-F.Field n) is = lawful_assigned_field n front (subst (λ (y : Expr). IsExpr place brackets y front) (sym is ∙ e.rolls-Field n) r)
-  by_form x front r (Expr-F.Int v l) is = lawful_evaluated x front r
+  by_form x front r (Expr-F.Literal v l) is = lawful_evaluated x front r
   by_form x front r (Expr-F.Null l) is = lawful_evaluated x front r
   by_form x front r (Expr-F.This l) is = lawful_evaluated x front r
   by_form x front r (Expr-F.New n a) is = lawful_evaluated x front r
@@ -258,6 +258,7 @@ module _ (place : Place) (brackets : ℕ) where
     kind_allows : (k : TokenKind) (text : List ℕ) → Allows (start_by place brackets k text)
     kind_allows kinds.Name text = tt
     kind_allows kinds.Number text = tt
+    kind_allows kinds.Quoted text = tt
     kind_allows kinds.Keyword text = fixed_allows text
     kind_allows kinds.Symbol text = fixed_allows text
 

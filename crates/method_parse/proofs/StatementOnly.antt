@@ -57,6 +57,7 @@ name_is kinds.Name a e = refl
 name_is kinds.Number a e = absurd cc
 name_is kinds.Keyword a e = absurd cc
 name_is kinds.Symbol a e = absurd cc
+name_is kinds.Quoted a e = absurd cc
 
 opens_at : (ts : List Token) (text : List ℕ) (ws : List Word) → AreWords ts (Fixed text ∷ ws) → bytes_eq text (codes "else") ≡ false → bytes_eq text (codes "}") ≡ false → Opens ts
 opens_at [] text ws h a b = absurd h
@@ -110,6 +111,7 @@ opens place x ts h = opens_form place (out-Stmt x) x (roll-out-Stmt x) ts h
 fixed_starts : (place : Place) (brackets : ℕ) (k : TokenKind) (text known : List ℕ) → is_fixed_kind k ≡ true → text ≡ known → start_by place brackets k text ≡ fixed_start place brackets known
 fixed_starts place brackets kinds.Name text known f same = absurd cc
 fixed_starts place brackets kinds.Number text known f same = absurd cc
+fixed_starts place brackets kinds.Quoted text known f same = absurd cc
 fixed_starts place brackets kinds.Keyword text known f same = ap (fixed_start place brackets) same
 fixed_starts place brackets kinds.Symbol text known f same = ap (fixed_start place brackets) same
 
@@ -121,6 +123,7 @@ starts_fixed place brackets (t ∷ ts) rest text ws s h e = fixed_starts place b
 plain_other : (place : Place) (brackets : ℕ) (k : TokenKind) (text : List ℕ) → is_fixed_kind k ≡ false → start_by place brackets k text ≡ starts.Other
 plain_other place brackets kinds.Name text f = refl
 plain_other place brackets kinds.Number text f = refl
+plain_other place brackets kinds.Quoted text f = refl
 plain_other place brackets kinds.Keyword text f = absurd cc
 plain_other place brackets kinds.Symbol text f = absurd cc
 
@@ -134,6 +137,7 @@ starter_other place brackets AtMinus = refl
 text_other : (place : Place) (brackets : ℕ) (k : TokenKind) (text known : List ℕ) → text ≡ known → fixed_start place brackets known ≡ starts.Other → start_by place brackets k text ≡ starts.Other
 text_other place brackets kinds.Name text known same e = refl
 text_other place brackets kinds.Number text known same e = refl
+text_other place brackets kinds.Quoted text known same e = refl
 text_other place brackets kinds.Keyword text known same e = ap (fixed_start place brackets) same ∙ e
 text_other place brackets kinds.Symbol text known same e = ap (fixed_start place brackets) same ∙ e
 
@@ -216,7 +220,7 @@ module _ (place : Place) (brackets : ℕ) where
       rw (head_fails (codes ";") (codes "=") us rest [] h refl) (evaluated_reads (e.Variable n) us rest h ∙ ap (λ (y : Expr). gives (s.Evaluate y) rest) (sym (e.rolls-Variable n) ∙ is))
   evaluate_by x (Expr-F.Field n) is us rest h =
       rw (head_fails (codes ";") (codes "=") us rest [] h refl) (evaluated_reads (e.Field n) us rest h ∙ ap (λ (y : Expr). gives (s.Evaluate y) rest) (sym (e.rolls-Field n) ∙ is))
-  evaluate_by x (Expr-F.Int v l) is us rest h = evaluated_reads x us rest h
+  evaluate_by x (Expr-F.Literal v l) is us rest h = evaluated_reads x us rest h
   evaluate_by x (Expr-F.Null l) is us rest h = evaluated_reads x us rest h
   evaluate_by x (Expr-F.This l) is us rest h = evaluated_reads x us rest h
   evaluate_by x (Expr-F.New n a) is us rest h = evaluated_reads x us rest h

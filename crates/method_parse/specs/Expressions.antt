@@ -6,6 +6,7 @@ use Rattle.class_defs.specs.declared.expressions.Operator.{Operator}
 use Rattle.class_defs.specs.declared.expressions.Operator.TheVariants as operators
 use Rattle.class_defs.specs.declared.expressions.Expr.{Expr}
 use Rattle.class_defs.specs.declared.expressions.Expr.TheVariants as e
+use Rattle.class_defs.specs.declared.literals.Literal.TheVariants as literal
 use Rattle.class_defs.specs.declared.places.Place.{Place}
 use Rattle.class_defs.specs.Shape.{in_method}
 use Rattle.script_text.specs.declared.token.Token.{Token}
@@ -21,7 +22,7 @@ use Rattle.method_parse.specs.declared.deep.Start.{Start}
 use Rattle.method_parse.specs.declared.deep.Start.TheVariants as starts
 use Rattle.method_parse.specs.declared.deep.Room.{Room}
 use Rattle.method_parse.specs.Matching.{is}
-use Rattle.method_parse.specs.Reader.{Reader, ◌>>=◌, give, stuck, take_by, word, name, number, if_next, repeat, repeat_all}
+use Rattle.method_parse.specs.Reader.{Reader, ◌>>=◌, give, stuck, take_by, word, name, number, quoted, if_next, repeat, repeat_all}
 
 abbrev pub leaf : Expr → Deep
 leaf expr = record { expr = expr; depth = 1 }
@@ -116,6 +117,7 @@ fixed_start place room text =
 abbrev pub start_by : Place → Room → TokenKind → List ℕ → Start
 start_by place room kinds.Name text = starts.Name
 start_by place room kinds.Number text = starts.Number
+start_by place room kinds.Quoted text = starts.Quoted
 start_by place room kinds.Keyword text = fixed_start place room text
 start_by place room kinds.Symbol text = fixed_start place room text
 
@@ -144,7 +146,10 @@ parens inner = do
 unfoldable pub primary_by : Room → Reader Deep → Start → Reader Deep
 primary_by room inner starts.Number = do
   n ← number
-  give (leaf (e.Int (pos n.0) n.1))
+  give (leaf (e.Literal (literal.Int (pos n.0)) n.1))
+primary_by room inner starts.Quoted = do
+  text ← quoted
+  give (leaf (e.Literal (literal.Text text.0) text.1))
 primary_by room inner starts.Name = do
   variable ← name
   give (leaf (e.Variable variable))
@@ -208,6 +213,7 @@ operator_of levels.Comparison text =
 abbrev pub operator_by : Level → TokenKind → List ℕ → Option Operator
 operator_by level kinds.Name text = None
 operator_by level kinds.Number text = None
+operator_by level kinds.Quoted text = None
 operator_by level kinds.Keyword text = operator_of level text
 operator_by level kinds.Symbol text = operator_of level text
 

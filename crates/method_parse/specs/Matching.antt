@@ -4,14 +4,15 @@ use Rattle.std.specs.Str.{bytes_eq}
 use Rattle.script_text.specs.declared.token.Token.{Token}
 use Rattle.script_text.specs.declared.token.TokenKind.{TokenKind}
 use Rattle.script_text.specs.declared.token.TokenKind.TheVariants as kinds
-use Rattle.script_text.specs.Marks.{number_in}
-use Rattle.class_defs.specs.Words.{Word, Fixed, FixedAt, Named, Numbered}
+use Rattle.script_text.specs.Marks.{number_in, text_in}
+use Rattle.class_defs.specs.Words.{Word, Fixed, FixedAt, Named, Numbered, Quoted}
 
 abbrev pub is_name_kind : TokenKind → Bool
 is_name_kind kinds.Name = true
 is_name_kind kinds.Number = false
 is_name_kind kinds.Keyword = false
 is_name_kind kinds.Symbol = false
+is_name_kind kinds.Quoted = false
 
 -- keywords and symbols
 abbrev pub is_fixed_kind : TokenKind → Bool
@@ -19,6 +20,18 @@ is_fixed_kind kinds.Name = false
 is_fixed_kind kinds.Number = false
 is_fixed_kind kinds.Keyword = true
 is_fixed_kind kinds.Symbol = true
+is_fixed_kind kinds.Quoted = false
+
+abbrev pub is_quoted_kind : TokenKind → Bool
+is_quoted_kind kinds.Name = false
+is_quoted_kind kinds.Number = false
+is_quoted_kind kinds.Keyword = false
+is_quoted_kind kinds.Symbol = false
+is_quoted_kind kinds.Quoted = true
+
+-- whether a token is a text literal
+abbrev pub is_quoted : Token → Bool
+is_quoted token = is_quoted_kind token.kind
 
 -- whether a token is this keyword or symbol
 abbrev pub is : List ℕ → Token → Bool
@@ -30,6 +43,7 @@ IsWord token (Fixed text) = (is_fixed_kind token.kind ≡ true) × (token.text �
 IsWord token (FixedAt text line) = (is_fixed_kind token.kind ≡ true) × (token.text ≡ text) × (token.line ≡ line)
 IsWord token (Named text line) = (is_name_kind token.kind ≡ true) × (token.text ≡ text) × (token.line ≡ line)
 IsWord token (Numbered value line) = (option_map pos (number_in token) ≡ Some value) × (token.line ≡ line)
+IsWord token (Quoted text line) = (text_in token ≡ Some text) × (token.line ≡ line)
 
 -- the tokens are the words, one for one
 abbrev pub AreWords : List Token → List Word → Type 0

@@ -5,7 +5,7 @@ use Rattle.class_defs.specs.declared.expressions.Name.{Name}
 use Rattle.class_defs.specs.declared.expressions.TypeName.{TypeName}
 use Rattle.class_defs.specs.declared.expressions.TypeName.TheVariants as type_name
 use Rattle.script_text.specs.declared.token.Token.{Token}
-use Rattle.script_text.specs.Marks.{number_in}
+use Rattle.script_text.specs.Marks.{number_in, text_in}
 use Rattle.method_parse.specs.declared.error.ParseError.{ParseError}
 use Rattle.method_parse.specs.declared.error.ParseError.TheVariants as errors
 use Rattle.method_parse.specs.Matching.{is_name_kind, is}
@@ -50,13 +50,17 @@ name_in token = if is_name_kind token.kind then Some (record { text = token.text
 unfoldable pub name : Reader Name
 name = take_by name_in
 
-abbrev pub with_line : Option ℕ → ℕ → Option (ℕ × ℕ)
-with_line (Some n) line = Some (n, line)
+abbrev pub with_line : {X : Type 0} → Option X → ℕ → Option (X × ℕ)
+with_line (Some x) line = Some (x, line)
 with_line None line = None
 
 -- a number, with its line
 unfoldable pub number : Reader (ℕ × ℕ)
 number = take_by (λ token. with_line (number_in token) token.line)
+
+-- the text of a text literal, with its line
+unfoldable pub quoted : Reader (List ℕ × ℕ)
+quoted = take_by (λ token. with_line (text_in token) token.line)
 
 abbrev pub type_in : Token → Option TypeName
 type_in token =

@@ -132,6 +132,7 @@ fixed_start place brackets text =
 abbrev pub start_by : Place → ℕ → TokenKind → List ℕ → StmtStart
 start_by place brackets kinds.Name text = starts.Other
 start_by place brackets kinds.Number text = starts.Other
+start_by place brackets kinds.Quoted text = starts.Other
 start_by place brackets kinds.Keyword text = fixed_start place brackets text
 start_by place brackets kinds.Symbol text = fixed_start place brackets text
 

@@ -1,6 +1,7 @@
 //! What the parser keeps beside the trees.
 
-use class_defs::{Expr, Exprs};
+use class_defs::Expr;
+use thor_value::Sequence;
 
 /// An expression, and its height as a tree.
 #[derive(Debug, Drop)]
@@ -13,7 +14,7 @@ pub struct Deep {
 /// Expressions, and the height of the highest.
 #[derive(Debug, Drop)]
 pub struct Arguments {
-    pub exprs: Exprs,
+    pub exprs: Sequence<Expr>,
     pub depth: u32,
 }
 
@@ -43,6 +44,7 @@ pub struct Room {
 #[derive(Clone, Copy, Debug, PartialEq, Eq)]
 pub enum Start {
     Number,
+    Quoted,
     Name,
     Null,
     This,

@@ -11,11 +11,11 @@ use crate::error::ParseError;
 use crate::starts::{
     is_call, is_field_call, is_join, is_minus, most_joins, operator_in, start, tighter,
 };
-use crate::take::{name, next_is, number, word};
-use class_defs::{At, Expr, Exprs, Name, Operator, Place};
+use crate::take::{name, next_is, number, quoted, word};
+use class_defs::{At, Expr, Exprs, Literal, Name, Operator, Place};
 use script_text::Token;
 use std::alloc::Global;
-use thor_value::{Boxed, NoMemory, both};
+use thor_value::{NoMemory, Sequence, Shared, both};
 
 /// `at` and a number, or nothing.
 #[tactic(auto, unfolding(crate::specs::Expressions::at))]
@@ -136,7 +136,7 @@ fn some_arguments(
     ensures within { IfOk result (λ x. x.0.depth < room.depth) }
 {
     let (first, rest) = inner(alloc, place, room, tokens)?;
-    let mut exprs = Exprs::new(alloc);
+    let mut exprs = Sequence::new(alloc);
     exprs.push(first.expr)?;
     let first = Arguments {
         exprs,
@@ -189,7 +189,7 @@ fn listed(
     ensures within { IfOk result (λ x. x.0.depth < room.depth) }
 {
     if next_is(tokens, b")") {
-        let exprs = Exprs::new(alloc);
+        let exprs = Sequence::new(alloc);
         return Ok((Arguments { exprs, depth: 0 }, tokens));
     }
     some_arguments(alloc, place, room, tokens)
@@ -234,11 +234,13 @@ fn after_field(
         return Ok((leaf(Expr::Field { name: field }), tokens));
     }
     let (read, rest) = arguments(alloc, place, room, tokens)?;
-    let receiver = Boxed::new(alloc, Expr::This { line })?;
+    let (field, arguments) = both(field, Exprs::new(alloc, read.exprs))?;
+    let (called, receiver) = both((field, arguments), Shared::new(alloc, Expr::This { line }))?;
+    let (method, arguments) = called;
     let expr = Expr::Call {
         receiver,
-        method: field,
-        arguments: read.exprs,
+        method,
+        arguments,
     };
     let depth = read.depth.max(1) + 1;
     Ok((Deep { expr, depth }, rest))
@@ -283,7 +285,7 @@ fn parens(
     let (line, rest) = word(tokens, b"(")?;
     let (read, rest) = inner(alloc, place, room, rest)?;
     let (read, (_, rest)) = both(read, word(rest, b")"))?;
-    let inner = Boxed::new(alloc, read.expr)?;
+    let inner = Shared::new(alloc, read.expr)?;
     let expr = Expr::Parens { inner, line };
     let depth = read.depth + 1;
     Ok((Deep { expr, depth }, rest))
@@ -320,7 +322,13 @@ fn primary(
         Start::Number => {
             let ((value, line), rest) = number(tokens)?;
             let value = value as i64;
-            Ok((leaf(Expr::Int { value, line }), rest))
+            let value = Literal::Int(value);
+            Ok((leaf(Expr::Literal { value, line }), rest))
+        }
+        Start::Quoted => {
+            let ((text, line), rest) = quoted(tokens)?;
+            let value = Literal::Text(text);
+            Ok((leaf(Expr::Literal { value, line }), rest))
         }
         Start::Name => {
             let (name, rest) = name(tokens)?;
@@ -347,7 +355,9 @@ fn call(alloc: Global, receiver: Deep, method: Name, arguments: Arguments) -> Re
     ensures { IfOk result (λ deep. deep ≡ call receiver method arguments) }
 {
     let depth = receiver.depth.max(arguments.depth) + 1;
-    let (behind, receiver) = both((method, arguments.exprs), Boxed::new(alloc, receiver.expr))?;
+    let (callee, arguments) = both((receiver.expr, method), Exprs::new(alloc, arguments.exprs))?;
+    let (receiver, method) = callee;
+    let (behind, receiver) = both((method, arguments), Shared::new(alloc, receiver))?;
     let (method, arguments) = behind;
     let expr = Expr::Call {
         receiver,
@@ -426,7 +436,7 @@ fn unary(
     }
     let (line, rest) = word(tokens, b"-")?;
     let (read, rest) = operand(alloc, place, room, Level::Unary, rest)?;
-    let operand = Boxed::new(alloc, read.expr)?;
+    let operand = Shared::new(alloc, read.expr)?;
     let expr = Expr::Negate { operand, line };
     let depth = read.depth + 1;
     Ok((Deep { expr, depth }, rest))
@@ -445,8 +455,8 @@ fn binary(
     ensures { IfOk result (λ deep. deep ≡ record { expr = ABinary operator left.expr right.expr line; depth = max left.depth right.depth + 1 }) }
 {
     let depth = left.depth.max(right.depth) + 1;
-    let (right, left) = both(right.expr, Boxed::new(alloc, left.expr))?;
-    let (left, right) = both(left, Boxed::new(alloc, right))?;
+    let (right, left) = both(right.expr, Shared::new(alloc, left.expr))?;
+    let (left, right) = both(left, Shared::new(alloc, right))?;
     let expr = Expr::Binary {
         operator,
         left,

@@ -1,13 +1,13 @@
 //! Trees printed: their words, with one space between two.
 
-ghost use Rattle.std.specs.Prelude.{◌≡◌, ◌∷◌, ◌++◌, map, OnOk};
+ghost use Rattle.std.specs.Prelude.{◌≡◌, ℕ, [], ◌∷◌, ◌++◌, map, OnOk};
 ghost use Rattle.class_defs.specs.Words.{name_word, symbol_of, with_commas};
-ghost use Rattle.class_defs.specs.Spelling.{type_word, at_words, condition_words, expr_words};
+ghost use Rattle.class_defs.specs.Spelling.{type_word, at_words, condition_words, expr_words, literal_word};
 ghost use Rattle.std.specs.Fmt.{signed_decimal};
 ghost use Rattle.class_defs.specs.Printed.{spaced_word, spaced_words};
 
-use class_defs::{At, Expr, Exprs, Name, Operator, TypeName};
-use thor_value::{Boxed, NoMemory, Text};
+use class_defs::{At, Expr, Exprs, Literal, Name, Operator, TypeName};
+use thor_value::{NoMemory, Shared, Text, Word};
 
 /// Prints a keyword or symbol behind a space.
 #[tactic(auto, using(std::proofs::Common::append_assoc))]
@@ -20,11 +20,32 @@ pub fn print_word(out: &mut Text, word: &[u8]) -> Result<(), NoMemory>
 
 /// Prints a number behind a space.
 #[tactic(auto, using(std::proofs::Common::append_assoc))]
-pub fn print_value(out: &mut Text, value: i64) -> Result<(), NoMemory>
+fn print_value(out: &mut Text, value: i64) -> Result<(), NoMemory>
     ensures { OnOk result (out.new ≡ out.old ++ 32 ∷ signed_decimal value) }
 {
     let digits = value.to_string(out.allocator())?;
     print_word(out, digits.as_bytes())
+}
+
+/// Prints a text between quotation marks behind a space.
+#[tactic(auto, using(std::proofs::Common::append_assoc))]
+fn print_quoted(out: &mut Text, text: Word) -> Result<(), NoMemory>
+    ensures { OnOk result (out.new ≡ out.old ++ 32 ∷ 34 ∷ (text ++ 34 ∷ [])) }
+{
+    print_word(out, b"\"")?;
+    out.extend_from_slice(text.bytes())?;
+    out.push(b'"')
+}
+
+/// Prints a literal behind a space.
+#[tactic(auto, using(std::proofs::Common::append_assoc))]
+pub fn print_literal(out: &mut Text, literal: Literal) -> Result<(), NoMemory>
+    ensures { (line : ℕ) → OnOk result (out.new ≡ out.old ++ spaced_word (literal_word literal line)) }
+{
+    match literal {
+        Literal::Int(value) => print_value(out, value),
+        Literal::Text(text) => print_quoted(out, text),
+    }
 }
 
 /// Prints the word `at` and a number, or nothing.
@@ -93,7 +114,7 @@ fn print_arguments(out: &mut Text, arguments: &Exprs) -> Result<(), NoMemory>
 /// Prints an expression in its parentheses.
 #[cycle(print_expression)]
 #[tactic(auto, using(std::proofs::Common::append_assoc, crate::proofs::Spaced::spaced_both))]
-fn print_parens(out: &mut Text, inner: &Boxed<Expr>) -> Result<(), NoMemory>
+fn print_parens(out: &mut Text, inner: &Shared<Expr>) -> Result<(), NoMemory>
     ensures { OnOk result (out.new ≡ out.old ++ spaced_words (condition_words inner.now)) }
 {
     print_word(out, b"(")?;
@@ -108,7 +129,7 @@ pub fn print_expr(out: &mut Text, expr: &Expr) -> Result<(), NoMemory>
     ensures { OnOk result (out.new ≡ out.old ++ spaced_words (expr_words expr.now)) }
 {
     match expr {
-        Expr::Int { value, .. } => print_value(out, *value),
+        Expr::Literal { value, .. } => print_literal(out, *value),
         Expr::Null { .. } => print_word(out, b"null"),
         Expr::This { .. } => print_word(out, b"this"),
         Expr::Field { name } => {

@@ -110,6 +110,7 @@ pub fn operator_in(level: Level, token: &Token) -> Option<Operator>
     match token.kind {
         TokenKind::Name => None,
         TokenKind::Number => None,
+        TokenKind::Quoted => None,
         TokenKind::Keyword => operator_of(level, token.text.as_slice()),
         TokenKind::Symbol => operator_of(level, token.text.as_slice()),
     }
@@ -155,6 +156,7 @@ pub fn start(place: Place, room: Room, tokens: &[Token]) -> Start
         Some((token, _)) => match token.kind {
             TokenKind::Name => Start::Name,
             TokenKind::Number => Start::Number,
+            TokenKind::Quoted => Start::Quoted,
             TokenKind::Keyword => fixed_start(place, room, token.text.as_slice()),
             TokenKind::Symbol => fixed_start(place, room, token.text.as_slice()),
         },
@@ -218,6 +220,7 @@ pub fn statement_start(place: Place, brackets: u32, tokens: &[Token]) -> StmtSta
         Some((token, _)) => match token.kind {
             TokenKind::Name => StmtStart::Other,
             TokenKind::Number => StmtStart::Other,
+            TokenKind::Quoted => StmtStart::Other,
             TokenKind::Keyword => fixed_statement_start(place, brackets, token.text.as_slice()),
             TokenKind::Symbol => fixed_statement_start(place, brackets, token.text.as_slice()),
         },

@@ -9,7 +9,7 @@ use crate::error::ParseError;
 use crate::expressions::expression_in;
 use crate::starts::{goes_on, statement_start};
 use crate::take::{name, next_is, type_word, word};
-use class_defs::{Block, Expr, Name, Place, Stmt};
+use class_defs::{Block, Expr, Name, Place, Stmt, Stmts};
 use script_text::Token;
 use std::alloc::Global;
 use thor_value::both;
@@ -284,9 +284,9 @@ fn more_statements(
     alloc: Global,
     place: Place,
     brackets: u32,
-    stmts: Block,
+    stmts: Stmts,
     tokens: &[Token],
-) -> Result<(Block, &[Token]), ParseError>
+) -> Result<(Stmts, &[Token]), ParseError>
     ensures { Gives (λ x. (x.0, x.1.now)) result (more_statements place brackets (block_in place brackets) stmts tokens.now) }
 {
     let mut stmts = stmts;
@@ -302,10 +302,10 @@ fn statements(
     place: Place,
     brackets: u32,
     tokens: &[Token],
-) -> Result<(Block, &[Token]), ParseError>
+) -> Result<(Stmts, &[Token]), ParseError>
     ensures { Gives (λ x. (x.0, x.1.now)) result (statements place brackets (block_in place brackets) tokens.now) }
 {
-    let mut stmts = Block::new(alloc);
+    let mut stmts = Stmts::new(alloc);
     let mut rest = tokens;
     // Each statement takes a token, so there are no more of them than tokens.
     for _turn in 0..tokens.len() {
@@ -333,7 +333,7 @@ fn braces(
     let (_, rest) = word(tokens, b"{")?;
     let (stmts, rest) = statements(alloc, place, brackets, rest)?;
     let (stmts, (_, rest)) = both(stmts, word(rest, b"}"))?;
-    Ok((stmts, rest))
+    Ok((Block::new(alloc, stmts)?, rest))
 }
 
 /// Statements between braces, with room for brackets, the braces among them.

@@ -1,13 +1,13 @@
 //! One token from the front.
 
 ghost use Rattle.std.specs.Prelude.{◌≡◌, ◌≤◌, IfOk};
-ghost use Rattle.method_parse.specs.Matching.{is, is_name_kind};
-ghost use Rattle.method_parse.specs.Reader.{Gives, next, word, name, number, type_word};
+ghost use Rattle.method_parse.specs.Matching.{is, is_name_kind, is_quoted};
+ghost use Rattle.method_parse.specs.Reader.{Gives, next, word, name, number, quoted, type_word};
 
 use crate::error::ParseError;
 use class_defs::{Name, TypeName};
 use script_text::{Token, TokenKind};
-use thor_value::TryCopy;
+use thor_value::{TryCopy, Word};
 
 /// Whether a token is this keyword or symbol.
 pub fn is(token: &Token, text: &[u8]) -> bool
@@ -30,6 +30,16 @@ pub fn is_name(token: &Token) -> bool
     ensures { result ≡ is_name_kind token.now.kind }
 {
     matches!(token.kind, TokenKind::Name)
+}
+
+/// Whether the next token is a text literal.
+pub fn next_is_quoted(tokens: &[Token]) -> bool
+    ensures { result ≡ next is_quoted tokens.now }
+{
+    match tokens.split_first() {
+        None => false,
+        Some((token, _)) => matches!(token.kind, TokenKind::Quoted),
+    }
 }
 
 /// Takes a keyword or symbol, and gives its line.
@@ -78,6 +88,20 @@ pub fn number(tokens: &[Token]) -> Result<((u64, u32), &[Token]), ParseError>
         None => Err(ParseError::Stuck(0)),
         Some((token, rest)) => match script_text::number(token) {
             Some(value) => Ok(((value, token.line), rest)),
+            None => Err(ParseError::Stuck(tokens.len())),
+        },
+    }
+}
+
+/// Takes a text literal, and gives its line too.
+#[tactic(auto, unfolding(crate::specs::Reader::quoted))]
+pub fn quoted(tokens: &[Token]) -> Result<((Word, u32), &[Token]), ParseError>
+    ensures { Gives (λ x. (x.0, x.1.now)) result (quoted tokens.now) }
+{
+    match tokens.split_first() {
+        None => Err(ParseError::Stuck(0)),
+        Some((token, rest)) => match script_text::literal_text(token) {
+            Some(text) => Ok(((text, token.line), rest)),
             None => Err(ParseError::Stuck(tokens.len())),
         },
     }

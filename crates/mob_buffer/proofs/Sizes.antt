@@ -65,7 +65,7 @@ size_fields object = omega arith
 -- the size of an object so far
 pub record Counted (fields : List Value) (index size : ℕ) : Type 0 where
   pub is : size ≡ 7 + length (flat_map value_bytes (take index fields))
-  pub most : size ≤ 7 + 9 * index
+  pub most : size ≤ 7 + 34 * index
 
 -- what one object has all have
 within_by : (q : Oref × Obj) (rest : Objects) (x : Oref) (b : Bool) → size_at rest x ≤ bytes_of rest → unwrap_or (option_map size_of (cond b (Some q.1) (object_of rest x))) 0 ≤ size_of q.1 + bytes_of rest

@@ -143,7 +143,7 @@ pub bounded_push : (writes : List (Oref × Obj)) (w : Oref × Obj) (bound more :
 bounded_push [] w bound more all le lt = (lt, tt)
 bounded_push (v ∷ writes) w bound more all le lt = (omega (arith, all.0, le), bounded_push writes w bound more all.1 le lt)
 
-pub tallied_next : (objects : Objects) (earlier : List (Oref × Obj)) (w : Oref × Obj) (total bound before size total2 bound2 : ℕ) → Tallied objects earlier total bound → before ≡ size_at (with_all objects earlier) w.0 → size ≡ size_of w.1 → size ≤ 295 → total2 ≡ total - before + size → bound ≤ bound2 → rank_of w.0 < bound2 → Tallied objects (earlier ++ w ∷ []) total2 bound2
+pub tallied_next : (objects : Objects) (earlier : List (Oref × Obj)) (w : Oref × Obj) (total bound before size total2 bound2 : ℕ) → Tallied objects earlier total bound → before ≡ size_at (with_all objects earlier) w.0 → size ≡ size_of w.1 → size ≤ 1095 → total2 ≡ total - before + size → bound ≤ bound2 → rank_of w.0 < bound2 → Tallied objects (earlier ++ w ∷ []) total2 bound2
 tallied_next objects earlier w total bound before size total2 bound2 tally before_is size_is most sum le lt =
     let put = bytes_put (with_all objects earlier) w.0 w.1 in
     let within = size_within (with_all objects earlier) w.0 in

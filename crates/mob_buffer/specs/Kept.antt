@@ -52,5 +52,5 @@ rank_of x = (x.repo * 2 ^ 32 + x.page) * 256 + x.slot
 -- how many bytes the objects have behind writes, and a number above the ranks of the names written
 pub record Tallied (objects : Objects) (writes : List (Oref × Obj)) (total bound : ℕ) : Type 0 where
   pub is : total ≡ bytes_of (with_all objects writes)
-  pub most : total ≤ 2 ^ 32 + 295 * length writes
+  pub most : total ≤ 2 ^ 32 + 1095 * length writes
   pub bounded : AllByRecursion (λ w. rank_of w.0 < bound) writes

@@ -22,11 +22,11 @@ pub fn spelled_bytes(writes: &Writes) -> u64
     size
 }
 
-/// How many bytes the spelling of an object has, at most 295.
+/// How many bytes the spelling of an object has, at most 1,095.
 pub(crate) fn spelled_size(object: &Obj) -> u32
     requires { ObjFits object.now }
     ensures value { result ≡ length (obj_bytes object.now) }
-    ensures most { result ≤ 295 }
+    ensures most { result ≤ 1095 }
 {
     let mut size = 7;
     for field in object.fields.as_slice() {
@@ -38,11 +38,12 @@ pub(crate) fn spelled_size(object: &Obj) -> u32
 /// How many bytes the spelling of a value has.
 fn value_size(value: Value) -> u32
     ensures value { result ≡ length (value_bytes value) }
-    ensures most { result ≤ 9 }
+    ensures most { result ≤ 34 }
 {
     match value {
         Value::Int(_) => 9,
         Value::Ref(_) => 7,
         Value::Null => 1,
+        Value::Text(word) => 2 + u32::from(word.len()),
     }
 }

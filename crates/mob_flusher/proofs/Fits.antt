@@ -10,8 +10,9 @@ use Rattle.std.proofs.lemmas.List.Concat.{flat_map-cons}
 use Rattle.thor_value.specs.FiniteMap.{insert}
 use Rattle.thor_value.specs.declared.values.Obj.{Obj}
 use Rattle.thor_value.specs.declared.values.Value.{Value}
-use Rattle.thor_value.specs.declared.values.Value.TheVariants.{Int, Ref, Null}
-use Rattle.thor_value.specs.Spelling.{value_bytes}
+use Rattle.thor_value.specs.declared.values.Value.TheVariants.{Int, Ref, Null, Text}
+use Rattle.thor_value.specs.Spelling.{ValueFits, value_bytes}
+use Rattle.thor_value.proofs.TextBytes.{few_letters}
 use Rattle.object_codec.specs.Spelling.{Answered, ObjFits, obj_bytes}
 use Rattle.object_codec.specs.declared.fault.ObjFault.{ObjFault}
 use Rattle.page_format.specs.Pages.{Contents, ObjectsFit, Passes, Rises, entries, object_entry}
@@ -24,21 +25,22 @@ Pairs = List (ℕ × List ℕ)
 
 -- ---- how long an object is
 
-value_size : (value : Value) → length (value_bytes value) ≤ 9
-value_size (Int z) = omega arith
-value_size (Ref o) = omega arith
-value_size Null = omega arith
+value_size : (value : Value) → ValueFits value → length (value_bytes value) ≤ 34
+value_size (Int z) fits = omega arith
+value_size (Ref o) fits = omega arith
+value_size Null fits = omega arith
+value_size (Text w) fits = let few = few_letters w fits in omega (arith, few)
 
-fields_size : (fields : List Value) → length (flat_map value_bytes fields) ≤ 9 * length fields
-fields_size [] = omega arith
-fields_size (value ∷ fields) =
-    let first = value_size value in
-    let rest = fields_size fields in
+fields_size : (fields : List Value) → AllByRecursion ValueFits fields → length (flat_map value_bytes fields) ≤ 34 * length fields
+fields_size [] all = omega arith
+fields_size (value ∷ fields) all =
+    let first = value_size value all.0 in
+    let rest = fields_size fields all.1 in
     let long : length (flat_map value_bytes (value ∷ fields)) ≡ length (value_bytes value) + length (flat_map value_bytes fields) = ap length (flat_map-cons value_bytes value fields) ∙ length-append (value_bytes value) (flat_map value_bytes fields) in
     omega (arith, first, rest, long)
 
-object_size : (object : Obj) → ObjFits object → length (obj_bytes object) ≤ 295
-object_size object fits = let most = fields_size object.fields in let few = fits.count in omega (arith, most, few)
+object_size : (object : Obj) → ObjFits object → length (obj_bytes object) ≤ 1095
+object_size object fits = let most = fields_size object.fields fits.fields in let few = fits.count in omega (arith, most, few)
 
 -- ---- how long a page of objects is
 
@@ -50,10 +52,10 @@ few_objects low (q ∷ pairs) le rises all =
     let more = few_objects (suc q.0) pairs (omega arith) rises.1 all.1 in
     omega arith
 
-entries_size : (pairs : Pairs) → AllByRecursion IsObjectAt pairs → length (entries pairs) ≤ 298 * length pairs
+entries_size : (pairs : Pairs) → AllByRecursion IsObjectAt pairs → length (entries pairs) ≤ 1098 * length pairs
 entries_size [] all = omega arith
 entries_size (q ∷ pairs) all =
-    let size : length q.1 ≤ 295 = subst (λ (n : ℕ). n ≤ 295) (sym (ap length all.0.1.2)) (object_size all.0.1.0 all.0.1.1) in
+    let size : length q.1 ≤ 1095 = subst (λ (n : ℕ). n ≤ 1095) (sym (ap length all.0.1.2)) (object_size all.0.1.0 all.0.1.1) in
     let rest = entries_size pairs all.1 in
     let long : length (entries (q ∷ pairs)) ≡ length (object_entry q) + length (entries pairs) = ap length (flat_map-cons object_entry q pairs) ∙ length-append (object_entry q) (entries pairs) in
     omega (arith, size, rest, long)

@@ -25,7 +25,7 @@ fn can_spell(value: Value) -> bool
 {
     match value {
         Value::Ref(oref) => oref.repo < 8 && oref.page < 65_536 && oref.slot < 12,
-        Value::Int(_) | Value::Null => true,
+        Value::Int(_) | Value::Null | Value::Text(_) => true,
     }
 }
 

@@ -25,7 +25,7 @@ use log_entries::{Entry, Kind, Request};
 use model_reading::{Item, Notice, Opening, Reading, Says, is_forgotten, page_at};
 use repo_refusals::Refusal;
 use session_outbox::{Asked, Message, Verdict, Welcome};
-use spec_trace::Mark;
+use spec_trace::{Mark, refused_mark};
 use std::alloc::Global;
 use thor_value::{NoMemory, PAGES, Text, TryCopy, Ts};
 
@@ -63,17 +63,16 @@ fn gone(session: u32) -> Refusal
 }
 
 /// A draw, a grant or a request is refused, with a mark.
-fn refuse<X>(session: u32, request: Option<Request>, refusal: Refusal) -> Step<X>
-    ensures { (is : List item.Item) → IsStep is result (plain.refuse (trace_of is) session request refusal) }
+fn refuse<X>(
+    alloc: Global,
+    session: u32,
+    request: Option<Request>,
+    refusal: Refusal,
+) -> Result<Step<X>, NoMemory>
+    ensures { IfOk result (λ step. (is : List item.Item) → IsStep is step (plain.refuse (trace_of is) session request refusal)) }
 {
-    marked(
-        Err(refusal),
-        Mark::Refused {
-            session,
-            request,
-            refusal,
-        },
-    )
+    let mark = refused_mark(alloc, session, request, refusal)?;
+    Ok(marked(Err(refusal), mark))
 }
 
 // ---- sessions
@@ -138,33 +137,34 @@ pub(crate) fn fetch(
     Ok(fetch_by(&reading, session, page, upto))
 }
 
-fn grant_live(reading: &Reading, session: u32) -> Step<()>
-    ensures { (is : List item.Item) → IsStep is result (grant_live reading.now (trace_of is) session) }
+fn grant_live(alloc: Global, reading: &Reading, session: u32) -> Result<Step<()>, NoMemory>
+    ensures { IfOk result (λ step. (is : List item.Item) → IsStep is step (grant_live reading.now (trace_of is) session)) }
 {
     let page = reading.next_page();
     if page < u64::from(PAGES) {
-        return marked(
+        return Ok(marked(
             Ok(()),
             Mark::Granted {
                 session,
                 page: page as u32,
             },
-        );
+        ));
     }
     refuse(
+        alloc,
         session,
         None,
         Refusal::Reason(Reason::Full { limit: PAGES }),
     )
 }
 
-fn grant_by(reading: &Reading, session: u32) -> Step<()>
-    ensures { (is : List item.Item) → IsStep is result (grant_by reading.now (trace_of is) session) }
+fn grant_by(alloc: Global, reading: &Reading, session: u32) -> Result<Step<()>, NoMemory>
+    ensures { IfOk result (λ step. (is : List item.Item) → IsStep is step (grant_by reading.now (trace_of is) session)) }
 {
     if reading.is_live() {
-        return grant_live(reading, session);
+        return grant_live(alloc, reading, session);
     }
-    refuse(session, None, gone(session))
+    refuse(alloc, session, None, gone(session))
 }
 
 /// To one that asks for a page of names.
@@ -177,7 +177,7 @@ pub(crate) fn grant(
     ensures { IfOk result (λ step. IsStep items.now step (plain.grant (base_of opening.now) (trace_of items.now) session)) }
 {
     let reading = Reading::of(alloc, opening, session, items)?;
-    Ok(grant_by(&reading, session))
+    Ok(grant_by(alloc, &reading, session)?)
 }
 
 /// The text of an upgrade.
@@ -308,13 +308,13 @@ fn time_behind(last: u64, floor: u64) -> Result<u64, NoMemory>
     Ok((last + 1).max(floor + 1))
 }
 
-fn draw_live(session: u32, ts: Ts) -> Step<Ts>
-    ensures { (is : List item.Item) → IsStep is result (draw_live (trace_of is) session ts) }
+fn draw_live(alloc: Global, session: u32, ts: Ts) -> Result<Step<Ts>, NoMemory>
+    ensures { IfOk result (λ step. (is : List item.Item) → IsStep is step (draw_live (trace_of is) session ts)) }
 {
     if ts.time < TIMES {
-        return marked(Ok(ts), Mark::Drew { session, ts });
+        return Ok(marked(Ok(ts), Mark::Drew { session, ts }));
     }
-    refuse(session, None, Refusal::Reason(Reason::ClockEnd))
+    refuse(alloc, session, None, Refusal::Reason(Reason::ClockEnd))
 }
 
 /// The timestamp that is drawn next.
@@ -329,6 +329,7 @@ fn stamp(opening: &Opening, reading: &Reading, floor: u64) -> Result<Ts, NoMemor
 }
 
 fn draw_by(
+    alloc: Global,
     opening: &Opening,
     reading: &Reading,
     session: u32,
@@ -338,9 +339,9 @@ fn draw_by(
 {
     if reading.is_live() {
         let ts = stamp(opening, reading, floor)?;
-        return Ok(draw_live(session, ts));
+        return draw_live(alloc, session, ts);
     }
-    Ok(refuse(session, None, gone(session)))
+    refuse(alloc, session, None, gone(session))
 }
 
 /// To one that draws a timestamp.
@@ -354,19 +355,25 @@ pub(crate) fn draw(
     ensures { IfOk result (λ step. IsStep items.now step (plain.draw (base_of opening.now) (trace_of items.now) session 0 floor)) }
 {
     let reading = Reading::of(alloc, opening, session, items)?;
-    draw_by(opening, &reading, session, floor)
+    draw_by(alloc, opening, &reading, session, floor)
 }
 
 // ---- requests
 
 /// A request to prepare is refused, or its entry comes at a place.
 #[tactic(auto, using(crate::proofs::ByReading::with_added, crate::proofs::ByReading::with_none))]
-fn prepared(place: u64, session: u32, request: Request, refusal: Option<Refusal>) -> Step<u64>
-    ensures { (is : List item.Item) → IsStep is result (requested_by place (trace_of is) session request (Prepared request) refusal) }
+fn prepared(
+    alloc: Global,
+    place: u64,
+    session: u32,
+    request: Request,
+    refusal: Option<Refusal>,
+) -> Result<Step<u64>, NoMemory>
+    ensures { IfOk result (λ step. (is : List item.Item) → IsStep is step (requested_by place (trace_of is) session request (Prepared request) refusal)) }
 {
     match refusal {
-        Some(refusal) => refuse(session, Some(request), refusal),
-        None => entered(Ok(place), Entry::Prepared { request }),
+        Some(refusal) => refuse(alloc, session, Some(request), refusal),
+        None => Ok(entered(Ok(place), Entry::Prepared { request })),
     }
 }
 
@@ -382,12 +389,18 @@ fn alone_entry(request: Request) -> Entry
 
 /// A request to commit is refused, or its entry comes at a place.
 #[tactic(auto, using(crate::proofs::ByReading::with_added, crate::proofs::ByReading::with_none))]
-fn committed(place: u64, session: u32, request: Request, refusal: Option<Refusal>) -> Step<u64>
-    ensures { (is : List item.Item) → IsStep is result (requested_by place (trace_of is) session request (alone_entry request) refusal) }
+fn committed(
+    alloc: Global,
+    place: u64,
+    session: u32,
+    request: Request,
+    refusal: Option<Refusal>,
+) -> Result<Step<u64>, NoMemory>
+    ensures { IfOk result (λ step. (is : List item.Item) → IsStep is step (requested_by place (trace_of is) session request (alone_entry request) refusal)) }
 {
     match refusal {
-        Some(refusal) => refuse(session, Some(request), refusal),
-        None => entered(Ok(place), alone_entry(request)),
+        Some(refusal) => refuse(alloc, session, Some(request), refusal),
+        None => Ok(entered(Ok(place), alone_entry(request))),
     }
 }
 
@@ -403,7 +416,7 @@ pub(crate) fn prepare(
 {
     let reading = Reading::of(alloc, opening, session, items)?;
     let refusal = reading.against(alloc, opening, session, &request)?;
-    Ok(prepared(reading.count(), session, request, refusal))
+    Ok(prepared(alloc, reading.count(), session, request, refusal)?)
 }
 
 /// To one that has a transaction of this repository committed.
@@ -418,7 +431,7 @@ pub(crate) fn commit_one(
 {
     let reading = Reading::of(alloc, opening, session, items)?;
     let refusal = reading.against(alloc, opening, session, &request)?;
-    Ok(committed(reading.count(), session, request, refusal))
+    Ok(committed(alloc, reading.count(), session, request, refusal)?)
 }
 
 // ---- decisions

@@ -62,9 +62,13 @@ fn fields_of(alloc: Global, count: u8, bytes: &[u8]) -> Result<(Values, &[u8]), 
     let mut fields = Vec::with_capacity(alloc, count as usize)?;
     let mut rest = bytes;
     for _ in 0..count {
-        let (field, after) = field_of(rest)?;
-        fields.push(field)?;
-        rest = after;
+        match field_of(rest) {
+            Ok((field, after)) => {
+                fields.push(field)?;
+                rest = after;
+            }
+            Err(fault) => return Err(fault),
+        }
     }
     Ok((Sequence::from_vec(fields), rest))
 }

@@ -4,7 +4,9 @@ ghost use Rattle.class_defs.specs.Types as types;
 ghost use Rattle.class_defs.specs.Rules.{least_with};
 ghost use Rattle.class_defs.specs.UpgradeRules as spec;
 
-use crate::expressions::{field_read, first_line, gives_int, gives_reference, reads_parts};
+use crate::expressions::{
+    field_read, first_line, gives_int, gives_reference, gives_text, reads_parts,
+};
 use class_defs::{Classes, ExprType, FieldUpgrade, Rule, RuleFault, Tf, type_named};
 use method_check::{is_part, must};
 use std::alloc::Global;
@@ -31,6 +33,10 @@ fn value_rules(
     match kind {
         ExprType::Int => {
             let holds = gives_int(classes, class, value);
+            must(holds, Rule::O2, first_line(value), found);
+        }
+        ExprType::Text => {
+            let holds = gives_text(classes, class, value);
             must(holds, Rule::O2, first_line(value), found);
         }
         ExprType::Class(other) => {
@@ -77,6 +83,7 @@ fn hands_over(classes: &Classes, class: u16, field: &FieldUpgrade) -> Option<usi
 {
     match type_named(classes, &field.type_name) {
         ExprType::Int => None,
+        ExprType::Text => None,
         ExprType::Null => None,
         ExprType::Untold => None,
         ExprType::Class(other) => {

@@ -46,6 +46,7 @@ pub fn field_behind(classes: &Classes, kind: Option<ExprType>, name: &Name) -> O
             None => None,
         },
         Some(ExprType::Int) => None,
+        Some(ExprType::Text) => None,
         Some(ExprType::Null) => None,
         Some(ExprType::Untold) => None,
         None => None,
@@ -69,6 +70,7 @@ fn is_int(kind: Option<ExprType>) -> bool
 {
     match kind {
         Some(ExprType::Int) => true,
+        Some(ExprType::Text) => false,
         Some(ExprType::Null) => false,
         Some(ExprType::Class(_)) => false,
         Some(ExprType::Untold) => false,
@@ -132,6 +134,7 @@ fn is_of_class(class: u16, kind: Option<ExprType>) -> bool
     match kind {
         Some(ExprType::Class(other)) => class == other,
         Some(ExprType::Int) => false,
+        Some(ExprType::Text) => false,
         Some(ExprType::Null) => false,
         Some(ExprType::Untold) => false,
         None => false,
@@ -150,6 +153,32 @@ pub fn is_field_of(classes: &Classes, class: u16, other: u16, names: &[Name]) ->
                     other,
                     field_behind(classes, Some(ExprType::Class(class)), name),
                 )
+        }
+        None => false,
+    }
+}
+
+fn is_text(kind: Option<ExprType>) -> bool
+    ensures { result ≡ spec.is_text kind }
+{
+    match kind {
+        Some(ExprType::Text) => true,
+        Some(ExprType::Int) => false,
+        Some(ExprType::Null) => false,
+        Some(ExprType::Class(_)) => false,
+        Some(ExprType::Untold) => false,
+        None => false,
+    }
+}
+
+/// Whether a path from an object of a class is one name, of a text field.
+pub fn is_text_field(classes: &Classes, class: u16, names: &[Name]) -> bool
+    requires { length classes.now ≤ 65536 }
+    ensures { result ≡ spec.is_text_field classes.now class names.now }
+{
+    match names.split_first() {
+        Some((name, rest)) => {
+            rest.is_empty() && is_text(field_behind(classes, Some(ExprType::Class(class)), name))
         }
         None => false,
     }

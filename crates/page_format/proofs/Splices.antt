@@ -138,7 +138,7 @@ module _ (count slot : ℕ) (bytes object : List ℕ) (s : AreStored count bytes
       let p = subst (λ (q : ℕ × ℕ). Placed old new slot object q) (sym e) placed_in in
       p.there h ∙ s.all
 
-  pub stored_in : (total : ℕ) → slot < 256 → length object < 2 ^ 16 → length new ≡ total → total ≤ 255 → 8 + length (entries new) ≤ 4096 → (ready : List ℕ) → ready ≡ entries new → AreStored total ready × (pairs_of total ready ≡ new)
+  pub stored_in : (total : ℕ) → slot < 256 → length object < 2 ^ 16 → length new ≡ total → total ≤ 255 → 8 + length (entries new) ≤ 16384 → (ready : List ℕ) → ready ≡ entries new → AreStored total ready × (pairs_of total ready ≡ new)
   stored_in total fits long n small room ready e =
       let each = each_put old slot object s.fit.each (fits, long) in
       let fit : ObjectsFit new = record { rising = rises_put 0 old slot object s.fit.rising (omega arith); each = each; count = omega arith; room = room } in

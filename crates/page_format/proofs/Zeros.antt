@@ -25,5 +25,5 @@ zeros_on bits at bytes lt h =
     zeros_next bits (slice_index_or bytes at 0) (all_zero (drop (at + 1) bytes)) ∙ ap (λ (t : List ℕ). (bits == 0) && all_zero t) (sym (drop_more bytes at 0 lt)) ∙ h
 
 -- so many of a page's zeros
-pub zeros_taken : (n : ℕ) → n ≤ 4096 → take n (replicate {A = ℕ} 4096 0) ≡ replicate {A = ℕ} n 0
-zeros_taken n h = take-replicate n 4096 0 h
+pub zeros_taken : (n : ℕ) → n ≤ 16384 → take n (replicate {A = ℕ} 16384 0) ≡ replicate {A = ℕ} n 0
+zeros_taken n h = take-replicate n 16384 0 h

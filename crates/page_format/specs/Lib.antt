@@ -1,3 +1,4 @@
+pub mod Formats
 pub mod Pages
 pub mod Sides
 pub mod Walking

@@ -1,6 +1,9 @@
 -- Pages as they stand on a disk (this project's; that objects lie in pages is Liskov and others, SIGMOD
 -- 1996). What a page says is its number and a finite map from slots to bytes, and it has one spelling.
 use Rattle.std.specs.Prelude.{◌≡◌, ℕ, suc, ◌+◌, ◌-◌, ◌<◌, ◌≤◌, ◌^◌, List, [], ◌∷◌, ◌++◌, length, replicate, ◌⊎◌, Result, Ok, Err}
+use Rattle.page_format.specs.Formats.{format_number, page_size_in}
+use Rattle.page_format.specs.declared.format.StoreFormat.{StoreFormat}
+use Rattle.page_format.specs.declared.format.StoreFormat.TheVariants.{Two}
 use Rattle.page_format.specs.declared.fault.Damaged.{Damaged}
 use Rattle.page_format.specs.declared.fault.Damaged.TheVariants.{NoPage, NoMemory}
 use Rattle.std.specs.List.{flat_map, AllByRecursion}
@@ -8,9 +11,9 @@ use Rattle.std.specs.Int.{w16, w32, to_be_bytes}
 use Rattle.std.specs.Ordering.{nat_cmp}
 use Rattle.thor_value.specs.FiniteMap.{Map, len}
 
--- the bytes of a page
+-- the bytes of a page as it is written
 abbrev pub page_size : ℕ
-page_size = 4096
+page_size = 16384
 
 -- the most objects of a page, since one byte counts them
 abbrev pub most_objects : ℕ
@@ -29,17 +32,24 @@ object_entry q = q.0 ∷ (to_be_bytes w16 (length q.1) ++ q.1)
 abbrev pub entries : List (ℕ × List ℕ) → List ℕ
 entries pairs = flat_map object_entry pairs
 
--- the head: two letters, a format, how many objects there are, and four bytes of the page's number
+-- the head: two letters, the number of a format, how many objects there are, and four bytes of the page's number
+abbrev pub head_in : StoreFormat → ℕ → ℕ → List ℕ
+head_in format number count = 84 ∷ 80 ∷ format_number format ∷ count ∷ to_be_bytes w32 number
+
 abbrev pub head : ℕ → ℕ → List ℕ
-head number count = 84 ∷ 80 ∷ 1 ∷ count ∷ to_be_bytes w32 number
+head number count = head_in Two number count
 
 -- how many bytes of a page are taken
 abbrev pub taken : Contents → ℕ
 taken c = 8 + length (entries c.objects.pairs)
 
--- a page: its head, its objects, and zeros up to the end
+-- a page in a format: its head, its objects, and zeros up to the end
+abbrev pub page_bytes_in : StoreFormat → Contents → List ℕ
+page_bytes_in format c = (head_in format c.number (len c.objects) ++ entries c.objects.pairs) ++ replicate (page_size_in format - taken c) 0
+
+-- a page as it is written
 abbrev pub page_bytes : Contents → List ℕ
-page_bytes c = (head c.number (len c.objects) ++ entries c.objects.pairs) ++ replicate (page_size - taken c) 0
+page_bytes c = page_bytes_in Two c
 
 -- the numbers before what they stand for strictly rise, from a least one on
 abbrev pub Rises : {X : Type 0} → ℕ → List (ℕ × X) → Type 0
@@ -61,6 +71,11 @@ pub record ObjectsFit (pairs : List (ℕ × List ℕ)) : Type 0 where
 pub record PageFits (c : Contents) : Type 0 where
   pub number : c.number < 2 ^ 32
   pub objects : ObjectsFit c.objects.pairs
+
+-- the pages that there are in a format
+pub record PageFitsIn (format : StoreFormat) (c : Contents) : Type 0 where
+  pub fits : PageFits c
+  pub room : taken c ≤ page_size_in format
 
 -- a page with these objects would pass its end, or their count its byte
 abbrev pub Passes : List (ℕ × List ℕ) → Type 0

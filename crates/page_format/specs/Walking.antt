@@ -4,7 +4,9 @@ use Rattle.std.specs.Option.{option_map_or}
 use Rattle.std.specs.Int.{w16, w32, from_be_bytes}
 use Rattle.std.specs.List.{list_all}
 use Rattle.std.specs.Ordering.{nat_cmp, match_ordering}
+use Rattle.page_format.specs.Formats.{format_number, page_size_in}
 use Rattle.page_format.specs.Pages.{ObjectsFit, entries}
+use Rattle.page_format.specs.declared.format.StoreFormat.{StoreFormat}
 
 -- the object at the front, with its slot, and the bytes behind it
 abbrev pub first_at : List ℕ → Option ((ℕ × List ℕ) × List ℕ)
@@ -41,16 +43,16 @@ pub record AreStored (count : ℕ) (bytes : List ℕ) : Type 0 where
   pub fit : ObjectsFit (pairs_of count bytes)
 
 -- the number of the page, the count of its objects and the bytes behind the head
-abbrev pub has_head : List ℕ → Bool
-has_head bytes = (length bytes == 4096) && ((slice_index bytes 0 == 84) && ((slice_index bytes 1 == 80) && (slice_index bytes 2 == 1)))
+abbrev pub has_head : StoreFormat → List ℕ → Bool
+has_head format bytes = (length bytes == page_size_in format) && ((slice_index bytes 0 == 84) && ((slice_index bytes 1 == 80) && (slice_index bytes 2 == format_number format)))
 
-abbrev pub head_at : List ℕ → Option ((ℕ × ℕ) × List ℕ)
-head_at bytes = if has_head bytes then Some ((from_be_bytes w32 (take 4 (drop 4 bytes)), slice_index bytes 3), drop 8 bytes) else None
+abbrev pub head_at : StoreFormat → List ℕ → Option ((ℕ × ℕ) × List ℕ)
+head_at format bytes = if has_head format bytes then Some ((from_be_bytes w32 (take 4 (drop 4 bytes)), slice_index bytes 3), drop 8 bytes) else None
 
 abbrev pub all_zero : List ℕ → Bool
 all_zero bytes = list_all (λ b. b == 0) bytes
 
 -- the number of the page, the count of its objects, and the bytes of these
-unfoldable pub parts_at : List ℕ → Option ((ℕ × ℕ) × List ℕ)
-parts_at bytes =
-    option_map_or (λ h. option_map_or (λ rest. if all_zero rest then Some (h.0, take (length h.1 - length rest) h.1) else None) (behind_at h.0.1 0 h.1) None) (head_at bytes) None
+unfoldable pub parts_at : StoreFormat → List ℕ → Option ((ℕ × ℕ) × List ℕ)
+parts_at format bytes =
+    option_map_or (λ h. option_map_or (λ rest. if all_zero rest then Some (h.0, take (length h.1 - length rest) h.1) else None) (behind_at h.0.1 0 h.1) None) (head_at format bytes) None

@@ -13,7 +13,7 @@ pub enum Damaged {
 /// Why an object wasn't put into a page.
 #[derive(Clone, Copy, Debug, PartialEq, Eq)]
 pub enum Full {
-    /// The whole would pass 4,096 bytes or 255 objects.
+    /// The whole would pass 16,384 bytes or 255 objects.
     NoRoom,
     /// Memory was not there.
     NoMemory,

@@ -1,13 +1,15 @@
-//! Pages: a map from slots to bytes, and its one spelling of 4,096 bytes.
+//! Pages: a map from slots to bytes, and its one spelling of 16,384 bytes, or of 4,096 as older stores have it.
 #![tactic(auto)]
 
 mod fault;
+mod format;
 mod page;
 mod sides;
 mod splice;
 mod walk;
 
 pub use fault::{Damaged, Full};
+pub use format::StoreFormat;
 pub use page::{Page, pages_are_apart, twelve_objects_fit};
 pub use sides::{Room, Sides};
 pub use walk::PAGE as PAGE_BYTES;

@@ -1,9 +1,11 @@
 ghost use Rattle.std.specs.Prelude.{◌≡◌, ◌<◌, ◌≤◌, ℕ, ◌++◌, ◌+◌, ◌*◌, List, length, All, Ok, Err, OnOk, OnErr, IfOk, IsErrOf, IsOk, slice_get};
 ghost use Rattle.std.specs.Option.{option_copied, option_map};
 ghost use Rattle.thor_value.specs.FiniteMap.{empty, get, insert, len as object_count};
-ghost use Rattle.page_format.specs.Pages.{Contents, PageFits, ObjectsFit, Passes, Parsed, page_bytes, page_size, taken};
+ghost use Rattle.page_format.specs.Pages.{Contents, PageFits, PageFitsIn, ObjectsFit, Passes, Parsed, page_bytes, page_bytes_in, page_size, taken};
+ghost use Rattle.page_format.specs.declared.format.StoreFormat.TheVariants.{One as FormatOne};
 
 use crate::fault::{Damaged, Full};
+use crate::format::StoreFormat;
 use crate::splice::{put_over, spelled, spliced};
 use crate::walk::{find, nth, parts_of};
 use std::alloc::Global;
@@ -43,7 +45,7 @@ impl Page {
         })
     }
 
-    /// The page that the bytes spell, all of the bytes. They are 4,096 where they are a page.
+    /// The page that the bytes spell, all of the bytes. They are 16,384 where they are a page.
     pub fn parse(alloc: Global, bytes: &[u8]) -> Result<Page, Damaged>
         // What is read is a page, spelled so.
         ensures found { IfOk result (λ page. PageFits page × (bytes.now ≡ page_bytes page)) }
@@ -52,7 +54,28 @@ impl Page {
         // NoPage comes only where the bytes spell no page.
         ensures damaged { IsErrOf result Damaged.NoPage → (c : Contents) → PageFits c → bytes.now ≡ page_bytes c → ⊥ }
     {
-        match parts_of(bytes) {
+        Page::read(alloc, StoreFormat::Two, bytes)
+    }
+
+    /// The page that the bytes spell in the older format, all of the bytes. They are 4,096 where they are such a page.
+    pub fn parse_old(alloc: Global, bytes: &[u8]) -> Result<Page, Damaged>
+        // What is read is a page of that format, spelled so.
+        ensures found { IfOk result (λ page. PageFitsIn FormatOne page × (bytes.now ≡ page_bytes_in FormatOne page)) }
+        // What is spelled so is read, unless memory runs out.
+        ensures only { (c : Contents) → PageFitsIn FormatOne c → bytes.now ≡ page_bytes_in FormatOne c → Parsed result c }
+        // NoPage comes only where the bytes spell no page of that format.
+        ensures damaged { IsErrOf result Damaged.NoPage → (c : Contents) → PageFitsIn FormatOne c → bytes.now ≡ page_bytes_in FormatOne c → ⊥ }
+    {
+        Page::read(alloc, StoreFormat::One, bytes)
+    }
+
+    /// The page that the bytes spell in a format.
+    fn read(alloc: Global, format: StoreFormat, bytes: &[u8]) -> Result<Page, Damaged>
+        ensures found { IfOk result (λ page. PageFitsIn format page × (bytes.now ≡ page_bytes_in format page)) }
+        ensures only { (c : Contents) → PageFitsIn format c → bytes.now ≡ page_bytes_in format c → Parsed result c }
+        ensures damaged { IsErrOf result Damaged.NoPage → (c : Contents) → PageFitsIn format c → bytes.now ≡ page_bytes_in format c → ⊥ }
+    {
+        match parts_of(format, bytes) {
             None => Err(Damaged::NoPage),
             Some(((number, count), entries)) => match Vec::from_slice(alloc, entries) {
                 Ok(entries) => Ok(Page {
@@ -139,7 +162,7 @@ pub fn pages_are_apart()
     ensures { (c d : Contents) → PageFits c → PageFits d → page_bytes c ≡ page_bytes d → c ≡ d }
 {}
 
-/// Twelve objects of the greatest size, 295 bytes, always fit in a page.
+/// Twelve objects of the greatest size, 1,095 bytes, always fit in a page.
 pub fn twelve_objects_fit()
-    ensures { (c : Contents) → object_count c.objects ≤ 12 → All (λ q. length q.1 ≤ 295) c.objects.pairs → taken c ≤ page_size }
+    ensures { (c : Contents) → object_count c.objects ≤ 12 → All (λ q. length q.1 ≤ 1095) c.objects.pairs → taken c ≤ page_size }
 {}

@@ -67,7 +67,7 @@ pub(crate) fn put_over(entries: &mut [u8], count: u8, slot: u8, object: &[u8]) -
 /// Puts an object in its slot over the bytes from a place on.
 fn put_at(entries: &mut [u8], start: usize, slot: u8, object: &[u8])
     requires within { start + (3 + length object.now) ≤ length entries.old }
-    requires short { length object.now ≤ 4096 }
+    requires short { length object.now ≤ 16384 }
     ensures { entries.new ≡ (take start entries.old ++ object_entry (slot, object.now)) ++ drop (start + (3 + length object.now)) entries.old }
 {
     let end = start + (ENTRY + object.len());
@@ -77,7 +77,7 @@ fn put_at(entries: &mut [u8], start: usize, slot: u8, object: &[u8])
 /// Puts an object in its slot over as many bytes as it takes.
 fn fill(bytes: &mut [u8], slot: u8, object: &[u8])
     requires size { length bytes.old ≡ 3 + length object.now }
-    requires short { length object.now ≤ 4096 }
+    requires short { length object.now ≤ 16384 }
     ensures { bytes.new ≡ object_entry (slot, object.now) }
 {
     let (about, body) = bytes.split_at_mut(ENTRY);
@@ -102,7 +102,7 @@ fn joined(
     object: &[u8],
     back: &[u8],
 ) -> Result<Vec<u8>, AllocError>
-    requires { length front.now + length object.now + length back.now ≤ 4096 }
+    requires { length front.now + length object.now + length back.now ≤ 16384 }
     ensures { IfOk result (λ v. v.items ≡ front.now ++ object_entry (slot, object.now) ++ back.now) }
 {
     let room = front.len() + ENTRY + object.len() + back.len();
@@ -121,8 +121,8 @@ pub(crate) fn spelled(
     count: u8,
     entries: &[u8],
 ) -> Result<Vec<u8>, AllocError>
-    requires { 8 + length entries.now ≤ 4096 }
-    ensures { IfOk result (λ v. v.items ≡ (head number count ++ entries.now) ++ replicate (4096 - (8 + length entries.now)) 0) }
+    requires { 8 + length entries.now ≤ 16384 }
+    ensures { IfOk result (λ v. v.items ≡ (head number count ++ entries.now) ++ replicate (16384 - (8 + length entries.now)) 0) }
 {
     let mut bytes = Vec::with_capacity(alloc, PAGE)?;
     bytes.extend_from_slice(&head_bytes(number, count))?;
@@ -133,7 +133,7 @@ pub(crate) fn spelled(
 
 /// Puts so many zeros behind the bytes.
 fn add_zeros(bytes: &mut Vec<u8>, count: usize) -> Result<(), AllocError>
-    requires { count ≤ 4096 }
+    requires { count ≤ 16384 }
     ensures { OnOk result (bytes.new.items ≡ bytes.old.items ++ replicate count 0) }
 {
     bytes.extend_from_slice(zeros(ZEROS.as_slice(), count))?;
@@ -142,8 +142,8 @@ fn add_zeros(bytes: &mut Vec<u8>, count: usize) -> Result<(), AllocError>
 
 /// The first of many zeros.
 fn zeros(all: &[u8], count: usize) -> &[u8]
-    requires all { all.now ≡ replicate 4096 0 }
-    requires count { count ≤ 4096 }
+    requires all { all.now ≡ replicate 16384 0 }
+    requires count { count ≤ 16384 }
     ensures { result.now ≡ replicate count 0 }
 {
     all.split_at(count).0
@@ -152,7 +152,7 @@ fn zeros(all: &[u8], count: usize) -> &[u8]
 fn head_bytes(number: u32, count: u8) -> [u8; 8]
     ensures { result ≡ head number count }
 {
-    let mut bytes = [84, 80, 1, count, 0, 0, 0, 0];
+    let mut bytes = [84, 80, 2, count, 0, 0, 0, 0];
     BigEndian::write_u32(&mut bytes[4..], number);
     bytes
 }

@@ -7,10 +7,11 @@ ghost use Rattle.std.specs.BTreeMap.{is_at};
 ghost use Rattle.std.specs.Map.{lookup};
 ghost use Rattle.page_format.specs.Walking.{all_zero as is_all_zero, behind_at, first_at, head_at, pairs_of, parts_at, place_at};
 
+use crate::format::StoreFormat;
 use byteorder::{BigEndian, ByteOrder};
 
-/// The bytes of a page.
-pub const PAGE: usize = 4096;
+/// The bytes of a page as it is written.
+pub const PAGE: usize = 16384;
 
 /// The bytes of its head.
 pub(crate) const HEAD: usize = 8;
@@ -19,10 +20,12 @@ pub(crate) const HEAD: usize = 8;
 pub(crate) const ENTRY: usize = 3;
 
 /// The page's number, how many objects it has, and the bytes behind the head.
-pub(crate) fn head_of(bytes: &[u8]) -> Option<((u32, u8), &[u8])>
-    ensures { option_map (λ x. (x.0, x.1.now)) result ≡ head_at bytes.now }
+pub(crate) fn head_of(format: StoreFormat, bytes: &[u8]) -> Option<((u32, u8), &[u8])>
+    ensures { option_map (λ x. (x.0, x.1.now)) result ≡ head_at format bytes.now }
 {
-    if bytes.len() != PAGE || bytes[0] != 84 || bytes[1] != 80 || bytes[2] != 1 {
+    let size = format.page_bytes();
+    let told = format.number();
+    if bytes.len() != size || bytes[0] != 84 || bytes[1] != 80 || bytes[2] != told {
         return None;
     }
     let number = BigEndian::read_u32(&bytes[4..8]);
@@ -135,10 +138,10 @@ pub(crate) fn place(entries: &[u8], count: u8, slot: u8) -> (usize, usize)
 
 /// The number of a page, how many objects it has, and the bytes of these.
 #[tactic(auto, unfolding(crate::specs::Walking::parts_at))]
-pub(crate) fn parts_of(bytes: &[u8]) -> Option<((u32, u8), &[u8])>
-    ensures { option_map (λ x. (x.0, x.1.now)) result ≡ parts_at bytes.now }
+pub(crate) fn parts_of(format: StoreFormat, bytes: &[u8]) -> Option<((u32, u8), &[u8])>
+    ensures { option_map (λ x. (x.0, x.1.now)) result ≡ parts_at format bytes.now }
 {
-    let (about, body) = head_of(bytes)?;
+    let (about, body) = head_of(format, bytes)?;
     let rest = behind(body, about.1)?;
     if !all_zero(rest) {
         return None;

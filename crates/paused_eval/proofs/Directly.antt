@@ -363,7 +363,9 @@ module _ (w : World) (Q : Left → Machine → Type 0) (Z : Fault → Machine �
     ready_comes (type.Class c) (value.Ref x) name vs fs m h = call_comes c x name vs fs m (h.0 _ _ refl)
     ready_comes (type.Class c) value.Null name vs fs m h = h.1 _ _ refl
     ready_comes (type.Class c) (value.Int i) name vs fs m h = h.1 _ _ refl
+    ready_comes (type.Class c) (value.Text i) name vs fs m h = h.1 _ _ refl
     ready_comes type.Int r name vs fs m h = h.1 _ _ refl
+    ready_comes type.Text r name vs fs m h = h.1 _ _ refl
     ready_comes type.Null r name vs fs m h = h.1 _ _ refl
     ready_comes type.Untold r name vs fs m h = h.1 _ _ refl
 
@@ -376,7 +378,7 @@ module _ (w : World) (Q : Left → Machine → Type 0) (Z : Fault → Machine �
         (λ v o q. collect_comes t r name (vs ++ v ∷ []) es fs o (moves (doing.Give (Returned v)) (frame.Arguments n t r name vs es ∷ fs) o tt tt q))
 
     node_comes : (k : Expr-F Expr) (fs : List Frame) (m : Machine) → Comes (start w n k fs m) → After Returned (node w n inner k m).0 (node w n inner k m).1 fs
-    node_comes (Expr-F.Int v line) fs m h = h.0 _ _ refl
+    node_comes (Expr-F.Literal v line) fs m h = h.0 _ _ refl
     node_comes (Expr-F.Null line) fs m h = h.0 _ _ refl
     node_comes (Expr-F.This line) fs m h = h.0 _ _ refl
     node_comes (Expr-F.Field name) fs m h = h.0 _ _ refl

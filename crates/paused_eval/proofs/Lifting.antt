@@ -61,7 +61,7 @@ module _ (written : Map oref_cmp Object) where
 
   pub start_adds : (w : World) (n : ℕ) (o : Expr-F Expr) (fs : List Frame) (m : Machine) → field_read o ≡ None → Adds m (start w n o fs)
   unfolding named_value scope_at
-  start_adds w n (Expr-F.Int v line) fs m plain = refl
+  start_adds w n (Expr-F.Literal v line) fs m plain = refl
   start_adds w n (Expr-F.Null line) fs m plain = refl
   start_adds w n (Expr-F.This line) fs m plain = refl
   start_adds w n (Expr-F.Field name) fs m plain = cc
@@ -91,7 +91,9 @@ module _ (written : Map oref_cmp Object) where
   ready_adds n (type.Class c) (value.Ref x) name vs fs m = refl
   ready_adds n (type.Class c) value.Null name vs fs m = refl
   ready_adds n (type.Class c) (value.Int i) name vs fs m = refl
+  ready_adds n (type.Class c) (value.Text i) name vs fs m = refl
   ready_adds n type.Int r name vs fs m = refl
+  ready_adds n type.Text r name vs fs m = refl
   ready_adds n type.Null r name vs fs m = refl
   ready_adds n type.Untold r name vs fs m = refl
 

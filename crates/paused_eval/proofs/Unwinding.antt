@@ -7,6 +7,7 @@ use Rattle.class_defs.specs.Steps.{World}
 use Rattle.class_defs.specs.Types.{type_of}
 use Rattle.class_defs.specs.declared.expressions.Expr.{Expr}
 use Rattle.class_defs.specs.declared.expressions.Expr.TheOpen.{Expr-F}
+use Rattle.class_defs.specs.declared.expressions.Name.{Name}
 use Rattle.class_defs.specs.declared.machine.Flow.{Flow}
 use Rattle.class_defs.specs.declared.machine.Flow.TheVariants.{Next}
 use Rattle.class_defs.specs.declared.machine.Machine.{Machine}
@@ -15,10 +16,8 @@ use Rattle.class_defs.specs.declared.statements.Stmt.TheOpen.{Stmt-F}
 use Rattle.class_defs.specs.declared.store.Schema.{Schema}
 use Rattle.class_defs.specs.declared.types.ExprType.{ExprType}
 use Rattle.client_cache.specs.Copies.{Contents}
-use Rattle.lang_small_steps.specs.Plain.{plain}
 use Rattle.lang_small_steps.specs.declared.frames.Frame.{Frame}
 use Rattle.lang_small_steps.specs.declared.frames.Frame.TheVariants as frame
-use Rattle.lang_small_steps.specs.declared.nodes.ExprNode.{ExprNode}
 use Rattle.paused_eval.proofs.Directly.{body, left_waiting, next_turn, same_world, test_left}
 use Rattle.paused_eval.specs.Begins.{first_part, waiting_frame}
 use Rattle.paused_eval.specs.Copies.{Keeps, state}
@@ -32,8 +31,8 @@ type_there : (s : Schema) (p : Machine) (c : Contents) (e : Expr) → type_of (s
 unfolding scope_at
 type_there s p c e = refl
 
-pub kind_there : (s : Schema) (p : Machine) (c : Contents) (t : ExprType) (e f : ExprNode) → t ≡ type_of (scope_at s p) (plain f) → f ≡ e → t ≡ type_of (scope_at s (state p c)) (plain e)
-kind_there s p c t e f is same = is ∙ ap (λ (x : ExprNode). type_of (scope_at s p) (plain x)) same ∙ type_there s p c (plain e)
+pub kind_there : (s : Schema) (p : Machine) (c : Contents) (t : ExprType) (e : Expr) → t ≡ type_of (scope_at s p) e → t ≡ type_of (scope_at s (state p c)) e
+kind_there s p c t e is = is ∙ type_there s p c e
 
 named_there : (s : Schema) (p : Machine) (c : Contents) (name : List ℕ) → named_value s p name ≡ named_value s (state p c) name
 unfolding named_value
@@ -42,9 +41,9 @@ named_there s p c name = refl
 pub value_there : (s : Schema) (p : Machine) (c : Contents) (v : Value) (x y : List ℕ) → v ≡ named_value s p y → y ≡ x → v ≡ named_value s (state p c) x
 value_there s p c v x y is same = is ∙ ap (named_value s p) same ∙ named_there s p c x
 
-pub node_variable : (w : World) (n : ℕ) (i : Directly) (x : Expr-F Expr) (name : List ℕ) (line : ℕ) (m : Machine) (v : Value) → x ≡ Expr-F.Variable (record { text = name; line = line })
-    → v ≡ named_value w.schema m name → node w n i x m ≡ (Ok v, m)
-node_variable w n i x name line m v e h = ap (λ (k : Expr-F Expr). node w n i k m) e ∙ ap (λ (u : Value). (Ok u, m)) (sym h)
+pub node_variable : (w : World) (n : ℕ) (i : Directly) (x : Expr-F Expr) (name : Name) (m : Machine) (v : Value) → x ≡ Expr-F.Variable name
+    → v ≡ named_value w.schema m name.text → node w n i x m ≡ (Ok v, m)
+node_variable w n i x name m v e h = ap (λ (k : Expr-F Expr). node w n i k m) e ∙ ap (λ (u : Value). (Ok u, m)) (sym h)
 
 -- ---- parts
 

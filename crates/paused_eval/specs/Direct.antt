@@ -7,6 +7,7 @@ use Rattle.thor_value.specs.declared.values.Value.{Value}
 use Rattle.thor_value.specs.declared.values.Value.TheVariants as value
 use Rattle.class_defs.specs.Calls.{owners_at}
 use Rattle.class_defs.specs.Expressions.{combined, this_value}
+use Rattle.class_defs.specs.Kinds.{literal_value}
 use Rattle.class_defs.specs.Objects.{assign_field, field_value, named_value, scope_at, touch}
 use Rattle.class_defs.specs.Statements.{assign_local, declare, holds}
 use Rattle.class_defs.specs.Steps.{World}
@@ -202,7 +203,9 @@ module _ (w : World) (n : ℕ) (inner : Directly) where
   ready (type.Class c) (value.Ref x) name vs = call c x name vs
   ready (type.Class c) value.Null name vs = faulted (Faulted NullCall)
   ready (type.Class c) (value.Int i) name vs = faulted (Faulted NullCall)
+  ready (type.Class c) (value.Text t) name vs = faulted (Faulted NullCall)
   ready type.Int v name vs = faulted (Faulted NullCall)
+  ready type.Text v name vs = faulted (Faulted NullCall)
   ready type.Null v name vs = faulted (Faulted NullCall)
   ready type.Untold v name vs = faulted (Faulted NullCall)
 
@@ -227,7 +230,7 @@ module _ (w : World) (n : ℕ) (inner : Directly) where
       part (inner.value_of receiver) (frame.Callee n t name arguments) (λ r. collect t r name [] arguments) m
 
   abbrev pub node : Expr-F Expr → Direct Value
-  node (Expr-F.Int v line) = done (value.Int v)
+  node (Expr-F.Literal v line) = done (literal_value v)
   node (Expr-F.Null line) = done value.Null
   node (Expr-F.This line) = λ m. done (this_value m.this) m
   node (Expr-F.Field name) = λ m. done (field_value w m name.text) m

@@ -46,7 +46,7 @@ tested n t c b v fs = if holds v then open_block n b (frame.Again n t c b ∷ fs
 
 -- the name of the field that a node reads
 abbrev pub field_read : Expr-F Expr → Option (List ℕ)
-field_read (Expr-F.Int v line) = None
+field_read (Expr-F.Literal v line) = None
 field_read (Expr-F.Null line) = None
 field_read (Expr-F.This line) = None
 field_read (Expr-F.Field name) = Some name.text

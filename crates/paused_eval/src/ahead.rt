@@ -90,7 +90,7 @@ pub fn ahead<L: Ledger>(
                 bodies,
                 RECURSION_LIMIT,
                 nested,
-                expr.shared(),
+                &expr,
             );
             drop(expr);
             resumed(stack, returned(came))
@@ -104,7 +104,7 @@ pub fn ahead<L: Ledger>(
                 bodies,
                 RECURSION_LIMIT,
                 nested,
-                stmt.shared(),
+                stmt.get(),
             );
             drop(stmt);
             resumed(stack, came)

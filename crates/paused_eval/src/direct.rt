@@ -6,7 +6,6 @@ ghost use Rattle.std.specs.Prelude.{◌≡◌, ◌<◌, map, None, IfOk};
 ghost use Rattle.class_defs.specs.Types.{method_of};
 ghost use Rattle.class_defs.specs.declared.expressions.Expr.{out-Expr};
 ghost use Rattle.lang_small_steps.specs.Methods.{class_methods};
-ghost use Rattle.lang_small_steps.specs.Plain.{plain};
 ghost use Rattle.lang_small_steps.specs.Reaches.{over};
 ghost use Rattle.lang_small_steps.specs.Resume as small;
 ghost use Rattle.lang_small_steps.specs.Typed.{IsTyped};
@@ -20,18 +19,18 @@ use crate::direct_statements::block;
 use crate::moves::ended;
 use crate::objects::{field_value, touch};
 use crate::popping::leave_body;
-use crate::types::type_of;
 use crate::unwound::Unwound;
 use crate::waiting::{
     behind_argument, behind_body, behind_left, behind_negation, behind_receiver, behind_right,
     create_later, evaluate_later, faulted, not_entered,
 };
 use class_defs::{
-    DEPTH_LIMIT, ExprType, Machine, Operator, Receiver, STEP_LIMIT, combined, number,
+    DEPTH_LIMIT, Expr, ExprType, Exprs, Machine, Operator, Receiver, STEP_LIMIT, combined,
+    literal_value, number,
 };
 use client_cache::Cache;
-use lang_small_steps::{ExprNode, ExprNodes, Shared, SharedExprs, SharedMethod};
-use method_eval::{Program, named_value, owners_at};
+use lang_small_steps::{SharedExprs, SharedMethod};
+use method_eval::{Program, named_value, owners_at, type_of};
 use std::mem;
 use std::sync::ledger::Ledger;
 use thor_value::{Fault, NoMemory, Oref, Text, Value, Values};
@@ -48,11 +47,11 @@ pub fn value_of<L: Ledger>(
     bodies: &mut Bodies<'_, L>,
     room: u32,
     nested: u32,
-    expr: &Shared<ExprNode>,
+    expr: &Expr,
 ) -> Result<Value, Unwound>
     requires tied { Tied cache.old }
     requires known { bodies.old.methods.now ≡ class_methods program.now.schema.now.classes }
-    ensures does { Directs result (state machine.new cache.new) ((directly (on program.now.schema.now cache.old) room nested).value_of (plain expr.now) (state machine.old cache.old)) }
+    ensures does { Directs result (state machine.new cache.new) ((directly (on program.now.schema.now cache.old) room nested).value_of expr.now (state machine.old cache.old)) }
     ensures tied { Lasts result (Tied cache.new) }
     ensures kept { Lasts result (Keeps cache.old cache.new) }
     ensures known { bodies.new.methods.now ≡ class_methods program.now.schema.now.classes }
@@ -74,7 +73,7 @@ pub fn value_of<L: Ledger>(
         bodies,
         room - 1,
         nested - 1,
-        expr.get(),
+        expr,
     )
 }
 
@@ -89,56 +88,82 @@ fn node<L: Ledger>(
     bodies: &mut Bodies<'_, L>,
     room: u32,
     inner: u32,
-    node: &ExprNode,
+    node: &Expr,
 ) -> Result<Value, Unwound>
     requires tied { Tied cache.old }
     requires known { bodies.old.methods.now ≡ class_methods program.now.schema.now.classes }
-    ensures does { Directs result (state machine.new cache.new) (spec.node (on program.now.schema.now cache.old) inner (directly (on program.now.schema.now cache.old) room inner) (out-Expr (plain node.now)) (state machine.old cache.old)) }
+    ensures does { Directs result (state machine.new cache.new) (spec.node (on program.now.schema.now cache.old) inner (directly (on program.now.schema.now cache.old) room inner) (out-Expr node.now) (state machine.old cache.old)) }
     ensures tied { Lasts result (Tied cache.new) }
     ensures kept { Lasts result (Keeps cache.old cache.new) }
     ensures known { bodies.new.methods.now ≡ class_methods program.now.schema.now.classes }
     ensures work { Lasts result (surplus bodies.new.work machine.new.steps ≡ surplus bodies.old.work machine.old.steps) }
 {
     match node {
-        ExprNode::Int { value, line: _ } => Ok(Value::Int(*value)),
-        ExprNode::Null { line: _ } => Ok(Value::Null),
-        ExprNode::This { line: _ } => Ok(match &machine.this {
+        Expr::Literal { value, line: _ } => Ok(literal_value(*value)),
+        Expr::Null { line: _ } => Ok(Value::Null),
+        Expr::This { line: _ } => Ok(match &machine.this {
             Some(this) => Value::Ref(this.oref),
             None => Value::Null,
         }),
-        ExprNode::Field { name, line: _ } => Ok(field_value(
-            program,
-            cache,
-            machine,
-            name.get().as_slice(),
-        )),
-        ExprNode::Variable { name, line: _ } => Ok(named_value(
-            program,
-            machine,
-            name.get().as_slice(),
-        )),
-        ExprNode::New { class, line: _, at } => create_later(program.alloc, class, *at),
-        ExprNode::Parens { inner: inside, .. } => {
-            value_of(program, epoch, cache, machine, bodies, room, inner, inside)
+        Expr::Field { name } => Ok(field_value(program, cache, machine, name.text.as_slice())),
+        Expr::Variable { name } => Ok(named_value(program, machine, name.text.as_slice())),
+        Expr::New { class, at } => create_later(program.alloc, &class.text, *at),
+        Expr::Parens { inner: inside, .. } => {
+            value_of(
+                program,
+                epoch,
+                cache,
+                machine,
+                bodies,
+                room,
+                inner,
+                inside.get(),
+            )
         }
-        ExprNode::Negate { operand, .. } => {
-            negate(program, epoch, cache, machine, bodies, room, inner, operand)
+        Expr::Negate { operand, .. } => {
+            negate(
+                program,
+                epoch,
+                cache,
+                machine,
+                bodies,
+                room,
+                inner,
+                operand.get(),
+            )
         }
-        ExprNode::Binary {
+        Expr::Binary {
             operator,
             left,
             right,
             ..
         } => binary(
-            program, epoch, cache, machine, bodies, room, inner, *operator, left, right,
+            program,
+            epoch,
+            cache,
+            machine,
+            bodies,
+            room,
+            inner,
+            *operator,
+            left.get(),
+            right.get(),
         ),
-        ExprNode::Call {
+        Expr::Call {
             receiver,
             method,
             arguments,
-            ..
         } => called(
-            program, epoch, cache, machine, bodies, room, inner, receiver, method, arguments,
+            program,
+            epoch,
+            cache,
+            machine,
+            bodies,
+            room,
+            inner,
+            receiver.get(),
+            &method.text,
+            arguments,
         ),
     }
 }
@@ -153,11 +178,11 @@ fn negate<L: Ledger>(
     bodies: &mut Bodies<'_, L>,
     room: u32,
     inner: u32,
-    operand: &Shared<ExprNode>,
+    operand: &Expr,
 ) -> Result<Value, Unwound>
     requires tied { Tied cache.old }
     requires known { bodies.old.methods.now ≡ class_methods program.now.schema.now.classes }
-    ensures does { Directs result (state machine.new cache.new) (spec.negate (on program.now.schema.now cache.old) inner (directly (on program.now.schema.now cache.old) room inner) (plain operand.now) (state machine.old cache.old)) }
+    ensures does { Directs result (state machine.new cache.new) (spec.negate (on program.now.schema.now cache.old) inner (directly (on program.now.schema.now cache.old) room inner) operand.now (state machine.old cache.old)) }
     ensures tied { Lasts result (Tied cache.new) }
     ensures kept { Lasts result (Keeps cache.old cache.new) }
     ensures known { bodies.new.methods.now ≡ class_methods program.now.schema.now.classes }
@@ -182,11 +207,11 @@ fn combine<L: Ledger>(
     inner: u32,
     operator: Operator,
     first: Value,
-    right: &Shared<ExprNode>,
+    right: &Expr,
 ) -> Result<Value, Unwound>
     requires tied { Tied cache.old }
     requires known { bodies.old.methods.now ≡ class_methods program.now.schema.now.classes }
-    ensures does { Directs result (state machine.new cache.new) (spec.combine (on program.now.schema.now cache.old) inner (directly (on program.now.schema.now cache.old) room inner) operator first (plain right.now) (state machine.old cache.old)) }
+    ensures does { Directs result (state machine.new cache.new) (spec.combine (on program.now.schema.now cache.old) inner (directly (on program.now.schema.now cache.old) room inner) operator first right.now (state machine.old cache.old)) }
     ensures tied { Lasts result (Tied cache.new) }
     ensures kept { Lasts result (Keeps cache.old cache.new) }
     ensures known { bodies.new.methods.now ≡ class_methods program.now.schema.now.classes }
@@ -209,12 +234,12 @@ fn binary<L: Ledger>(
     room: u32,
     inner: u32,
     operator: Operator,
-    left: &Shared<ExprNode>,
-    right: &Shared<ExprNode>,
+    left: &Expr,
+    right: &Expr,
 ) -> Result<Value, Unwound>
     requires tied { Tied cache.old }
     requires known { bodies.old.methods.now ≡ class_methods program.now.schema.now.classes }
-    ensures does { Directs result (state machine.new cache.new) (spec.binary (on program.now.schema.now cache.old) inner (directly (on program.now.schema.now cache.old) room inner) operator (plain left.now) (plain right.now) (state machine.old cache.old)) }
+    ensures does { Directs result (state machine.new cache.new) (spec.binary (on program.now.schema.now cache.old) inner (directly (on program.now.schema.now cache.old) room inner) operator left.now right.now (state machine.old cache.old)) }
     ensures tied { Lasts result (Tied cache.new) }
     ensures kept { Lasts result (Keeps cache.old cache.new) }
     ensures known { bodies.new.methods.now ≡ class_methods program.now.schema.now.classes }
@@ -238,19 +263,19 @@ fn called<L: Ledger>(
     bodies: &mut Bodies<'_, L>,
     room: u32,
     inner: u32,
-    receiver: &Shared<ExprNode>,
-    method: &Shared<Text>,
-    arguments: &Shared<ExprNodes>,
+    receiver: &Expr,
+    method: &Text,
+    arguments: &Exprs,
 ) -> Result<Value, Unwound>
     requires tied { Tied cache.old }
     requires known { bodies.old.methods.now ≡ class_methods program.now.schema.now.classes }
-    ensures does { Directs result (state machine.new cache.new) (spec.called (on program.now.schema.now cache.old) inner (directly (on program.now.schema.now cache.old) room inner) (plain receiver.now) method.now (map plain arguments.now) (state machine.old cache.old)) }
+    ensures does { Directs result (state machine.new cache.new) (spec.called (on program.now.schema.now cache.old) inner (directly (on program.now.schema.now cache.old) room inner) receiver.now method.now arguments.now (state machine.old cache.old)) }
     ensures tied { Lasts result (Tied cache.new) }
     ensures kept { Lasts result (Keeps cache.old cache.new) }
     ensures known { bodies.new.methods.now ≡ class_methods program.now.schema.now.classes }
     ensures work { Lasts result (surplus bodies.new.work machine.new.steps ≡ surplus bodies.old.work machine.old.steps) }
 {
-    let kind = type_of(program, machine, receiver.get());
+    let kind = type_of(program, machine, receiver);
     match value_of(
         program, epoch, cache, machine, bodies, room, inner, receiver,
     ) {
@@ -278,13 +303,13 @@ fn collect<L: Ledger>(
     inner: u32,
     kind: ExprType,
     target: Value,
-    method: &Shared<Text>,
+    method: &Text,
     none: Values,
-    arguments: &Shared<ExprNodes>,
+    arguments: &Exprs,
 ) -> Result<Value, Unwound>
     requires tied { Tied cache.old }
     requires known { bodies.old.methods.now ≡ class_methods program.now.schema.now.classes }
-    ensures does { Directs result (state machine.new cache.new) (spec.collect (on program.now.schema.now cache.old) inner (directly (on program.now.schema.now cache.old) room inner) kind target method.now none (map plain arguments.now) (state machine.old cache.old)) }
+    ensures does { Directs result (state machine.new cache.new) (spec.collect (on program.now.schema.now cache.old) inner (directly (on program.now.schema.now cache.old) room inner) kind target method.now none arguments.now (state machine.old cache.old)) }
     ensures tied { Lasts result (Tied cache.new) }
     ensures kept { Lasts result (Keeps cache.old cache.new) }
     ensures known { bodies.new.methods.now ≡ class_methods program.now.schema.now.classes }
@@ -324,7 +349,7 @@ fn ready<L: Ledger>(
     inner: u32,
     kind: ExprType,
     target: Value,
-    method: &Shared<Text>,
+    method: &Text,
     arguments: Values,
 ) -> Result<Value, Unwound>
     requires tied { Tied cache.old }
@@ -356,7 +381,7 @@ fn call<L: Ledger>(
     inner: u32,
     class: u16,
     oref: Oref,
-    method: &Shared<Text>,
+    method: &Text,
     arguments: Values,
 ) -> Result<Value, Unwound>
     requires tied { Tied cache.old }
@@ -399,7 +424,7 @@ fn enter<L: Ledger>(
     inner: u32,
     found: u16,
     this: Receiver,
-    name: &Shared<Text>,
+    name: &Text,
     arguments: &Values,
 ) -> Result<Value, Unwound>
     requires tied { Tied cache.old }
@@ -414,7 +439,7 @@ fn enter<L: Ledger>(
     if found != this.class {
         return faulted(Fault::NullCall);
     }
-    match method_in(program, bodies, this.class, name.get().as_slice()) {
+    match method_in(program, bodies, this.class, name.as_slice()) {
         Some(method) => run_body(
             program, epoch, cache, machine, bodies, room, inner, this, method, arguments,
         ),

@@ -3,7 +3,6 @@
 ghost use Rattle.std.specs.Prelude.{◌≡◌, map};
 ghost use Rattle.class_defs.specs.declared.statements.Stmt.{out-Stmt};
 ghost use Rattle.lang_small_steps.specs.Methods.{class_methods};
-ghost use Rattle.lang_small_steps.specs.Plain.{plain, plain_stmt};
 ghost use Rattle.lang_small_steps.specs.declared.frames.Frame.TheVariants as frame;
 ghost use Rattle.paused_eval.specs.Copies.{Keeps, Tied, state};
 ghost use Rattle.paused_eval.specs.Counted.{surplus};
@@ -19,9 +18,9 @@ use crate::waiting::{
     behind_block, behind_first_part, behind_statement, behind_test, behind_turn, execute_later,
     test_later,
 };
-use class_defs::{Flow, Machine, STEP_LIMIT, number};
+use class_defs::{Block, Expr, Flow, Machine, STEP_LIMIT, Stmt, push_printed};
 use client_cache::Cache;
-use lang_small_steps::{ExprNode, Shared, SharedBlock, StmtNode, StmtNodes};
+use lang_small_steps::SharedBlock;
 use method_eval::{Program, assign_local, declare, holds, type_named};
 use std::sync::ledger::Ledger;
 use thor_value::{NoMemory, Value};
@@ -37,11 +36,11 @@ pub fn block<L: Ledger>(
     bodies: &mut Bodies<'_, L>,
     room: u32,
     inner: u32,
-    stmts: &Shared<StmtNodes>,
+    stmts: &Block,
 ) -> Result<Flow, Unwound>
     requires tied { Tied cache.old }
     requires known { bodies.old.methods.now ≡ class_methods program.now.schema.now.classes }
-    ensures does { Directs result (state machine.new cache.new) (spec.block (on program.now.schema.now cache.old) inner (directly (on program.now.schema.now cache.old) room inner) (map plain_stmt stmts.now) (state machine.old cache.old)) }
+    ensures does { Directs result (state machine.new cache.new) (spec.block (on program.now.schema.now cache.old) inner (directly (on program.now.schema.now cache.old) room inner) stmts.now (state machine.old cache.old)) }
     ensures tied { Lasts result (Tied cache.new) }
     ensures kept { Lasts result (Keeps cache.old cache.new) }
     ensures known { bodies.new.methods.now ≡ class_methods program.now.schema.now.classes }
@@ -68,11 +67,11 @@ fn in_order<L: Ledger>(
     bodies: &mut Bodies<'_, L>,
     room: u32,
     inner: u32,
-    stmts: &Shared<StmtNodes>,
+    stmts: &Block,
 ) -> Result<Flow, Unwound>
     requires tied { Tied cache.old }
     requires known { bodies.old.methods.now ≡ class_methods program.now.schema.now.classes }
-    ensures does { Directs result (state machine.new cache.new) (spec.in_order (on program.now.schema.now cache.old) inner (directly (on program.now.schema.now cache.old) room inner) (map plain_stmt stmts.now) (state machine.old cache.old)) }
+    ensures does { Directs result (state machine.new cache.new) (spec.in_order (on program.now.schema.now cache.old) inner (directly (on program.now.schema.now cache.old) room inner) stmts.now (state machine.old cache.old)) }
     ensures tied { Lasts result (Tied cache.new) }
     ensures kept { Lasts result (Keeps cache.old cache.new) }
     ensures known { bodies.new.methods.now ≡ class_methods program.now.schema.now.classes }
@@ -106,11 +105,11 @@ pub fn execute<L: Ledger>(
     bodies: &mut Bodies<'_, L>,
     room: u32,
     nested: u32,
-    stmt: &Shared<StmtNode>,
+    stmt: &Stmt,
 ) -> Result<Flow, Unwound>
     requires tied { Tied cache.old }
     requires known { bodies.old.methods.now ≡ class_methods program.now.schema.now.classes }
-    ensures does { Directs result (state machine.new cache.new) ((directly (on program.now.schema.now cache.old) room nested).execute (plain_stmt stmt.now) (state machine.old cache.old)) }
+    ensures does { Directs result (state machine.new cache.new) ((directly (on program.now.schema.now cache.old) room nested).execute stmt.now (state machine.old cache.old)) }
     ensures tied { Lasts result (Tied cache.new) }
     ensures kept { Lasts result (Keeps cache.old cache.new) }
     ensures known { bodies.new.methods.now ≡ class_methods program.now.schema.now.classes }
@@ -132,7 +131,7 @@ pub fn execute<L: Ledger>(
         bodies,
         room - 1,
         nested - 1,
-        stmt.get(),
+        stmt,
     )
 }
 
@@ -147,11 +146,11 @@ fn statement<L: Ledger>(
     bodies: &mut Bodies<'_, L>,
     room: u32,
     inner: u32,
-    node: &StmtNode,
+    node: &Stmt,
 ) -> Result<Flow, Unwound>
     requires tied { Tied cache.old }
     requires known { bodies.old.methods.now ≡ class_methods program.now.schema.now.classes }
-    ensures does { Directs result (state machine.new cache.new) (spec.statement (on program.now.schema.now cache.old) inner (directly (on program.now.schema.now cache.old) room inner) (out-Stmt (plain_stmt node.now)) (state machine.old cache.old)) }
+    ensures does { Directs result (state machine.new cache.new) (spec.statement (on program.now.schema.now cache.old) inner (directly (on program.now.schema.now cache.old) room inner) (out-Stmt node.now) (state machine.old cache.old)) }
     ensures tied { Lasts result (Tied cache.new) }
     ensures kept { Lasts result (Keeps cache.old cache.new) }
     ensures known { bodies.new.methods.now ≡ class_methods program.now.schema.now.classes }
@@ -185,51 +184,44 @@ fn effect<L: Ledger>(
     bodies: &mut Bodies<'_, L>,
     room: u32,
     inner: u32,
-    node: &StmtNode,
+    node: &Stmt,
     value: Value,
 ) -> Result<Flow, Unwound>
     requires tied { Tied cache.old }
     requires known { bodies.old.methods.now ≡ class_methods program.now.schema.now.classes }
-    ensures does { Directs result (state machine.new cache.new) (spec.effect (on program.now.schema.now cache.old) inner (directly (on program.now.schema.now cache.old) room inner) (out-Stmt (plain_stmt node.now)) value (state machine.old cache.old)) }
+    ensures does { Directs result (state machine.new cache.new) (spec.effect (on program.now.schema.now cache.old) inner (directly (on program.now.schema.now cache.old) room inner) (out-Stmt node.now) value (state machine.old cache.old)) }
     ensures tied { Lasts result (Tied cache.new) }
     ensures kept { Lasts result (Keeps cache.old cache.new) }
     ensures known { bodies.new.methods.now ≡ class_methods program.now.schema.now.classes }
     ensures work { Lasts result (surplus bodies.new.work machine.new.steps ≡ surplus bodies.old.work machine.old.steps) }
 {
     match node {
-        StmtNode::Var {
+        Stmt::Var {
             type_name,
             name,
             ..
         } => {
             let kind = type_named(program, type_name);
-            declare(machine, kind, name.get(), value)?;
+            declare(machine, kind, &name.text, value)?;
             Ok(Flow::Next)
         }
-        StmtNode::Assign { name, .. } => {
-            assign_local(&mut machine.locals, name.get().as_slice(), value);
+        Stmt::Assign { name, .. } => {
+            assign_local(&mut machine.locals, name.text.as_slice(), value);
             Ok(Flow::Next)
         }
-        StmtNode::FieldAssign { field, .. } => {
-            assign_field(
-                program,
-                epoch,
-                cache,
-                machine,
-                field.get().as_slice(),
-                value,
-            )?;
+        Stmt::FieldAssign { field, .. } => {
+            assign_field(program, epoch, cache, machine, field.text.as_slice(), value)?;
             Ok(Flow::Next)
         }
-        StmtNode::Return { .. } => Ok(Flow::Returned(value)),
-        StmtNode::If { then, .. } => {
+        Stmt::Return { .. } => Ok(Flow::Returned(value)),
+        Stmt::If { then, .. } => {
             if holds(value) {
                 block(program, epoch, cache, machine, bodies, room, inner, then)
             } else {
                 Ok(Flow::Next)
             }
         }
-        StmtNode::IfElse {
+        Stmt::IfElse {
             then,
             otherwise,
             ..
@@ -242,16 +234,16 @@ fn effect<L: Ledger>(
                 )
             }
         }
-        StmtNode::While { condition, body } => {
+        Stmt::While { condition, body } => {
             turns(
                 program, epoch, cache, machine, bodies, room, inner, condition, body, value,
             )
         }
-        StmtNode::Print { .. } => {
-            machine.printed.push(number(value))?;
+        Stmt::Print { .. } => {
+            push_printed(value, &mut machine.printed)?;
             Ok(Flow::Next)
         }
-        StmtNode::Evaluate { .. } => Ok(Flow::Next),
+        Stmt::Evaluate { .. } => Ok(Flow::Next),
     }
 }
 
@@ -267,12 +259,12 @@ fn turn_body<L: Ledger>(
     room: u32,
     inner: u32,
     turns: u32,
-    condition: &Shared<ExprNode>,
-    body: &Shared<StmtNodes>,
+    condition: &Expr,
+    body: &Block,
 ) -> Result<Flow, Unwound>
     requires tied { Tied cache.old }
     requires known { bodies.old.methods.now ≡ class_methods program.now.schema.now.classes }
-    ensures does { Directs result (state machine.new cache.new) (spec.part (spec.block (on program.now.schema.now cache.old) inner (directly (on program.now.schema.now cache.old) room inner) (map plain_stmt body.now)) (frame.Again inner turns (plain condition.now) (map plain_stmt body.now)) spec.done (state machine.old cache.old)) }
+    ensures does { Directs result (state machine.new cache.new) (spec.part (spec.block (on program.now.schema.now cache.old) inner (directly (on program.now.schema.now cache.old) room inner) body.now) (frame.Again inner turns condition.now body.now) spec.done (state machine.old cache.old)) }
     ensures tied { Lasts result (Tied cache.new) }
     ensures kept { Lasts result (Keeps cache.old cache.new) }
     ensures known { bodies.new.methods.now ≡ class_methods program.now.schema.now.classes }
@@ -296,12 +288,12 @@ fn test_again<L: Ledger>(
     room: u32,
     inner: u32,
     turns: u32,
-    condition: &Shared<ExprNode>,
-    body: &Shared<StmtNodes>,
+    condition: &Expr,
+    body: &Block,
 ) -> Result<Value, Unwound>
     requires tied { Tied cache.old }
     requires known { bodies.old.methods.now ≡ class_methods program.now.schema.now.classes }
-    ensures does { Directs result (state machine.new cache.new) (spec.tests (on program.now.schema.now cache.old) inner (directly (on program.now.schema.now cache.old) room inner) turns (plain condition.now) (map plain_stmt body.now) (state machine.old cache.old)) }
+    ensures does { Directs result (state machine.new cache.new) (spec.tests (on program.now.schema.now cache.old) inner (directly (on program.now.schema.now cache.old) room inner) turns condition.now body.now (state machine.old cache.old)) }
     ensures tied { Lasts result (Tied cache.new) }
     ensures kept { Lasts result (Keeps cache.old cache.new) }
     ensures known { bodies.new.methods.now ≡ class_methods program.now.schema.now.classes }
@@ -331,13 +323,13 @@ fn turns<L: Ledger>(
     bodies: &mut Bodies<'_, L>,
     room: u32,
     inner: u32,
-    condition: &Shared<ExprNode>,
-    body: &Shared<StmtNodes>,
+    condition: &Expr,
+    body: &Block,
     tested: Value,
 ) -> Result<Flow, Unwound>
     requires tied { Tied cache.old }
     requires known { bodies.old.methods.now ≡ class_methods program.now.schema.now.classes }
-    ensures does { Directs result (state machine.new cache.new) (spec.turn (on program.now.schema.now cache.old) inner (directly (on program.now.schema.now cache.old) room inner) 100000 (plain condition.now) (map plain_stmt body.now) tested (state machine.old cache.old)) }
+    ensures does { Directs result (state machine.new cache.new) (spec.turn (on program.now.schema.now cache.old) inner (directly (on program.now.schema.now cache.old) room inner) 100000 condition.now body.now tested (state machine.old cache.old)) }
     ensures tied { Lasts result (Tied cache.new) }
     ensures kept { Lasts result (Keeps cache.old cache.new) }
     ensures known { bodies.new.methods.now ≡ class_methods program.now.schema.now.classes }

@@ -18,7 +18,6 @@ mod popping;
 mod running;
 mod small;
 mod starting;
-mod types;
 mod unwound;
 mod waiting;
 

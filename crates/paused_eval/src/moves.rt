@@ -6,7 +6,6 @@ ghost use Rattle.class_defs.specs.declared.expressions.Expr.{out-Expr};
 ghost use Rattle.class_defs.specs.declared.statements.Stmt.{out-Stmt};
 ghost use Rattle.class_defs.specs.declared.machine.Machine.{Machine};
 ghost use Rattle.class_defs.specs.declared.store.Object.{Object};
-ghost use Rattle.lang_small_steps.specs.Plain.{plain, plain_stmt};
 ghost use Rattle.lang_small_steps.specs.Reaches.{over};
 ghost use Rattle.lang_small_steps.specs.Resume as spec;
 ghost use Rattle.lang_small_steps.specs.Resume.{ended, given};
@@ -15,13 +14,11 @@ ghost use Rattle.paused_eval.specs.Begins.{first_part, waiting_frame};
 ghost use Rattle.paused_eval.specs.Counted.{surplus};
 ghost use Rattle.paused_eval.specs.Does.{Holds, Moves, Stepped, tested};
 
-use class_defs::{ExprType, Flow, Machine, STEP_LIMIT, beginning};
-use lang_small_steps::{
-    Doing, ExprNode, Frame, Shared, SharedBlock, SharedExpr, SharedExprs, Stack, StmtNode,
-};
+use class_defs::{Expr, ExprType, Flow, Machine, STEP_LIMIT, Stmt, beginning};
+use lang_small_steps::{Doing, Frame, SharedBlock, SharedExprs, Stack};
 use method_eval::{Halt, Program, fault, holds, type_named};
 use std::sync::ledger::Ledger;
-use thor_value::{Fault, NoMemory, StepCount, Text, Value, Values};
+use thor_value::{Fault, NoMemory, StepCount, Text, TryCopy, Value, Values, both};
 
 /// The value that was given.
 pub fn given(flow: Flow) -> Value
@@ -79,7 +76,7 @@ pub fn evaluate_for(
     stack: &mut Stack<Frame>,
     frame: Frame,
     nested: u32,
-    expr: SharedExpr,
+    expr: Expr,
 ) -> Result<Doing, NoMemory>
     ensures doing { IfOk result (λ doing. doing ≡ Doing.Evaluate nested expr) }
     ensures stack { OnOk result (stack.new ≡ frame ∷ stack.old) }
@@ -89,12 +86,12 @@ pub fn evaluate_for(
 }
 
 /// A part of a node is evaluated.
-pub fn go_into(inner: u32, part: &Shared<ExprNode>) -> Result<Doing, NoMemory>
-    ensures { IfOk result (λ doing. doing ≡ Doing.Evaluate inner (plain part.now)) }
+pub fn go_into(inner: u32, part: &Expr) -> Result<Doing, NoMemory>
+    ensures { IfOk result (λ doing. doing ≡ Doing.Evaluate inner part.now) }
 {
     Ok(Doing::Evaluate {
         nested: inner,
-        expr: SharedExpr::of(part)?,
+        expr: part.copy()?,
     })
 }
 
@@ -103,9 +100,9 @@ pub fn go_into_for(
     stack: &mut Stack<Frame>,
     frame: Frame,
     inner: u32,
-    part: &Shared<ExprNode>,
+    part: &Expr,
 ) -> Result<Doing, NoMemory>
-    ensures doing { IfOk result (λ doing. doing ≡ Doing.Evaluate inner (plain part.now)) }
+    ensures doing { IfOk result (λ doing. doing ≡ Doing.Evaluate inner part.now) }
     ensures stack { OnOk result (stack.new ≡ frame ∷ stack.old) }
 {
     stack.push(frame)?;
@@ -114,48 +111,48 @@ pub fn go_into_for(
 
 /// The part of a statement that is evaluated first.
 #[tactic(auto, using(crate::proofs::Nodes::stmt_nodes))]
-pub fn first_part(node: &StmtNode) -> &Shared<ExprNode>
-    ensures { plain result.now ≡ first_part (out-Stmt (plain_stmt node.now)) }
+pub fn first_part(node: &Stmt) -> &Expr
+    ensures { result.now ≡ first_part (out-Stmt node.now) }
 {
     match node {
-        StmtNode::Var { value, .. } => value,
-        StmtNode::Assign { value, .. } => value,
-        StmtNode::FieldAssign { value, .. } => value,
-        StmtNode::Return { value } => value,
-        StmtNode::If { condition, .. } => condition,
-        StmtNode::IfElse { condition, .. } => condition,
-        StmtNode::While { condition, .. } => condition,
-        StmtNode::Print { value } => value,
-        StmtNode::Evaluate { value } => value,
+        Stmt::Var { value, .. } => value,
+        Stmt::Assign { value, .. } => value,
+        Stmt::FieldAssign { value, .. } => value,
+        Stmt::Return { value } => value,
+        Stmt::If { condition, .. } => condition,
+        Stmt::IfElse { condition, .. } => condition,
+        Stmt::While { condition, .. } => condition,
+        Stmt::Print { value } => value,
+        Stmt::Evaluate { value } => value,
     }
 }
 
 /// The frame that waits for this part.
 #[tactic(auto, using(crate::proofs::Nodes::stmt_nodes))]
-pub fn waiting_frame(program: &Program<'_>, inner: u32, node: &StmtNode) -> Result<Frame, NoMemory>
-    ensures { IfOk result (λ frame. frame ≡ waiting_frame program.now.schema.now.classes inner (out-Stmt (plain_stmt node.now))) }
+pub fn waiting_frame(program: &Program<'_>, inner: u32, node: &Stmt) -> Result<Frame, NoMemory>
+    ensures { IfOk result (λ frame. frame ≡ waiting_frame program.now.schema.now.classes inner (out-Stmt node.now)) }
 {
     match node {
-        StmtNode::Var {
+        Stmt::Var {
             type_name,
             name,
             ..
         } => Ok(Frame::Declare {
             kind: type_named(program, type_name),
-            name: name.share()?,
+            name: name.text.copy()?,
         }),
-        StmtNode::Assign { name, .. } => Ok(Frame::Assign {
-            name: name.share()?,
+        Stmt::Assign { name, .. } => Ok(Frame::Assign {
+            name: name.text.copy()?,
         }),
-        StmtNode::FieldAssign { field, .. } => Ok(Frame::FieldAssign {
-            field: field.share()?,
+        Stmt::FieldAssign { field, .. } => Ok(Frame::FieldAssign {
+            field: field.text.copy()?,
         }),
-        StmtNode::Return { value: _ } => Ok(Frame::Return),
-        StmtNode::If { condition: _, then } => Ok(Frame::Branch {
+        Stmt::Return { value: _ } => Ok(Frame::Return),
+        Stmt::If { condition: _, then } => Ok(Frame::Branch {
             nested: inner,
             then: SharedBlock::of(then)?,
         }),
-        StmtNode::IfElse {
+        Stmt::IfElse {
             condition: _,
             then,
             otherwise,
@@ -164,14 +161,17 @@ pub fn waiting_frame(program: &Program<'_>, inner: u32, node: &StmtNode) -> Resu
             then: SharedBlock::of(then)?,
             otherwise: SharedBlock::of(otherwise)?,
         }),
-        StmtNode::While { condition, body } => Ok(Frame::Test {
-            nested: inner,
-            turns: 100_000,
-            condition: SharedExpr::of(condition)?,
-            body: SharedBlock::of(body)?,
-        }),
-        StmtNode::Print { value: _ } => Ok(Frame::Print),
-        StmtNode::Evaluate { value: _ } => Ok(Frame::Discard),
+        Stmt::While { condition, body } => {
+            let (condition, body) = both(condition.copy()?, SharedBlock::of(body))?;
+            Ok(Frame::Test {
+                nested: inner,
+                turns: 100_000,
+                condition,
+                body,
+            })
+        }
+        Stmt::Print { value: _ } => Ok(Frame::Print),
+        Stmt::Evaluate { value: _ } => Ok(Frame::Discard),
     }
 }
 
@@ -183,9 +183,9 @@ pub fn begin<L: Ledger>(
     work: &mut StepCount<L>,
     stack: &mut Stack<Frame>,
     inner: u32,
-    node: &StmtNode,
+    node: &Stmt,
 ) -> Result<Doing, Halt>
-    ensures does { (f : Oref → Option Object) → Moves result stack.new machine.old machine.new (steps.◌>>◌ step (spec.begin (over program.now.schema.now f) inner (out-Stmt (plain_stmt node.now)) stack.old)) }
+    ensures does { (f : Oref → Option Object) → Moves result stack.new machine.old machine.new (steps.◌>>◌ step (spec.begin (over program.now.schema.now f) inner (out-Stmt node.now) stack.old)) }
     ensures work { Holds result (surplus work.new machine.new.steps ≡ surplus work.old machine.old.steps) }
 {
     take_step(machine, work)?;
@@ -217,7 +217,7 @@ fn ready(
     inner: u32,
     kind: ExprType,
     target: Value,
-    method: Shared<Text>,
+    method: Text,
     arguments: Values,
 ) -> Result<Doing, Halt>
     ensures { (fs : List Frame) → (m : Machine) → Moves result fs m m (spec.ready inner kind target method arguments fs) }
@@ -240,7 +240,7 @@ pub fn collect(
     inner: u32,
     kind: ExprType,
     target: Value,
-    method: Shared<Text>,
+    method: Text,
     done: Values,
     rest: SharedExprs,
 ) -> Result<Doing, Halt>
@@ -295,7 +295,7 @@ pub fn tested(
     stack: &mut Stack<Frame>,
     inner: u32,
     turns: u32,
-    condition: SharedExpr,
+    condition: Expr,
     body: SharedBlock,
     value: Value,
 ) -> Result<Doing, Halt>
@@ -322,7 +322,7 @@ pub fn turned<L: Ledger>(
     stack: &mut Stack<Frame>,
     inner: u32,
     turns: u32,
-    condition: SharedExpr,
+    condition: Expr,
     body: SharedBlock,
     flow: Flow,
 ) -> Result<Doing, Halt>
@@ -336,7 +336,7 @@ pub fn turned<L: Ledger>(
                 return fault(Fault::Steps);
             }
             take_step(machine, work)?;
-            let expr = condition.share()?;
+            let expr = condition.copy()?;
             let frame = Frame::Test {
                 nested: inner,
                 turns: turns - 1,

@@ -25,7 +25,7 @@ use crate::came::Came;
 use crate::copies::Copies;
 use crate::granted_names::GrantedNames;
 use crate::running::run_over;
-use class_defs::{Flow, Machine, NameSupply, Schema};
+use class_defs::{Block, Flow, Machine, NameSupply, Schema};
 use client_cache::Cache;
 use lang_small_steps::{CLASS_LIMIT, ClassMethods, Doing, Frame, SharedBlock, Stack};
 use method_eval::{Program, Ran};
@@ -128,8 +128,8 @@ fn set_doing(place: &mut Doing, doing: Doing)
 }
 
 impl Paused {
-    /// Before the first step. It copies nothing of the transaction's text, and nothing later does.
-    pub fn begin(alloc: Global, text: &SharedBlock) -> Result<Paused, NoMemory>
+    /// Before the first step. It shares the transaction's text.
+    pub fn begin(alloc: Global, text: &Block) -> Result<Paused, NoMemory>
         ensures stands { IfOk result (λ paused. (s : Schema) → (copies : Copies) → (names : GrantedNames) → copies.cache.written ≡ []
             → Stands s (at_hand s copies.cache) text.now (supply names.names).waiting (record { doing = paused.doing; stack = paused.stack }) (state_with paused.machine copies.cache names.names)) }
         ensures begun { IfOk result (λ paused. paused.machine.steps ≡ 0) }
@@ -138,7 +138,7 @@ impl Paused {
         stack.push(Frame::BlockEnd { count: 0 })?;
         stack.push(Frame::Rest {
             nested: 100_001,
-            rest: text.share()?,
+            rest: SharedBlock::of(text)?,
         })?;
         Ok(Paused {
             alloc,

@@ -11,14 +11,14 @@ ghost use Rattle.paused_eval.specs.Does.{Holds, Moves, field_assigned, in_block,
 use crate::moves::{
     collect, ended, evaluate_for, give, given, go_on, open_block, pass, tested, turned,
 };
-use class_defs::{Flow, Locals, Machine, Receiver, combined, number};
-use lang_small_steps::{Doing, Frame, Shared, Stack};
+use class_defs::{Flow, Locals, Machine, Receiver, combined, number, push_printed};
+use lang_small_steps::{Doing, Frame, Stack};
 use method_eval::{Halt, Program, assign_local, declare, holds};
 use std::sync::ledger::Ledger;
 use thor_value::{NoMemory, StepCount, Text, Value, Values};
 
 /// The name of the field that a frame assigns.
-pub fn field_assigned(frame: &Frame) -> Option<&Shared<Text>>
+pub fn field_assigned(frame: &Frame) -> Option<&Text>
     ensures { option_copied result ≡ field_assigned frame.now }
 {
     match frame {
@@ -142,11 +142,11 @@ fn pop_statement(
     let _alloc = program.alloc;
     match frame {
         Frame::Declare { kind, name } => {
-            declare(machine, kind, name.get(), given(flow))?;
+            declare(machine, kind, &name, given(flow))?;
             pass()
         }
         Frame::Assign { name } => {
-            assign_local(&mut machine.locals, name.get().as_slice(), given(flow));
+            assign_local(&mut machine.locals, name.as_slice(), given(flow));
             pass()
         }
         Frame::Return => give(given(flow)),
@@ -169,7 +169,7 @@ fn pop_statement(
             }
         }
         Frame::Print => {
-            machine.printed.push(number(given(flow)))?;
+            push_printed(given(flow), &mut machine.printed)?;
             pass()
         }
         Frame::Discard => pass(),

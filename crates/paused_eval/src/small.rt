@@ -22,9 +22,9 @@ use crate::moves::{self, begin, give, pass, take_step};
 use crate::objects::{assign_field, create, field_value};
 use crate::popping::{field_assigned, pop};
 use crate::starting::{field_read, start};
-use class_defs::{At, Flow, Machine, Stop};
+use class_defs::{At, Expr, Flow, Machine, Stop};
 use client_cache::Cache;
-use lang_small_steps::{Doing, Frame, Shared, SharedExpr, SharedStmt, Stack};
+use lang_small_steps::{Doing, Frame, SharedStmt, Stack};
 use method_eval::{Halt, Names, Program, fault};
 use std::sync::ledger::Ledger;
 use thor_value::{Fault, Oref, StepCount, Text, Values};
@@ -70,7 +70,7 @@ fn evaluate<L: Ledger>(
     work: &mut StepCount<L>,
     stack: &mut Stack<Frame>,
     nested: u32,
-    expr: &SharedExpr,
+    expr: &Expr,
 ) -> Result<Doing, Halt>
     requires tied { Tied cache.old }
     ensures does { Moves result stack.new (state machine.old cache.old) (state machine.new cache.new) (move (over program.now.schema.now (at_hand program.now.schema.now cache.old)) (Doing.Evaluate nested expr.now) stack.old) }
@@ -81,11 +81,10 @@ fn evaluate<L: Ledger>(
     if nested == 0 {
         return fault(Fault::Steps);
     }
-    let node = expr.node();
-    if let Some(name) = field_read(node) {
-        return field(program, cache, machine, work, name.get().as_slice());
+    if let Some(name) = field_read(expr) {
+        return field(program, cache, machine, work, name.as_slice());
     }
-    start(program, machine, work, stack, nested - 1, node)
+    start(program, machine, work, stack, nested - 1, expr)
 }
 
 #[tactic(auto, using(lang_small_steps::proofs::Nested::nested))]
@@ -103,7 +102,7 @@ fn execute<L: Ledger>(
     if nested == 0 {
         return fault(Fault::Steps);
     }
-    begin(program, machine, work, stack, nested - 1, stmt.node())
+    begin(program, machine, work, stack, nested - 1, stmt.get())
 }
 
 /// A statement begins, wherever the objects lie that the run has written.
@@ -131,7 +130,7 @@ fn make(
     cache: &mut Cache,
     names: &mut Names,
     machine: &mut Machine,
-    class: Shared<Text>,
+    class: Text,
     at: Option<At>,
 ) -> Result<Moved, Halt>
     requires tied { Tied cache.old }
@@ -142,15 +141,7 @@ fn make(
     ensures names { FromPages names.new }
     ensures steps { machine.new.steps ≡ machine.old.steps }
 {
-    match create(
-        program,
-        epoch,
-        cache,
-        names,
-        machine,
-        class.get().as_slice(),
-        at,
-    ) {
+    match create(program, epoch, cache, names, machine, class.as_slice(), at) {
         Ok(value) => Ok(Moved::To {
             doing: Doing::Give {
                 flow: Flow::Returned(value),
@@ -174,7 +165,7 @@ fn call<L: Ledger>(
     nested: u32,
     class: u16,
     oref: Oref,
-    method: Shared<Text>,
+    method: Text,
     arguments: Values,
 ) -> Result<Moved, Halt>
     requires tied { Tied cache.old }
@@ -250,7 +241,7 @@ fn given<L: Ledger>(
         None => Ok(Doing::Give { flow }),
         Some(frame) => {
             if let Some(field) = field_assigned(&frame) {
-                let name = field.get().as_slice();
+                let name = field.as_slice();
                 let came = assign(program, epoch, cache, machine, name, flow);
                 drop(frame);
                 return came;

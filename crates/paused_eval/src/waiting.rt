@@ -3,20 +3,16 @@
 
 ghost use Rattle.std.specs.Prelude.{◌≡◌, [], ◌∷◌, map, Err, IfOk};
 ghost use Rattle.class_defs.specs.declared.statements.Stmt.{out-Stmt};
-ghost use Rattle.lang_small_steps.specs.Plain.{plain, plain_stmt};
 ghost use Rattle.paused_eval.specs.Begins.{waiting_frame};
 ghost use Rattle.paused_eval.specs.Direct.{IsLeft, IsLater, LaterBehind, Waits};
 
 use crate::moves::waiting_frame;
 use crate::unwound::{Frames, Unwound};
-use class_defs::{At, ExprType, Flow, Locals, Operator, Receiver, Stop};
-use lang_small_steps::{
-    Doing, ExprNode, ExprNodes, Frame, Shared, SharedBlock, SharedExpr, SharedExprs, SharedStmt,
-    StmtNode, StmtNodes,
-};
+use class_defs::{At, Block, Expr, ExprType, Exprs, Flow, Locals, Operator, Receiver, Stmt, Stop};
+use lang_small_steps::{Doing, Frame, SharedBlock, SharedExprs, SharedStmt};
 use method_eval::{Halt, Program};
 use std::alloc::Global;
-use thor_value::{Boxed, Fault, NoMemory, Oref, Text, Value, Values};
+use thor_value::{Boxed, Fault, NoMemory, Oref, Text, TryCopy, Value, Values, both};
 
 /// Small steps go on from here.
 fn later<T>(alloc: Global, doing: Doing) -> Result<T, Unwound>
@@ -30,26 +26,26 @@ fn later<T>(alloc: Global, doing: Doing) -> Result<T, Unwound>
 }
 
 /// An expression is evaluated by small steps.
-pub fn evaluate_later(alloc: Global, nested: u32, expr: &Shared<ExprNode>) -> Result<Value, Unwound>
-    ensures { IsLater result (Doing.Evaluate nested (plain expr.now)) }
+pub fn evaluate_later(alloc: Global, nested: u32, expr: &Expr) -> Result<Value, Unwound>
+    ensures { IsLater result (Doing.Evaluate nested expr.now) }
 {
-    let expr = SharedExpr::of(expr)?;
+    let expr = expr.copy()?;
     later(alloc, Doing::Evaluate { nested, expr })
 }
 
 /// A statement is executed by small steps.
-pub fn execute_later(alloc: Global, nested: u32, stmt: &Shared<StmtNode>) -> Result<Flow, Unwound>
-    ensures { IsLater result (Doing.Execute nested (plain_stmt stmt.now)) }
+pub fn execute_later(alloc: Global, nested: u32, stmt: &Stmt) -> Result<Flow, Unwound>
+    ensures { IsLater result (Doing.Execute nested stmt.now) }
 {
-    let stmt = SharedStmt::of(stmt)?;
+    let stmt = SharedStmt::of(alloc, stmt)?;
     later(alloc, Doing::Execute { nested, stmt })
 }
 
 /// An object is made by a small step.
-pub fn create_later(alloc: Global, class: &Shared<Text>, at: Option<At>) -> Result<Value, Unwound>
+pub fn create_later(alloc: Global, class: &Text, at: Option<At>) -> Result<Value, Unwound>
     ensures { IsLater result (Doing.Create class.now at) }
 {
-    let class = class.share()?;
+    let class = class.copy()?;
     later(alloc, Doing::Create { class, at })
 }
 
@@ -88,15 +84,10 @@ pub fn behind_left(unwound: Unwound, operator: Operator, left: Value) -> Unwound
 }
 
 /// The left operand is left.
-pub fn behind_right(
-    unwound: Unwound,
-    nested: u32,
-    operator: Operator,
-    right: &Shared<ExprNode>,
-) -> Unwound
-    ensures { Waits (Frame.Right nested operator (plain right.now)) unwound result }
+pub fn behind_right(unwound: Unwound, nested: u32, operator: Operator, right: &Expr) -> Unwound
+    ensures { Waits (Frame.Right nested operator right.now) unwound result }
 {
-    match SharedExpr::of(right) {
+    match right.copy() {
         Ok(right) => behind(
             unwound,
             Frame::Right {
@@ -113,15 +104,15 @@ pub fn behind_right(
 fn callee_frame(
     nested: u32,
     kind: ExprType,
-    method: &Shared<Text>,
-    arguments: &Shared<ExprNodes>,
+    method: &Text,
+    arguments: &Exprs,
 ) -> Result<Frame, NoMemory>
-    ensures { IfOk result (λ frame. frame ≡ Frame.Callee nested kind method.now (map plain arguments.now)) }
+    ensures { IfOk result (λ frame. frame ≡ Frame.Callee nested kind method.now arguments.now) }
 {
     Ok(Frame::Callee {
         nested,
         kind,
-        method: method.share()?,
+        method: method.copy()?,
         arguments: SharedExprs::of(arguments)?,
     })
 }
@@ -131,10 +122,10 @@ pub fn behind_receiver(
     unwound: Unwound,
     nested: u32,
     kind: ExprType,
-    method: &Shared<Text>,
-    arguments: &Shared<ExprNodes>,
+    method: &Text,
+    arguments: &Exprs,
 ) -> Unwound
-    ensures { Waits (Frame.Callee nested kind method.now (map plain arguments.now)) unwound result }
+    ensures { Waits (Frame.Callee nested kind method.now arguments.now) unwound result }
 {
     match callee_frame(nested, kind, method, arguments) {
         Ok(frame) => behind(unwound, frame),
@@ -148,13 +139,13 @@ pub fn behind_argument(
     nested: u32,
     kind: ExprType,
     target: Value,
-    method: &Shared<Text>,
+    method: &Text,
     done: Values,
     rest: SharedExprs,
 ) -> Unwound
     ensures { Waits (Frame.Arguments nested kind target method.now done rest) unwound result }
 {
-    match method.share() {
+    match method.copy() {
         Ok(method) => behind(
             unwound,
             Frame::Arguments {
@@ -210,9 +201,9 @@ pub fn behind_first_part(
     program: &Program<'_>,
     unwound: Unwound,
     nested: u32,
-    node: &StmtNode,
+    node: &Stmt,
 ) -> Unwound
-    ensures { Waits (waiting_frame program.now.schema.now.classes nested (out-Stmt (plain_stmt node.now))) unwound result }
+    ensures { Waits (waiting_frame program.now.schema.now.classes nested (out-Stmt node.now)) unwound result }
 {
     match waiting_frame(program, nested, node) {
         Ok(frame) => behind(unwound, frame),
@@ -226,12 +217,12 @@ fn call_later(
     nested: u32,
     class: u16,
     oref: Oref,
-    method: &Shared<Text>,
+    method: &Text,
     arguments: Values,
 ) -> Result<Boxed<Doing>, NoMemory>
     ensures { IfOk result (λ doing. doing ≡ Doing.Enter nested class oref method.now arguments) }
 {
-    let method = method.share()?;
+    let method = method.copy()?;
     Boxed::new(
         alloc,
         Doing::Enter {
@@ -251,7 +242,7 @@ pub fn not_entered(
     inner: u32,
     class: u16,
     oref: Oref,
-    method: &Shared<Text>,
+    method: &Text,
     arguments: Values,
 ) -> Unwound
     ensures { IsLeft (Doing.Enter inner class oref method.now arguments) halt result }
@@ -270,36 +261,28 @@ pub fn not_entered(
 }
 
 /// The frame in which a loop waits for the end of its body.
-fn again_frame(
-    inner: u32,
-    turns: u32,
-    condition: &Shared<ExprNode>,
-    body: &Shared<StmtNodes>,
-) -> Result<Frame, NoMemory>
-    ensures { IfOk result (λ frame. frame ≡ Frame.Again inner turns (plain condition.now) (map plain_stmt body.now)) }
+fn again_frame(inner: u32, turns: u32, condition: &Expr, body: &Block) -> Result<Frame, NoMemory>
+    ensures { IfOk result (λ frame. frame ≡ Frame.Again inner turns condition.now body.now) }
 {
+    let (condition, body) = both(condition.copy()?, SharedBlock::of(body))?;
     Ok(Frame::Again {
         nested: inner,
         turns,
-        condition: SharedExpr::of(condition)?,
-        body: SharedBlock::of(body)?,
+        condition,
+        body,
     })
 }
 
 /// The frame in which a loop waits for its condition.
-fn test_frame(
-    inner: u32,
-    turns: u32,
-    condition: &Shared<ExprNode>,
-    body: &Shared<StmtNodes>,
-) -> Result<Frame, NoMemory>
-    ensures { IfOk result (λ frame. frame ≡ Frame.Test inner turns (plain condition.now) (map plain_stmt body.now)) }
+fn test_frame(inner: u32, turns: u32, condition: &Expr, body: &Block) -> Result<Frame, NoMemory>
+    ensures { IfOk result (λ frame. frame ≡ Frame.Test inner turns condition.now body.now) }
 {
+    let (condition, body) = both(condition.copy()?, SharedBlock::of(body))?;
     Ok(Frame::Test {
         nested: inner,
         turns,
-        condition: SharedExpr::of(condition)?,
-        body: SharedBlock::of(body)?,
+        condition,
+        body,
     })
 }
 
@@ -318,10 +301,10 @@ pub fn behind_turn(
     unwound: Unwound,
     nested: u32,
     turns: u32,
-    condition: &Shared<ExprNode>,
-    body: &Shared<StmtNodes>,
+    condition: &Expr,
+    body: &Block,
 ) -> Unwound
-    ensures { Waits (Frame.Again nested turns (plain condition.now) (map plain_stmt body.now)) unwound result }
+    ensures { Waits (Frame.Again nested turns condition.now body.now) unwound result }
 {
     match again_frame(nested, turns, condition, body) {
         Ok(frame) => behind(unwound, frame),
@@ -334,10 +317,10 @@ pub fn behind_test(
     unwound: Unwound,
     nested: u32,
     turns: u32,
-    condition: &Shared<ExprNode>,
-    body: &Shared<StmtNodes>,
+    condition: &Expr,
+    body: &Block,
 ) -> Unwound
-    ensures { Waits (Frame.Test nested turns (plain condition.now) (map plain_stmt body.now)) unwound result }
+    ensures { Waits (Frame.Test nested turns condition.now body.now) unwound result }
 {
     match test_frame(nested, turns, condition, body) {
         Ok(frame) => behind(unwound, frame),
@@ -350,10 +333,10 @@ pub fn test_later(
     alloc: Global,
     nested: u32,
     turns: u32,
-    condition: &Shared<ExprNode>,
-    body: &Shared<StmtNodes>,
+    condition: &Expr,
+    body: &Block,
 ) -> Result<Value, Unwound>
-    ensures { LaterBehind result (Doing.Give Flow.Next) (Frame.Again nested turns (plain condition.now) (map plain_stmt body.now)) }
+    ensures { LaterBehind result (Doing.Give Flow.Next) (Frame.Again nested turns condition.now body.now) }
 {
     let frame = again_frame(nested, turns, condition, body)?;
     later_behind(alloc, Doing::Give { flow: Flow::Next }, frame)

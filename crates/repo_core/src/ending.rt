@@ -102,4 +102,24 @@ impl<P: Parts> Repo<P> {
             }
         }
     }
+
+    /// Takes the repository down, since memory was not there.
+    #[tactic(auto, using(crate::proofs::Readable::shown_has, crate::proofs::Refused::leaves_down, crate::proofs::Refused::falls_with, crate::proofs::Refused::moved_none, crate::proofs::Refused::lasts_same))]
+    pub(crate) fn fall(&mut self) -> Refusal
+        requires { self.old.is_up ≡ true }
+        ensures refusal { result ≡ IsNoMemory }
+        ensures readable { ShowsPages self.old → ShowsPages self.new }
+        ensures down { self.new.is_up ≡ false }
+        ensures trace { self.new.trace ≡ self.old.trace }
+        ensures held { self.new.held ≡ self.old.held }
+        ensures memory { self.new.memory ≡ self.old.memory }
+        ensures left { (e : Option AnEntry) → Leaves self.old self.new e result }
+        ensures pages { self.new.pages ≡ self.old.pages }
+        ensures clock { self.new.clock ≡ self.old.clock }
+        ensures faults { self.new.faults ≡ self.old.faults }
+        ensures opened { self.new.opened_in ≡ self.old.opened_in }
+    {
+        self.stable.take_down();
+        Refusal::NoMemory
+    }
 }

@@ -20,7 +20,7 @@ use crate::repo::Repo;
 use disk_trait::Parts;
 use log_entries::Request;
 use repo_refusals::Refusal;
-use spec_trace::Mark;
+use spec_trace::refused_mark;
 
 impl<P: Parts> Repo<P> {
     /// Puts the mark of a refused draw, grant or request behind the trace. The answer is the refusal, or
@@ -47,14 +47,12 @@ impl<P: Parts> Repo<P> {
         ensures faults { self.new.faults ≡ self.old.faults }
         ensures opened { self.new.opened_in ≡ self.old.opened_in }
     {
-        let mark = Mark::Refused {
-            session,
-            request,
-            refusal,
-        };
-        match self.mark(Ok(()), mark) {
-            Ok(()) => refusal,
-            Err(fault) => fault,
+        match refused_mark(self.alloc, session, request, refusal) {
+            Ok(mark) => match self.mark(Ok(()), mark) {
+                Ok(()) => refusal,
+                Err(fault) => fault,
+            },
+            Err(_) => self.fall(),
         }
     }
 

@@ -154,6 +154,10 @@ fn is_value(value: Value) -> bool
     match value {
         Value::Int(_) | Value::Null => true,
         Value::Ref(oref) => is_name(oref),
+        Value::Text(word) => {
+            let _bytes = word.bytes();
+            true
+        }
     }
 }
 

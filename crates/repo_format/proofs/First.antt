@@ -24,7 +24,7 @@ none_sorted cmp = tt
 
 -- what a state has that is empty but for its roots and pages
 pub record IsBare (s : State) : Type 0 where
-  pub format : s.format ≡ 1
+  pub format : s.format ≡ 2
   pub life : s.life ≡ 0
   pub count : s.count ≡ 0
   pub threshold : s.threshold ≡ first_ts

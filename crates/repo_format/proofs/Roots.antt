@@ -1,6 +1,7 @@
 -- The pages of a new store hold the roots of its setup.
 use Rattle.class_defs.specs.Steps.{beginning}
-use Rattle.class_defs.specs.Types.{class_or_untold}
+use Rattle.class_defs.specs.declared.types.ExprType.{ExprType}
+use Rattle.class_defs.specs.declared.types.ExprType.TheVariants as type
 use Rattle.class_defs.specs.declared.classes.Class.{Class}
 use Rattle.class_defs.specs.declared.store.Root.{Root}
 use Rattle.class_defs.specs.declared.store.Setup.{Setup}
@@ -21,7 +22,7 @@ use Rattle.std.specs.List.{fold}
 use Rattle.std.specs.Ordering.{nat_cmp}
 use Rattle.repo_format.specs.Fresh.{page_behind, page_count}
 use Rattle.repo_format.specs.Pages.{HasRoots, HasRootsTo, PutsPage, first_page, lies_on, page_by, with_own_root, with_root}
-use Rattle.thor_value.specs.declared.values.Value.TheVariants.{Null}
+use Rattle.thor_value.specs.Spelling.{ValueFits}
 
 -- ---- one page
 
@@ -145,10 +146,13 @@ roots_pages repo setup sides disk has = λ page side used.
 
 -- ---- fields
 
--- a field of a class begins with null
-pub null_begins : (o : Option ℕ) → beginning (class_or_untold o) ≡ Null
-null_begins (Some c) = refl
-null_begins None = refl
+-- the value with which a field begins can be written
+pub begins_fit : (t : ExprType) → ValueFits (beginning t)
+begins_fit type.Int = grind arith
+begins_fit type.Text = refl
+begins_fit type.Null = tt
+begins_fit (type.Class c) = tt
+begins_fit type.Untold = tt
 
 -- ---- for the calls
 

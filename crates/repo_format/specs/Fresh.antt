@@ -35,7 +35,7 @@ first_ts = record { time = 0; repo = 0; life = 0 }
 abbrev pub first_state : ℕ → ℕ → Setup → List (ℕ × ℕ) → State
 first_state repo repos setup installed =
     record {
-      format = 1;
+      format = 2;
       repo = repo;
       repos = repos;
       life = 0;

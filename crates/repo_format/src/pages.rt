@@ -90,7 +90,7 @@ fn put_root(alloc: Global, page: &mut Page, setup: &Setup, root: &Root) -> Resul
     ensures number { page.new.number ≡ page.old.number }
     ensures put { OnOk result (page.new ≡ with_root setup.now.schema.classes page.old root.now) }
 {
-    let object = first_object(alloc, setup.schema.classes.as_slice(), root.class)?;
+    let object = first_object(alloc, &setup.schema.classes, root.class)?;
     put_object(alloc, page, root.oref.slot, &object)
 }
 

@@ -27,7 +27,7 @@ pub(crate) fn first_state(
 {
     let _ = installed.as_slice();
     Ok(State {
-        format: 1,
+        format: 2,
         repo,
         repos,
         life: 0,

@@ -1,6 +1,6 @@
 -- The disk of pages is read beside an open log.
 use Rattle.repo_opening.specs.Same.{Same}
-use Rattle.repo_opening.specs.Recovered.{HasBytes, IsRecovered, Stays}
+use Rattle.repo_opening.specs.Recovered.{AgreesWhere, HasBytes, IsRecovered, Stays}
 use Rattle.repo_opening.proofs.Syncing.{same_beside, same_content, same_then}
 use Rattle.disk_trait.specs.AllDisks.{AllSettled, LeavesAll, MayLeaveAll, ReadsAs, SameContent}
 use Rattle.disk_trait.specs.Disks.{Disks}
@@ -11,11 +11,12 @@ use Rattle.log_frame.specs.Log.{Place}
 use Rattle.page_format.specs.Pages.{page_size}
 use Rattle.page_store.specs.Sides.{ReachesSides, place_of}
 use Rattle.recovery.specs.declared.recovered.Recovered.{Recovered}
+use Rattle.repo_state.specs.Keeps.{Keeps}
 use Rattle.repo_state.specs.Said.{said}
 use Rattle.commit_log.proofs.Holding.{is_log, stands_of}
 use Rattle.commit_log.specs.Holds.{Holds, beside}
 use Rattle.commit_log.specs.Recovered.{stands}
-use Rattle.std.proofs.Common.{List, None, Some, [], ap, arith, cond, length, refl, subst, sym, ◌+◌, ◌<◌, ◌∙◌, ◌≡◌, ◌∷◌, ◌≤◌, ℕ}
+use Rattle.std.proofs.Common.{IfSome, List, None, Option, Some, [], ap, arith, cond, length, refl, subst, sym, ◌+◌, ◌<◌, ◌∙◌, ◌≡◌, ◌∷◌, ◌≤◌, ℕ}
 use Rattle.class_defs.specs.Stored.{Objects}
 use Rattle.repo_opening.specs.Paged.{ArePaged, PutsPaged, PutsStored}
 use Rattle.std.proofs.lemmas.Option.{same_Some}
@@ -47,6 +48,11 @@ holds_on old new log s stays holds =
       agrees = λ bytes told. holds.agrees bytes (sym (same log.disk) ∙ told);
       told = λ bytes other told beside_told opened stood. holds.told bytes other (sym (same log.disk) ∙ told) (sym (same (beside log.disk)) ∙ beside_told) opened stood;
     }
+
+-- what was found is recovered
+pub found_is : (disks : Disks) (found : Option Recovered) → IfSome found (λ r. Holds disks r.log (said r.state)) → IfSome found (λ r. Keeps r.state) → IfSome found (λ r. AgreesWhere r.state.objects.pages) → IfSome found (IsRecovered disks)
+found_is disks None holds keeps pages = tt
+found_is disks (Some r) holds keeps pages = record { state = said r.state; said = refl; holds = holds; keeps = keeps; pages = pages }
 
 pub recovered_on : (old new : Disks) (r : Recovered) → Stays old new → IsRecovered old r → IsRecovered new r
 recovered_on old new r stays known = record {

@@ -42,7 +42,7 @@ fn damaged(recovered: &Recovered, repo: u8) -> Unopened {
 
 /// Syncs the disks of a repository, and reads it. The answer is what was recovered, and the page behind the
 /// last one with objects; nothing where it is fresh. The objects of its pages are put into a map. `Damaged`, too,
-/// where its log prepares what it keeps as decided, and, once its pages are read, where its checkpoint says another
+/// once its pages are read, where its log prepares what it keeps as decided, or its checkpoint says another
 /// repository or store size.
 #[tactic(auto, using(crate::proofs::Syncing::same_then, crate::proofs::Reading::same_on))]
 pub fn read_repository<P: Parts>(
@@ -75,7 +75,8 @@ pub fn read_repository<P: Parts>(
     Ok(Some(read))
 }
 
-/// What was read of a repository, where its checkpoint says that it is this one of so many.
+/// What was read of a repository, where its log prepares nothing that it keeps as decided, and its checkpoint says that it
+/// is this one of so many. It comes behind the pages: a page that is damaged is told before this.
 fn numbered(
     recovered: Recovered,
     behind: u32,
@@ -84,8 +85,9 @@ fn numbered(
 ) -> Result<(Recovered, u32), Unopened>
     ensures read { IfOk result (λ read. read ≡ (recovered, behind)) }
     ensures number { IfOk result (λ read. recovered.state.repo ≡ repo) }
+    ensures reopens { IfOk result (λ read. recovered.reopens ≡ false) }
 {
-    if recovered.state.repo() != repo || recovered.state.repos() != repos {
+    if recovered.reopens || recovered.state.repo() != repo || recovered.state.repos() != repos {
         let fault = damaged(&recovered, repo);
         drop(recovered);
         return Err(fault);
@@ -93,8 +95,7 @@ fn numbered(
     Ok((recovered, behind))
 }
 
-/// Recovers a repository from its disks, which are synced. Nothing is there where it is fresh. A log in which
-/// what was decided is prepared anew is none of a repository.
+/// Recovers a repository from its disks, which are synced. Nothing is there where it is fresh.
 fn recover_one<P: Parts>(
     alloc: Global,
     parts: &mut P,
@@ -106,19 +107,12 @@ fn recover_one<P: Parts>(
     ensures settled { AllSettled (P.disks parts.new) }
     ensures same { Same (P.disks parts.old) (P.disks parts.new) }
     ensures fresh { (images : ℕ → List ℕ) → ReadsAs (P.disks parts.old) images → result ≡ Ok None → IsFresh images }
-    ensures reopens { (images : ℕ → List ℕ) → ReadsAs (P.disks parts.old) images → IfOk result (λ found. IfSome found (λ r. reopens images ≡ false)) }
+    ensures reopens { (images : ℕ → List ℕ) → ReadsAs (P.disks parts.old) images → IfOk result (λ found. IfSome found (λ r. r.reopens ≡ reopens images)) }
 {
-    let recovered = match recover(alloc, parts, mob) {
-        Ok(Some(recovered)) => recovered,
-        Ok(None) => return Ok(None),
-        Err(fault) => return Err(fault_of(repo, fault)),
-    };
-    if recovered.reopens {
-        let fault = damaged(&recovered, repo);
-        drop(recovered);
-        return Err(fault);
+    match recover(alloc, parts, mob) {
+        Ok(found) => Ok(found),
+        Err(fault) => Err(fault_of(repo, fault)),
     }
-    Ok(Some(recovered))
 }
 
 /// Syncs the disks of a repository.

@@ -7,6 +7,7 @@ use Rattle.class_defs.specs.Upgrades.{tf_step, tf_value}
 use Rattle.class_defs.specs.declared.classes.Class.{Class}
 use Rattle.class_defs.specs.declared.expressions.Name.{Name}
 use Rattle.class_defs.specs.declared.expressions.Operator.{Operator}
+use Rattle.class_defs.specs.declared.literals.Literal.{Literal}
 use Rattle.class_defs.specs.declared.store.Object.{Object}
 use Rattle.class_defs.specs.declared.upgrades.Tf.{Tf, map-Tf}
 use Rattle.class_defs.specs.declared.upgrades.Tf.TheFolds.{fold-roll-Tf}
@@ -24,9 +25,9 @@ module _ (classes : List Class) (objects : Oref → Option Object) (o : Object) 
   unfolding tf_value
   value_null line = ap given (sym (tf.rolls-Null line)) ∙ fold-roll-Tf (Option Value) (tf_step classes objects o) (Tf-F.Null line)
 
-  pub value_int : (n : ℤ) (line : ℕ) → tf_value classes objects o (tf.Int n line) ≡ layer (Tf-F.Int n line)
+  pub value_literal : (n : Literal) (line : ℕ) → tf_value classes objects o (tf.Literal n line) ≡ layer (Tf-F.Literal n line)
   unfolding tf_value
-  value_int n line = ap given (sym (tf.rolls-Int n line)) ∙ fold-roll-Tf (Option Value) (tf_step classes objects o) (Tf-F.Int n line)
+  value_literal n line = ap given (sym (tf.rolls-Literal n line)) ∙ fold-roll-Tf (Option Value) (tf_step classes objects o) (Tf-F.Literal n line)
 
   pub value_path : (names : List Name) (line : ℕ) → tf_value classes objects o (tf.Path names line) ≡ layer (Tf-F.Path names line)
   unfolding tf_value
@@ -52,9 +53,9 @@ module _ (classes : List Class) (c : ℕ) where
   abbrev owned_layer : Tf-F Tf → Bool
   owned_layer e = owned_step classes c (map-Tf Tf Bool (reads_owned classes c) e)
 
-  pub reads_int : (n : ℤ) (line : ℕ) → reads_owned classes c (tf.Int n line) ≡ owned_layer (Tf-F.Int n line)
+  pub reads_literal : (n : Literal) (line : ℕ) → reads_owned classes c (tf.Literal n line) ≡ owned_layer (Tf-F.Literal n line)
   unfolding reads_owned
-  reads_int n line = ap (reads_owned classes c) (sym (tf.rolls-Int n line)) ∙ fold-roll-Tf Bool (owned_step classes c) (Tf-F.Int n line)
+  reads_literal n line = ap (reads_owned classes c) (sym (tf.rolls-Literal n line)) ∙ fold-roll-Tf Bool (owned_step classes c) (Tf-F.Literal n line)
 
   pub reads_path : (names : List Name) (line : ℕ) → reads_owned classes c (tf.Path names line) ≡ owned_layer (Tf-F.Path names line)
   unfolding reads_owned
@@ -74,4 +75,4 @@ module _ (classes : List Class) (c : ℕ) where
   unfolding handed
   hands_path names line = ap (handed classes c) (sym (tf.rolls-Path names line)) ∙ fold-roll-Tf (Option (Option ℕ)) (handed_step classes c) (Tf-F.Path names line)
 
-pub ruleset tf_forms = (value_null, value_int, value_path, value_parens, value_negate, value_binary, reads_int, reads_path, reads_binary, hands_path)
+pub ruleset tf_forms = (value_null, value_literal, value_path, value_parens, value_negate, value_binary, reads_literal, reads_path, reads_binary, hands_path)

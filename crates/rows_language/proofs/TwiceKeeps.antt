@@ -46,6 +46,7 @@ known_at (suc (suc k)) h c = absurd (omega (arith, h))
 kinds_of : (k : ℕ) → k < 2 → (t : ExprType) → is_part (classes_of twice (suc k)) t ≡ is_part (classes_of twice k) t
 kinds_of k h (type.Class c) = kinds_at k h c
 kinds_of k h type.Int = refl
+kinds_of k h type.Text = refl
 kinds_of k h type.Null = refl
 kinds_of k h type.Untold = refl
 

@@ -2,6 +2,7 @@
 use Rattle.std.proofs.Common.{◌≡◌, ℕ, ℤ, List, ap, ◌∙◌, sym}
 use Rattle.class_defs.specs.declared.expressions.Name.{Name}
 use Rattle.class_defs.specs.declared.expressions.Operator.{Operator}
+use Rattle.class_defs.specs.declared.literals.Literal.{Literal}
 use Rattle.class_defs.specs.declared.upgrades.Tf.{Tf, fold-Tf, map-Tf, out-Tf}
 use Rattle.class_defs.specs.declared.upgrades.Tf.TheFolds.{fold-roll-Tf}
 use Rattle.class_defs.specs.declared.upgrades.Tf.TheOpen.{Tf-F}
@@ -18,8 +19,8 @@ module _ (A : Type 0) (step : Tf-F A → A) where
   pub fold_null : (line : ℕ) → fold-Tf A step (tf.Null line) ≡ layer (Tf-F.Null line)
   fold_null line = ap result (sym (tf.rolls-Null line)) ∙ fold-roll-Tf A step (Tf-F.Null line)
 
-  pub fold_int : (n : ℤ) (line : ℕ) → fold-Tf A step (tf.Int n line) ≡ layer (Tf-F.Int n line)
-  fold_int n line = ap result (sym (tf.rolls-Int n line)) ∙ fold-roll-Tf A step (Tf-F.Int n line)
+  pub fold_literal : (n : Literal) (line : ℕ) → fold-Tf A step (tf.Literal n line) ≡ layer (Tf-F.Literal n line)
+  fold_literal n line = ap result (sym (tf.rolls-Literal n line)) ∙ fold-roll-Tf A step (Tf-F.Literal n line)
 
   pub fold_path : (names : List Name) (line : ℕ) → fold-Tf A step (tf.Path names line) ≡ layer (Tf-F.Path names line)
   fold_path names line = ap result (sym (tf.rolls-Path names line)) ∙ fold-roll-Tf A step (Tf-F.Path names line)
@@ -38,8 +39,8 @@ module _ (A : Type 0) (step : Tf-F A → A) where
 pub is_null : (line : ℕ) → out-Tf (tf.Null line) ≡ Tf-F.Null line
 is_null line = ap out-Tf (sym (tf.rolls-Null line)) ∙ out-roll-Tf (Tf-F.Null line)
 
-pub is_number : (n : ℤ) (line : ℕ) → out-Tf (tf.Int n line) ≡ Tf-F.Int n line
-is_number n line = ap out-Tf (sym (tf.rolls-Int n line)) ∙ out-roll-Tf (Tf-F.Int n line)
+pub is_literal : (n : Literal) (line : ℕ) → out-Tf (tf.Literal n line) ≡ Tf-F.Literal n line
+is_literal n line = ap out-Tf (sym (tf.rolls-Literal n line)) ∙ out-roll-Tf (Tf-F.Literal n line)
 
 pub is_path : (names : List Name) (line : ℕ) → out-Tf (tf.Path names line) ≡ Tf-F.Path names line
 is_path names line = ap out-Tf (sym (tf.rolls-Path names line)) ∙ out-roll-Tf (Tf-F.Path names line)
@@ -54,4 +55,4 @@ pub is_binary : (operator : Operator) (left right : Tf) (line : ℕ)
     → out-Tf (tf.Binary operator left right line) ≡ Tf-F.Binary operator left right line
 is_binary operator left right line = ap out-Tf (sym (tf.rolls-Binary operator left right line)) ∙ out-roll-Tf (Tf-F.Binary operator left right line)
 
-pub ruleset upgrade_forms = (fold_null, fold_int, fold_path, fold_parens, fold_negate, fold_binary, is_null, is_number, is_path, is_parens, is_negate, is_binary)
+pub ruleset upgrade_forms = (fold_null, fold_literal, fold_path, fold_parens, fold_negate, fold_binary, is_null, is_literal, is_path, is_parens, is_negate, is_binary)

@@ -14,6 +14,7 @@ use Rattle.class_defs.specs.declared.classes.ClassKind.{ClassKind}
 use Rattle.class_defs.specs.declared.classes.Field.{Field}
 use Rattle.class_defs.specs.declared.expressions.Operator.TheVariants.{Add, Multiply}
 use Rattle.class_defs.specs.declared.expressions.TypeName.{TypeName}
+use Rattle.class_defs.specs.declared.literals.Literal.TheVariants as literal
 use Rattle.class_defs.specs.declared.store.Schema.{Schema}
 use Rattle.class_defs.specs.declared.store.Schemas.{Schemas}
 use Rattle.class_defs.specs.declared.upgrades.ClassUpgrade.{ClassUpgrade}
@@ -70,18 +71,18 @@ twice = record {
   upgraded = record {
     upgrade = record {
       line = 1;
-      classes = names (codes "Z") (becomes int (codes "v") (tf.Binary Multiply (old (codes "v" ∷ [])) (tf.Int (pos 10) 1) 1) ∷ [])
+      classes = names (codes "Z") (becomes int (codes "v") (tf.Binary Multiply (old (codes "v" ∷ [])) (tf.Literal (literal.Int (pos 10)) 1) 1) ∷ [])
           ∷ names (codes "A")
           (becomes int (codes "s") (tf.Binary Add (old (codes "s" ∷ [])) (old (codes "o" ∷ codes "z" ∷ codes "v" ∷ [])) 1)
           ∷ becomes (class_type (codes "M") 1) (codes "p") (old (codes "o" ∷ [])) ∷ [])
-          ∷ names (codes "Count") (becomes int (codes "n") (tf.Binary Add (old (codes "n" ∷ [])) (tf.Int (pos 1) 1) 1) ∷ []) ∷ [];
+          ∷ names (codes "Count") (becomes int (codes "n") (tf.Binary Add (old (codes "n" ∷ [])) (tf.Literal (literal.Int (pos 1)) 1) 1) ∷ []) ∷ [];
     };
     schema = next_schema;
   }
       ∷ record {
         upgrade = record {
           line = 2;
-          classes = names (codes "Count") (becomes int (codes "n") (tf.Binary Multiply (old (codes "n" ∷ [])) (tf.Int (pos 10) 2) 2) ∷ []) ∷ [];
+          classes = names (codes "Count") (becomes int (codes "n") (tf.Binary Multiply (old (codes "n" ∷ [])) (tf.Literal (literal.Int (pos 10)) 2) 2) ∷ []) ∷ [];
         };
         schema = record next_schema { upgraded = 1 ∷ 0 ∷ 1 ∷ 2 ∷ 0 ∷ [] };
       } ∷ [];

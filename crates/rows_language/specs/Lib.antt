@@ -1,4 +1,5 @@
 pub mod LazyExamples
 pub mod NeedRows
 pub mod RunRows
+pub mod TextRows
 pub mod UpgradeRows

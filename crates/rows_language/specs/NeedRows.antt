@@ -15,6 +15,7 @@ use Rattle.class_defs.specs.declared.classes.Field.{Field}
 use Rattle.class_defs.specs.declared.classes.Method.{Method}
 use Rattle.class_defs.specs.declared.expressions.Expr.{Expr}
 use Rattle.class_defs.specs.declared.expressions.Expr.TheVariants as expr
+use Rattle.class_defs.specs.declared.literals.Literal.TheVariants as literal
 use Rattle.class_defs.specs.declared.machine.Flow.{Flow}
 use Rattle.class_defs.specs.declared.machine.Machine.{Machine}
 use Rattle.class_defs.specs.declared.machine.Stop.{Stop}
@@ -67,7 +68,7 @@ p_class =
 abbrev pub q_class : Class
 q_class =
     class_of Part (codes "Q") (part_field (codes "R") (codes "r"))
-    (returns (codes "get") (expr.Int (pos 1) 1) ∷ returns (codes "deep") (ask (this_field (codes "r")) (codes "get")) ∷ [])
+    (returns (codes "get") (expr.Literal (literal.Int (pos 1)) 1) ∷ returns (codes "deep") (ask (this_field (codes "r")) (codes "get")) ∷ [])
 
 -- part class R { int n; method int get() { return this.n; } }
 abbrev pub r_class : Class

@@ -13,6 +13,7 @@ use Rattle.class_defs.specs.declared.classes.ClassKind.TheVariants.{Free, Part}
 use Rattle.class_defs.specs.declared.expressions.Expr.{Expr}
 use Rattle.class_defs.specs.declared.expressions.Expr.TheVariants as expr
 use Rattle.class_defs.specs.declared.expressions.Operator.TheVariants.{Add, Less}
+use Rattle.class_defs.specs.declared.literals.Literal.TheVariants as literal
 use Rattle.class_defs.specs.declared.machine.Flow.{Flow}
 use Rattle.class_defs.specs.declared.machine.Machine.{Machine}
 use Rattle.class_defs.specs.declared.machine.Stop.{Stop}
@@ -26,7 +27,7 @@ use Rattle.class_defs.specs.declared.store.Schema.{Schema}
 -- ---- texts: every token stands on line 1
 
 abbrev pub number : ℕ → Expr
-number n = expr.Int (pos n) 1
+number n = expr.Literal (literal.Int (pos n)) 1
 
 abbrev pub local : List ℕ → Expr
 local name = expr.Variable (named name 1)

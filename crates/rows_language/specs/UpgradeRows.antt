@@ -8,6 +8,7 @@ use Rattle.class_defs.specs.declared.classes.ClassKind.TheVariants.{Free, Part}
 use Rattle.class_defs.specs.declared.classes.Method.{Method}
 use Rattle.class_defs.specs.declared.expressions.Expr.TheVariants as expr
 use Rattle.class_defs.specs.declared.expressions.TypeName.{TypeName}
+use Rattle.class_defs.specs.declared.literals.Literal.TheVariants as literal
 use Rattle.class_defs.specs.declared.rules.RuleFault.{RuleFault}
 use Rattle.class_defs.specs.declared.rules.Rule.{Rule}
 use Rattle.class_defs.specs.declared.statements.Stmt.{Stmt}
@@ -69,7 +70,7 @@ abbrev pub old : ℕ → List (List ℕ) → Tf
 old line names = tf.Path (map (λ n. named n line) names) line
 
 abbrev pub number : ℕ → ℕ → Tf
-number n line = tf.Int (pos n) line
+number n line = tf.Literal (literal.Int (pos n)) line
 
 -- TYPE NAME = EXPRESSION; with the name's line
 abbrev pub becomes : TypeName → List ℕ → ℕ → Tf → FieldUpgrade

@@ -5,4 +5,5 @@ mod lazy_examples;
 mod need_rows;
 mod rule_rows;
 mod run_rows;
+mod text_rows;
 mod upgrade_rows;

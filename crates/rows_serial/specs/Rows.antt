@@ -6,6 +6,7 @@ use Rattle.class_defs.specs.declared.classes.Class.{Class}
 use Rattle.class_defs.specs.declared.classes.ClassKind.TheVariants.{Free, Part}
 use Rattle.class_defs.specs.declared.classes.Method.{Method}
 use Rattle.class_defs.specs.declared.expressions.Operator.TheVariants.{Multiply}
+use Rattle.class_defs.specs.declared.literals.Literal.TheVariants as literal
 use Rattle.class_defs.specs.declared.statements.Stmt.TheVariants as stmt
 use Rattle.class_defs.specs.declared.statements.Stmt.{Stmt}
 use Rattle.class_defs.specs.declared.store.Root.{Root}
@@ -76,7 +77,7 @@ first = record { classes = classes; upgraded = 0 ∷ 0 ∷ 0 ∷ []; roots = roo
 
 -- upgrade { class Part { int m = old.m * 10; method int get() { return this.m; } } }
 abbrev pub upgrade : UpgradeTree
-upgrade = record { line = 1; classes = record { name = named (codes "Part") 1; fields = record { type_name = int; name = named (codes "m") 1; value = tf.Binary Multiply (tf.Path (named (codes "m") 1 ∷ []) 1) (tf.Int (pos 10) 1) 1 } ∷ []; methods = getting ∷ [] } ∷ [] }
+upgrade = record { line = 1; classes = record { name = named (codes "Part") 1; fields = record { type_name = int; name = named (codes "m") 1; value = tf.Binary Multiply (tf.Path (named (codes "m") 1 ∷ []) 1) (tf.Literal (literal.Int (pos 10)) 1) 1 } ∷ []; methods = getting ∷ [] } ∷ [] }
 
 abbrev pub second : Schema
 second = record first { upgraded = 0 ∷ 1 ∷ 0 ∷ [] }

@@ -25,6 +25,7 @@ abbrev pub mark_by : TokenKind → List ℕ → Mark
 mark_by kinds.Name text = IsName
 mark_by kinds.Number text = IsNumber
 mark_by kinds.Keyword text = IsOther
+mark_by kinds.Quoted text = IsOther
 mark_by kinds.Symbol text = if bytes_eq text (codes ".") then IsPoint else IsOther
 
 unfoldable pub mark_of : Token → Mark

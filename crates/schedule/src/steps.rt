@@ -55,7 +55,7 @@ fn ready_step(events: Events, token: &Token) -> Result<Reader, NoMemory>
     match token.kind {
         TokenKind::Name => named(events, token),
         TokenKind::Symbol => Ok(stop(token)),
-        TokenKind::Number | TokenKind::Keyword => Ok(stop(token)),
+        TokenKind::Number | TokenKind::Keyword | TokenKind::Quoted => Ok(stop(token)),
     }
 }
 
@@ -72,7 +72,7 @@ fn named_step(events: Events, line: u32, name: Text, token: &Token) -> Result<Re
                 Ok(stop(token))
             }
         }
-        TokenKind::Number | TokenKind::Keyword => Ok(stop(token)),
+        TokenKind::Number | TokenKind::Keyword | TokenKind::Quoted => Ok(stop(token)),
     }
 }
 
@@ -84,7 +84,9 @@ fn dotted_step(events: Events, line: u32, name: Text, token: &Token) -> Result<R
         TokenKind::Number => Ok(Reader::Ready {
             events: with_pair(events, line, &name, &token.text)?,
         }),
-        TokenKind::Name | TokenKind::Symbol | TokenKind::Keyword => Ok(stop(token)),
+        TokenKind::Name | TokenKind::Symbol | TokenKind::Keyword | TokenKind::Quoted => {
+            Ok(stop(token))
+        }
     }
 }
 

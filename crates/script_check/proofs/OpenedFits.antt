@@ -16,9 +16,9 @@ use Rattle.thor_value.specs.declared.names.Oref.{Oref}
 use Rattle.class_defs.proofs.SameNames.{same_itself, one_name}
 use Rattle.law_type_soundness.proofs.FitNames.{stands_there}
 use Rattle.law_type_soundness.proofs.FitObjects.{begin_fields, fields_told}
-use Rattle.class_defs.proofs.KeptRules.{each_nothing, held, nothing, schema_sound, there}
+use Rattle.class_defs.proofs.KeptRules.{each_nothing, nothing, root_free, schema_sound, there}
 use Rattle.law_type_soundness.specs.Fits.{ObjectFits, RootFits, StoreFits}
-use Rattle.class_defs.specs.Rules.{is_class, is_free_class}
+use Rattle.class_defs.specs.Rules.{is_root_class}
 use Rattle.class_defs.specs.SchemaRules.{class_names, classes_from, root_names, root_rules, schema_rules}
 use Rattle.class_defs.specs.Steps.{beginning}
 use Rattle.class_defs.specs.Types.{class_named, fields_of, type_named}
@@ -122,9 +122,7 @@ pub record Classed (schema : Schema) (r : RootDeclaration) : Type 0 where
 
 pub root_classed : (schema : Schema) (repos : ℕ) (r : RootDeclaration) → root_rules schema.classes repos r ≡ [] → Classed schema r
 root_classed schema repos r h =
-    let free = (nothing (is_free_class schema.classes r.class) _ h).0 in
-    let known = held (is_some (class_named schema.classes r.class.text)) _ _ (nothing (is_class schema.classes r.class) _ free).0 in
-    let c = there (class_named schema.classes r.class.text) known in
+    let c = root_free schema.classes r.class (nothing (is_root_class schema.classes r.class) _ h).0 in
     record { class = c.0; named = c.1; stands = stands_there (λ (d : Class). bytes_eq d.name.text r.class.text) schema.classes c.0 c.1 }
 
 module _ (schema : Schema) (repos : ℕ) (sound : schema_rules schema repos ≡ []) (objects : Oref → Option Object) where

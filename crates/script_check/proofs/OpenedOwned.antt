@@ -12,13 +12,13 @@ use Rattle.thor_value.specs.declared.names.Oref.{Oref}
 use Rattle.thor_value.specs.declared.values.Obj.{Obj}
 use Rattle.thor_value.specs.declared.values.Value.{Value}
 use Rattle.thor_value.specs.declared.values.Value.TheVariants as value
-use Rattle.class_defs.proofs.KeptRules.{held, nothing}
+use Rattle.class_defs.proofs.KeptRules.{nothing, root_free}
 use Rattle.class_defs.specs.Ownership.{IsPart, Owns}
-use Rattle.class_defs.specs.Rules.{is_class, is_free_class, is_part}
+use Rattle.class_defs.specs.Rules.{is_part, is_root_class}
 use Rattle.class_defs.specs.SchemaRules.{root_rules, schema_rules}
 use Rattle.class_defs.specs.Steps.{beginning, fitted}
 use Rattle.class_defs.specs.Stored.{Stored, all_written, bare, in_epoch}
-use Rattle.class_defs.specs.Types.{class_named, class_or_untold, fields_of, type_named}
+use Rattle.class_defs.specs.Types.{class_named, fields_of, type_named}
 use Rattle.class_defs.specs.WellOwned.{AreOfTheirClasses, IsOfItsClass, IsWellOwned}
 use Rattle.class_defs.specs.declared.classes.Class.{Class}
 use Rattle.class_defs.specs.declared.classes.Field.{Field}
@@ -38,6 +38,7 @@ use Rattle.script_check.specs.Opened.{class_of, opened, root_object, root_of, ro
 
 no_ref : (t : ExprType) (z : Oref) → beginning t ≡ value.Ref z → ⊥
 no_ref type.Int z h = cc
+no_ref type.Text z h = cc
 no_ref type.Null z h = cc
 no_ref (type.Class c) z h = cc
 no_ref type.Untold z h = cc
@@ -60,12 +61,19 @@ roots_apart s (r ∷ rs) = (begun_apart s.classes (fields_of s.classes (class_of
 
 of_kind : (f : Oref → Option Object) (t : ExprType) (w : Value) → ValueFits f t w → fitted t w ≡ w
 of_kind f type.Int (value.Int n) h = refl
+of_kind f type.Text (value.Int n) h = absurd h
+of_kind f type.Text (value.Text n) h = refl
+of_kind f type.Int (value.Text n) h = absurd h
 of_kind f type.Int (value.Ref x) h = absurd h
+of_kind f type.Text (value.Ref x) h = absurd h
 of_kind f type.Int value.Null h = absurd h
+of_kind f type.Text value.Null h = absurd h
 of_kind f type.Null (value.Int n) h = absurd h
+of_kind f type.Null (value.Text n) h = absurd h
 of_kind f type.Null (value.Ref x) h = absurd h
 of_kind f type.Null value.Null h = refl
 of_kind f (type.Class c) (value.Int n) h = absurd h
+of_kind f (type.Class c) (value.Text n) h = absurd h
 of_kind f (type.Class c) (value.Ref x) h = refl
 of_kind f (type.Class c) value.Null h = refl
 of_kind f type.Untold w h = absurd h
@@ -120,13 +128,17 @@ module _ (setup : Declarations) (repos : ℕ) (sound : schema_rules (schema_of s
   owns_none a i z h = apart a h.reference.object i z h.reference.stored h.reference.refers.names
 
   -- a root names a free object of its class
-  free : (r : RootDeclaration) (c : ℕ) → is_free_class (schema_of setup).classes r.class ≡ [] → class_named (schema_of setup).classes r.class.text ≡ Some c → ¬ IsPart s c
+  free : (r : RootDeclaration) (c : ℕ) → is_root_class (schema_of setup).classes r.class ≡ [] → class_named (schema_of setup).classes r.class.text ≡ Some c → ¬ IsPart s c
   free r c h at part =
-      let ok = held (not (is_part (schema_of setup).classes (class_or_untold (class_named (schema_of setup).classes r.class.text)))) _ _ (nothing (is_class (schema_of setup).classes r.class) _ h).1 in
-      let no : not (is_part (schema_of setup).classes (type.Class c)) ≡ true = subst (λ k. not (is_part (schema_of setup).classes (class_or_untold k)) ≡ true) at ok in
+      let k = root_free (schema_of setup).classes r.class h in
+      let same : k.0 ≡ c = one_number (sym k.1 ∙ at) in
+      let no : is_part (schema_of setup).classes (type.Class c) ≡ false = subst (λ d. is_part (schema_of setup).classes (type.Class d) ≡ false) same k.2 in
       let yes : is_part (schema_of setup).classes (type.Class c) ≡ true = subst (λ (k : Schema). is_part k.classes (type.Class c) ≡ true) first part in
-      let wrong : not true ≡ true = subst (λ b. not b ≡ true) yes no in
+      let wrong : true ≡ false = sym yes ∙ no in
       cc
+    where
+      one_number : {a b : ℕ} → Some a ≡ Some b → a ≡ b
+      one_number e = cc
 
   IsRootOfMap : Root → Type 0
   IsRootOfMap r = (¬ IsPart s r.class) × IsSomeAnd (get L.objects r.oref) (λ o. o.class ≡ r.class)
@@ -136,7 +148,7 @@ module _ (setup : Declarations) (repos : ℕ) (sound : schema_rules (schema_of s
   root_at r h at =
       let c = root_classed (schema_of setup) repos r h in
       let same : c.class ≡ class_of (schema_of setup) r = sym (ap (λ k. unwrap_or k 0) c.named) in (
-        subst (λ k. ¬ IsPart s k) same (free r c.class (nothing (is_free_class (schema_of setup).classes r.class) _ h).0 c.named),
+        subst (λ k. ¬ IsPart s k) same (free r c.class (nothing (is_root_class (schema_of setup).classes r.class) _ h).0 c.named),
         subst (λ k. IsSomeAnd k (λ o. o.class ≡ class_of (schema_of setup) r)) (sym (mapped r.oref ∙ ap (option_map (in_epoch 0)) at)) refl,
       )
 

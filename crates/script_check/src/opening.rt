@@ -8,10 +8,10 @@ ghost use Rattle.script_check.specs.Opened as spec;
 
 use class_defs::{
     Declarations, Epochs, Fields, Object, Plain, PlainObjects, Root, RootDeclaration,
-    RootDeclarations, Roots, Schema, TypeName, WrittenRoot, class_named,
+    RootDeclarations, Roots, Schema, WrittenRoot, class_named, first_value,
 };
 use std::alloc::Global;
-use thor_value::{NoMemory, Oref, TryCopy, Value, Values};
+use thor_value::{NoMemory, Oref, TryCopy, Values};
 
 /// The repository in which a root lies: that behind `at`, and 0 where it isn't told.
 fn home_of(root: &WrittenRoot) -> u8
@@ -74,27 +74,13 @@ pub fn schema_of(alloc: Global, setup: &Declarations) -> Result<Schema, NoMemory
     })
 }
 
-/// The value with which a field of this type begins.
-fn beginning(schema: &Schema, type_name: &TypeName) -> Value
-    requires { length schema.now.classes ≤ 65536 }
-    ensures { result ≡ steps.beginning (type_named schema.now.classes type_name.now) }
-{
-    match type_name {
-        TypeName::Int { line: _ } => Value::Int(0),
-        TypeName::Class { name } => match class_named(&schema.classes, name.text.as_slice()) {
-            Some(_) => Value::Null,
-            None => Value::Null,
-        },
-    }
-}
-
 fn beginnings(alloc: Global, schema: &Schema, fields: &Fields) -> Result<Values, NoMemory>
     requires { length schema.now.classes ≤ 65536 }
     ensures { IfOk result (λ values. values ≡ map (λ f. steps.beginning (type_named schema.now.classes f.type_name)) fields.now) }
 {
     let mut values = Values::new(alloc);
     for field in fields.as_slice() {
-        values.push(beginning(schema, &field.type_name))?;
+        values.push(first_value(&schema.classes, &field.type_name))?;
     }
     Ok(values)
 }

@@ -16,6 +16,7 @@ use Rattle.class_defs.specs.declared.expressions.Operator.TheVariants as operato
 use Rattle.class_defs.specs.declared.expressions.Expr.{Expr, map-Expr, roll-Expr}
 use Rattle.class_defs.specs.declared.expressions.Expr.TheFolds.{fold-roll-Expr, ind-Expr}
 use Rattle.class_defs.specs.declared.expressions.Expr.TheOpen.{Expr-F}
+use Rattle.class_defs.specs.declared.literals.Literal.TheVariants as literal
 use Rattle.class_defs.specs.declared.statements.Stmt.{Stmt, map-Stmt, roll-Stmt}
 use Rattle.class_defs.specs.declared.statements.Stmt.TheFolds.{fold-roll-Stmt, ind-Stmt}
 use Rattle.class_defs.specs.declared.statements.Stmt.TheOpen.{Stmt-F}
@@ -25,7 +26,7 @@ use Rattle.class_defs.specs.declared.upgrades.Tf.{Tf, map-Tf, roll-Tf}
 use Rattle.class_defs.specs.declared.upgrades.Tf.TheFolds.{fold-roll-Tf, ind-Tf}
 use Rattle.class_defs.specs.declared.upgrades.Tf.TheOpen.{Tf-F}
 use Rattle.class_defs.specs.Spelling.{type_word, at_words, expr_step, expr_words, ended, condition_words, braces, stmt_step, stmt_words, block_words, field_words, parameter_words, method_words}
-use Rattle.class_defs.specs.Words.{Word, Fixed, FixedAt, Named, Numbered, name_word, symbol_of, behind_commas, with_commas, in_turn}
+use Rattle.class_defs.specs.Words.{Word, Fixed, FixedAt, Named, Numbered, Quoted, name_word, symbol_of, behind_commas, with_commas, in_turn}
 use Rattle.script_text.specs.declared.mark.Mark.{Mark}
 use Rattle.script_text.specs.declared.mark.Mark.TheVariants as marks
 use Rattle.script_text.specs.Marks.{keyword_mark}
@@ -44,6 +45,7 @@ word_mark (Fixed text) = text_mark text
 word_mark (FixedAt text line) = text_mark text
 word_mark (Named text line) = marks.Other
 word_mark (Numbered value line) = marks.Other
+word_mark (Quoted text line) = marks.Other
 
 -- how many braces are open behind a word; none may close that wasn't opened, and no part of a script may begin
 abbrev pub turn : Mark → ℕ → Option ℕ
@@ -137,7 +139,8 @@ each_expr [] = tt
 each_expr (p ∷ ps) = (p.1, each_expr ps)
 
 expr_steps : (y : Expr-F HeldExpr) → Balanced (expr_step (map-Expr Expr (List Word) expr_words (bare_expr y)))
-expr_steps (Expr-F.Int value line) = λ d. refl
+expr_steps (Expr-F.Literal (literal.Int n) line) = λ d. refl
+expr_steps (Expr-F.Literal (literal.Text w) line) = λ d. refl
 expr_steps (Expr-F.Null line) = λ d. refl
 expr_steps (Expr-F.This line) = λ d. refl
 expr_steps (Expr-F.Field name) = λ d. refl
@@ -257,7 +260,8 @@ bare_tf y = map-Tf HeldTf Tf (λ p. p.0) y
 
 tf_steps : (y : Tf-F HeldTf) → Balanced (tf_step (map-Tf Tf (List Word) tf_words (bare_tf y)))
 tf_steps (Tf-F.Null line) = λ d. refl
-tf_steps (Tf-F.Int value line) = λ d. refl
+tf_steps (Tf-F.Literal (literal.Int n) line) = λ d. refl
+tf_steps (Tf-F.Literal (literal.Text w) line) = λ d. refl
 tf_steps (Tf-F.Path names line) = balanced_turns (map dot_name names) (balanced_each dot_name balanced_name names)
 tf_steps (Tf-F.Parens inner line) = balanced_both (tf_words inner.0) (Fixed (codes ")") ∷ []) inner.1 (λ d. refl)
 tf_steps (Tf-F.Negate operand line) = operand.1

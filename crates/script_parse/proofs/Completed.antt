@@ -151,6 +151,7 @@ ItemWord kind text = ((is_fixed_kind kind && bytes_eq text (codes "tx")) ≡ tru
 item_word : (kind : TokenKind) (text : List ℕ) → is_item_word (mark_by kind text) ≡ true → ItemWord kind text
 item_word kinds.Name text is = absurd (false≢true is)
 item_word kinds.Number text is = absurd (false≢true is)
+item_word kinds.Quoted text is = absurd (false≢true is)
 item_word kinds.Symbol text is = absurd (no_symbol (bytes_eq text (codes "{")) (bytes_eq text (codes "}")) (bytes_eq text (codes ";")) is)
 item_word kinds.Keyword text is =
     by (chain (bytes_eq text (codes "setup")) (bytes_eq text (codes "client")) (bytes_eq text (codes "tx")) (bytes_eq text (codes "upgrade")) (bytes_eq text (codes "schedule")) is)

@@ -198,6 +198,7 @@ symbol_open false false false is = absurd cc
 open_by : (kind : TokenKind) (text : List ℕ) → mark_by kind text ≡ marks.Open → (is_fixed_kind kind ≡ true) × (text ≡ codes "{")
 open_by kinds.Name text is = absurd cc
 open_by kinds.Number text is = absurd cc
+open_by kinds.Quoted text is = absurd cc
 open_by kinds.Keyword text is =
     absurd (keyword_open (bytes_eq text (codes "setup")) (bytes_eq text (codes "client")) (bytes_eq text (codes "tx")) (bytes_eq text (codes "upgrade")) (bytes_eq text (codes "schedule")) is)
 open_by kinds.Symbol text is =

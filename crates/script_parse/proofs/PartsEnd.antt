@@ -6,14 +6,14 @@ use Rattle.std.specs.Prelude.{◌&&◌, codes, option_map, nat_eq}
 use Rattle.std.specs.List.{AllByRecursion, list_any}
 use Rattle.std.specs.Str.{bytes_eq}
 use Rattle.class_defs.specs.Spelling.{stmt_words}
-use Rattle.class_defs.specs.Words.{Word, Fixed, FixedAt, Named, Numbered, in_turn}
+use Rattle.class_defs.specs.Words.{Word, Fixed, FixedAt, Named, Numbered, Quoted, in_turn}
 use Rattle.class_defs.specs.declared.statements.Stmt.{Stmt}
 use Rattle.class_defs.specs.declared.upgrades.Upgrade.{Upgrade}
 use Rattle.method_parse.specs.Matching.{AreWords, IsWord, is_fixed_kind, is_name_kind}
 use Rattle.method_parse.specs.Texts.{SpellsBlock}
 use Rattle.method_parse.proofs.Eats.{split}
 use Rattle.script_text.specs.Grammar.{IsToken}
-use Rattle.script_text.specs.Marks.{mark_by, mark_of, keyword_mark, number_by, symbol_mark}
+use Rattle.script_text.specs.Marks.{mark_by, mark_of, keyword_mark, number_by, text_by, symbol_mark}
 use Rattle.script_text.specs.Script.{are_none, closes_by, closes, ends_by, ends, is_open, is_item_word, is_item}
 use Rattle.script_text.specs.Words.{keywords, is_keyword, long_symbols, short_symbols}
 use Rattle.script_text.specs.declared.mark.Mark.{Mark}
@@ -50,6 +50,7 @@ proper_kind kinds.Name text spelled fixed = absurd (false≢true fixed)
 proper_kind kinds.Number text spelled fixed = absurd (false≢true fixed)
 proper_kind kinds.Keyword text spelled fixed = keyword_text text spelled.2
 proper_kind kinds.Symbol text spelled fixed = symbol_text text spelled
+proper_kind kinds.Quoted text spelled fixed = absurd (false≢true fixed)
 
 -- what is scanned is proper
 pub spelled_proper : (token : Token) → IsToken token.kind token.text → Proper token
@@ -73,6 +74,7 @@ kind_for kinds.Name text = kinds.Name
 kind_for kinds.Number text = kinds.Number
 kind_for kinds.Keyword text = kind_by (symbol_mark text)
 kind_for kinds.Symbol text = kind_by (symbol_mark text)
+kind_for kinds.Quoted text = kinds.Quoted
 
 abbrev pub made_proper : Token → Token
 made_proper token = record token { kind = kind_for token.kind token.text }
@@ -92,6 +94,7 @@ made_proper_by kinds.Name text fixed = absurd (false≢true fixed)
 made_proper_by kinds.Number text fixed = absurd (false≢true fixed)
 made_proper_by kinds.Keyword text fixed = made_proper_mark text
 made_proper_by kinds.Symbol text fixed = made_proper_mark text
+made_proper_by kinds.Quoted text fixed = absurd (false≢true fixed)
 
 pub now_proper : (tokens : List Token) → AreProper (map made_proper tokens)
 unfolding mark_of
@@ -114,24 +117,35 @@ still_fixed kinds.Name text fixed = absurd (false≢true fixed)
 still_fixed kinds.Number text fixed = absurd (false≢true fixed)
 still_fixed kinds.Keyword text fixed = fixed_by (symbol_mark text)
 still_fixed kinds.Symbol text fixed = fixed_by (symbol_mark text)
+still_fixed kinds.Quoted text fixed = absurd (false≢true fixed)
 
 still_name : (kind : TokenKind) (text : List ℕ) → is_name_kind kind ≡ true → is_name_kind (kind_for kind text) ≡ true
 still_name kinds.Name text is = refl
 still_name kinds.Number text is = absurd (false≢true is)
 still_name kinds.Keyword text is = absurd (false≢true is)
 still_name kinds.Symbol text is = absurd (false≢true is)
+still_name kinds.Quoted text is = absurd (false≢true is)
 
 still_number : (kind : TokenKind) (text : List ℕ) (o : Option ℤ) (v : ℤ) → o ≡ Some v → option_map pos (number_by kind text) ≡ o → option_map pos (number_by (kind_for kind text) text) ≡ Some v
 still_number kinds.Number text o v e is = is ∙ e
 still_number kinds.Name text o v e is = is ∙ e
 still_number kinds.Keyword text o v e is = absurd cc
 still_number kinds.Symbol text o v e is = absurd cc
+still_number kinds.Quoted text o v e is = is ∙ e
+
+still_text : (kind : TokenKind) (text word : List ℕ) → text_by kind text ≡ Some word → text_by (kind_for kind text) text ≡ Some word
+still_text kinds.Quoted text word is = is
+still_text kinds.Number text word is = is
+still_text kinds.Name text word is = is
+still_text kinds.Keyword text word is = absurd cc
+still_text kinds.Symbol text word is = absurd cc
 
 made_proper_word : (token : Token) (word : Word) → IsWord token word → IsWord (made_proper token) word
 made_proper_word token (Fixed text) is = (still_fixed token.kind token.text is.0, is.1)
 made_proper_word token (FixedAt text line) is = (still_fixed token.kind token.text is.0, is.1, is.2)
 made_proper_word token (Named text line) is = (still_name token.kind token.text is.0, is.1, is.2)
 made_proper_word token (Numbered value line) is = (still_number token.kind token.text (Some value) value refl is.0, is.1)
+made_proper_word token (Quoted text line) is = (still_text token.kind token.text text is.0, is.1)
 
 -- words that go on so go on with proper tokens
 pub made_proper_words : (front more : List Token) (words : List Word) → AreWords (front ++ more) words → AreWords (front ++ map made_proper more) words
@@ -160,12 +174,21 @@ name_mark kinds.Name text is = refl
 name_mark kinds.Number text is = absurd (false≢true is)
 name_mark kinds.Keyword text is = absurd (false≢true is)
 name_mark kinds.Symbol text is = absurd (false≢true is)
+name_mark kinds.Quoted text is = absurd (false≢true is)
 
 number_mark : (kind : TokenKind) (text : List ℕ) (v : ℤ) → option_map pos (number_by kind text) ≡ Some v → mark_by kind text ≡ marks.Other
 number_mark kinds.Name text v is = refl
 number_mark kinds.Number text v is = refl
 number_mark kinds.Keyword text v is = absurd cc
 number_mark kinds.Symbol text v is = absurd cc
+number_mark kinds.Quoted text v is = refl
+
+literal_mark : (kind : TokenKind) (text word : List ℕ) → text_by kind text ≡ Some word → mark_by kind text ≡ marks.Other
+literal_mark kinds.Name text word is = refl
+literal_mark kinds.Number text word is = refl
+literal_mark kinds.Quoted text word is = refl
+literal_mark kinds.Keyword text word is = absurd cc
+literal_mark kinds.Symbol text word is = absurd cc
 
 pub mark_is : (token : Token) (word : Word) → Proper token → IsWord token word → mark_of token ≡ word_mark word
 unfolding mark_of
@@ -173,6 +196,7 @@ mark_is token (Fixed text) proper is = proper is.0 ∙ ap text_mark is.1
 mark_is token (FixedAt text line) proper is = proper is.0 ∙ ap text_mark is.1
 mark_is token (Named text line) proper is = name_mark token.kind token.text is.0
 mark_is token (Numbered value line) proper is = number_mark token.kind token.text value is.0
+mark_is token (Quoted text line) proper is = literal_mark token.kind token.text text is.0
 
 none_some : (k : ℕ) → None ≡ Some k → ⊥
 none_some k e = cc

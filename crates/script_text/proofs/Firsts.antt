@@ -7,15 +7,17 @@ use Rattle.std.specs.Str.Parse.{digits_value}
 use Rattle.std.proofs.lemmas.Bool.{cond_both, cond-true, or_left, or_right, or_cases, or_parts, and_parts, and_from, eqb-true, ltb-false, false_from_ne_true, both_ways}
 use Rattle.std.proofs.lemmas.List.Folds.{length-prefix_len}
 use Rattle.std.proofs.lemmas.List.Sums.{take_while-cons}
+use Rattle.thor_value.specs.Words.{is_text_byte}
 use Rattle.script_text.specs.declared.token.TokenKind.{TokenKind}
-use Rattle.script_text.specs.declared.token.TokenKind.TheVariants.{Name, Number, Keyword}
+use Rattle.script_text.specs.declared.token.TokenKind.TheVariants.{Name, Number, Keyword, Quoted}
 use Rattle.script_text.specs.declared.piece.Piece.{Piece}
 use Rattle.script_text.specs.declared.piece.Piece.TheVariants.{Gap, Lexeme as Piece_Lexeme, NoToken}
 use Rattle.script_text.specs.Bytes.{is_newline, is_separator, is_letter, is_digit, is_word_byte}
-use Rattle.script_text.specs.Words.{is_keyword, long_symbols, short_symbols, comment_mark}
-use Rattle.script_text.specs.Pieces.{word_piece, number_piece, symbol_piece, first_piece}
-use Rattle.script_text.specs.Grammar.{is_word, is_number, is_symbol, IsToken, Stops, EndsBefore, Part, Separator, Comment, Lexeme, bytes_of, IsPart, BeginsNothing}
+use Rattle.script_text.specs.Words.{is_keyword, long_symbols, short_symbols, comment_mark, quotation_mark}
+use Rattle.script_text.specs.Pieces.{word_piece, number_piece, quoted_piece, symbol_piece, first_piece}
+use Rattle.script_text.specs.Grammar.{is_word, is_number, is_symbol, quoted, IsToken, Stops, EndsBefore, Part, Separator, Comment, Lexeme, bytes_of, IsPart, BeginsNothing}
 use Rattle.script_text.proofs.Parts.{each_among, piece_for, part_piece}
+use Rattle.script_text.proofs.Quoted.{quoted_length, quoted_taken, word_fits}
 
 -- a separator or a comment
 abbrev pub IsGap : Part → Type 0
@@ -83,6 +85,19 @@ number_first b bs digit =
     (λ large. tt)
     (λ fits. let parts = or_parts (nat_lt 19 (length digits)) (nat_lt 9223372036854775807 (digits_value 10 digits)) fits in
     front_part Number is_digit text (taken_number b bs digit, ltb-false 19 (length digits) parts.0, ltb-false 9223372036854775807 (digits_value 10 digits) parts.1) (stops_behind is_digit text))
+
+quoted_first : (bs : List ℕ) → FirstPart (quoted_piece (take_while is_text_byte bs) (drop (prefix_len is_text_byte bs) bs)) (quotation_mark ∷ bs)
+unfolding quoted_piece
+quoted_first bs =
+    let word : List ℕ = take_while is_text_byte bs in
+    let P : Piece → Type 0 = λ piece. FirstPart piece (quotation_mark ∷ bs) in
+    cond_both (nat_lt 32 (length word)) _ _ P
+    (λ long. tt)
+    (λ short. cond_both (starts_with nat_eq (drop (prefix_len is_text_byte bs) bs) (quotation_mark ∷ [])) _ _ P
+    (λ closed.
+    let fits = word_fits word (ltb-false 32 (length word) short) (taken_passes is_text_byte bs) in
+    subst (λ (n : ℕ). P (Piece_Lexeme Quoted n)) (quoted_length word) (record { word = word; fits = fits; is = quoted_taken bs closed }, tt))
+    (λ unclosed. tt))
 
 comment_first : (b : ℕ) (bs : List ℕ) → starts_with nat_eq (b ∷ bs) comment_mark ≡ true → FirstPart (Gap (prefix_len (λ c. not (is_newline c)) (b ∷ bs))) (b ∷ bs)
 comment_first b [] starts = absurd (both_ways false refl (and_parts (nat_eq 47 b) false starts).1)
@@ -169,7 +184,9 @@ first_part b bs =
     (λ separates. (Separator b, tt, refl, separates))
     (λ no_separator. cond_both (starts_with nat_eq text comment_mark) _ _ P
     (λ comment. comment_first b bs comment)
-    (λ no_comment. symbol_first b bs))))
+    (λ no_comment. cond_both (b == quotation_mark) _ _ P
+    (λ mark. subst (λ (c : ℕ). FirstPart (quoted_piece (take_while is_text_byte bs) (drop (prefix_len is_text_byte bs) bs)) (c ∷ bs)) (sym (eqb-true b quotation_mark mark)) (quoted_first bs))
+    (λ no_mark. symbol_first b bs)))))
 
 -- a part is a piece
 part_is_some : (part : Part) → piece_for part ≡ NoToken → ⊥

@@ -5,7 +5,7 @@ use Rattle.std.specs.List.{flat_map}
 use Rattle.std.proofs.lemmas.Bool.{false≢true}
 use Rattle.std.proofs.lemmas.List.{drop-drop, drop_at, take_at}
 use Rattle.script_text.specs.declared.token.TokenKind.{TokenKind}
-use Rattle.script_text.specs.declared.token.TokenKind.TheVariants.{Name, Number, Keyword, Symbol}
+use Rattle.script_text.specs.declared.token.TokenKind.TheVariants.{Name, Number, Keyword, Symbol, Quoted}
 use Rattle.script_text.specs.declared.token.Token.{Token}
 use Rattle.script_text.specs.declared.syntax.Syntax.{Syntax}
 use Rattle.script_text.specs.declared.piece.Piece.{Piece}
@@ -25,6 +25,7 @@ token_some Name [] is = absurd (false≢true is.0)
 token_some Keyword [] is = absurd (false≢true is.0)
 token_some Number [] is = absurd (false≢true is.0)
 token_some Symbol [] is = absurd (false≢true is)
+token_some Quoted [] is = absurd (omega (arith, ap length is.is))
 
 -- and so has a part
 part_some : (part : Part) (behind : List ℕ) → IsPart part behind → 1 ≤ length (bytes_of part)

@@ -1,20 +1,22 @@
 -- Where a part begins a text, that is the piece that the text begins with.
-use Rattle.std.proofs.Common.{◌≡◌, ℕ, ◌≤◌, Bool, true, false, cond, List, [], ◌∷◌, ◌++◌, length, refl, sym, ap, ◌∙◌, subst, arith, leb, ⊎_elim}
+use Rattle.std.proofs.Common.{◌≡◌, ℕ, ◌≤◌, Bool, true, false, cond, List, [], ◌∷◌, ◌++◌, length, drop, refl, sym, ap, ◌∙◌, subst, arith, append_assoc, leb, ⊎_elim}
 use Rattle.std.specs.Prelude.{◌||◌, ◌&&◌, not, nat_lt, nat_eq, ◌==◌, map}
 use Rattle.std.specs.List.{prefix_len, take_while, list_any, list_all, AllByRecursion}
 use Rattle.std.specs.Str.{bytes_eq}
 use Rattle.std.specs.Str.Parse.{digits_value}
 use Rattle.std.proofs.lemmas.Bool.{cond-true, cond-false, or_left, or_cases, or_parts, or_from, and_parts, and_from, and_left, leb-true, lt-leb, eqb-true, le-ltb}
-use Rattle.std.proofs.lemmas.List.{take_at}
+use Rattle.std.proofs.lemmas.List.{drop_at, take_at}
 use Rattle.std.proofs.lemmas.Slice.Eq.{bytes_eq-Decides}
+use Rattle.thor_value.specs.Words.{fits_word, is_text_byte}
 use Rattle.script_text.specs.declared.token.TokenKind.{TokenKind}
-use Rattle.script_text.specs.declared.token.TokenKind.TheVariants.{Name, Number, Keyword, Symbol}
+use Rattle.script_text.specs.declared.token.TokenKind.TheVariants.{Name, Number, Keyword, Symbol, Quoted}
 use Rattle.script_text.specs.declared.piece.Piece.{Piece}
 use Rattle.script_text.specs.declared.piece.Piece.TheVariants.{Gap, Lexeme as Piece_Lexeme}
 use Rattle.script_text.specs.Bytes.{is_newline, is_separator, is_letter, is_digit, is_word_byte}
-use Rattle.script_text.specs.Words.{is_keyword, long_symbols, short_symbols}
-use Rattle.script_text.specs.Pieces.{word_piece, number_piece, symbol_piece, first_piece}
-use Rattle.script_text.specs.Grammar.{is_word, is_number, is_symbol, Stops, EndsBefore, Part, Separator, Comment, Lexeme, bytes_of, IsPart}
+use Rattle.script_text.specs.Words.{is_keyword, long_symbols, quotation_mark, short_symbols}
+use Rattle.script_text.specs.Pieces.{word_piece, number_piece, quoted_piece, symbol_piece, first_piece}
+use Rattle.script_text.specs.Grammar.{is_word, is_number, is_symbol, quoted, Stops, EndsBefore, Part, Separator, Comment, Lexeme, bytes_of, IsPart}
+use Rattle.script_text.proofs.Quoted.{quoted_length, word_all, word_few}
 
 -- bytes that pass a test before a text that doesn't go on so are all that pass
 pub prefix_whole : (test : ℕ → Bool) (xs behind : List ℕ) → list_all test xs ≡ true → Stops test behind → prefix_len test (xs ++ behind) ≡ length xs
@@ -93,6 +95,23 @@ number_is digits few small =
     cond-false (nat_lt 19 (length digits) || nat_lt 9223372036854775807 (digits_value 10 digits)) _ _
     (or_from _ _ (le-ltb 19 (length digits) few) (le-ltb 9223372036854775807 (digits_value 10 digits) small))
 
+quoted_is : (word behind : List ℕ) → length word ≤ 32 → quoted_piece word (quotation_mark ∷ behind) ≡ Piece_Lexeme Quoted (length (quoted word))
+unfolding quoted_piece
+quoted_is word behind few = cond-false (nat_lt 32 (length word)) _ _ (le-ltb 32 (length word) few) ∙ ap (Piece_Lexeme Quoted) (sym (quoted_length word))
+
+-- a text between its marks
+quoted_here : (word behind : List ℕ) → fits_word word ≡ true → first_piece (quoted word ++ behind) ≡ Piece_Lexeme Quoted (length (quoted word))
+unfolding first_piece
+quoted_here word behind fits =
+    let rest : List ℕ = quotation_mark ∷ behind in
+    let long : prefix_len is_text_byte (word ++ rest) ≡ length word = prefix_whole is_text_byte word rest (word_all word fits) refl in
+    let inside : take_while is_text_byte (word ++ rest) ≡ word = taken_whole is_text_byte word rest (word_all word fits) refl in
+    let others : drop (prefix_len is_text_byte (word ++ rest)) (word ++ rest) ≡ rest = ap (λ n. drop n (word ++ rest)) long ∙ drop_at word rest (length word) refl in
+    ap (λ (l : List ℕ). first_piece (quotation_mark ∷ l)) (append_assoc word (quotation_mark ∷ []) behind)
+    ∙ ap (λ (l : List ℕ). quoted_piece l (drop (prefix_len is_text_byte (word ++ rest)) (word ++ rest))) inside
+    ∙ ap (quoted_piece word) others
+    ∙ quoted_is word behind (word_few word fits)
+
 -- a symbol of one byte that no longer one begins with
 abbrev SymbolHere : List ℕ → List ℕ → Type 0
 SymbolHere behind text = EndsBefore Symbol text behind → first_piece (text ++ behind) ≡ Piece_Lexeme Symbol (length text)
@@ -117,3 +136,4 @@ part_piece (Lexeme Name text) behind is = word_at_front text behind is.0.0 is.1 
 part_piece (Lexeme Keyword text) behind is = word_at_front text behind is.0.0 is.1 ∙ word_kind text Keyword is.0.1 (cond-true (is_keyword text) _ _ is.0.2)
 part_piece (Lexeme Number text) behind is = number_at_front text behind is.0.0 is.1 ∙ number_is text is.0.1 is.0.2
 part_piece (Lexeme Symbol text) behind is = symbol_here text behind is.0 is.1
+part_piece (Lexeme Quoted text) behind is = subst (λ (t : List ℕ). first_piece (t ++ behind) ≡ Piece_Lexeme Quoted (length t)) (sym is.0.is) (quoted_here is.0.word behind is.0.fits)

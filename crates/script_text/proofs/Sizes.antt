@@ -1,15 +1,17 @@
 -- A text that isn't empty begins with a piece of at least one byte, within it.
-use Rattle.std.proofs.Common.{◌≡◌, ℕ, ◌≤◌, Bool, true, false, List, [], ◌∷◌, length, arith, subst, refl}
+use Rattle.std.proofs.Common.{◌≡◌, ℕ, ◌≤◌, Bool, true, false, List, [], ◌∷◌, length, drop, arith, subst, refl}
 use Rattle.std.specs.Prelude.{◌||◌, ◌&&◌, not, nat_lt, nat_eq, ◌==◌}
 use Rattle.std.specs.List.{prefix_len, take_while, list_any, starts_with}
 use Rattle.std.specs.Str.Parse.{digits_value}
 use Rattle.std.proofs.lemmas.Bool.{cond_both, or_left, and_parts, eqb-true}
 use Rattle.std.proofs.lemmas.List.Folds.{length-prefix_len}
 use Rattle.std.proofs.lemmas.List.Sums.{prefix_len-le-length}
+use Rattle.thor_value.specs.Words.{is_text_byte}
 use Rattle.script_text.specs.declared.piece.Piece.{Piece}
 use Rattle.script_text.specs.Bytes.{is_newline, is_separator, is_letter, is_digit, is_word_byte}
-use Rattle.script_text.specs.Words.{long_symbols, short_symbols, comment_mark}
-use Rattle.script_text.specs.Pieces.{size, word_piece, number_piece, symbol_piece, first_piece}
+use Rattle.script_text.specs.Words.{long_symbols, short_symbols, comment_mark, quotation_mark}
+use Rattle.script_text.specs.Pieces.{size, word_piece, number_piece, quoted_piece, symbol_piece, first_piece}
+use Rattle.script_text.proofs.Quoted.{quoted_within}
 
 -- the piece has at least one byte, and at most n
 pub record Sized (piece : Piece) (n : ℕ) : Type 0 where
@@ -52,6 +54,15 @@ symbol_sized b (c ∷ bs) =
     (λ short. record { some = omega arith; within = omega arith })
     (λ none. record { some = omega arith; within = omega arith }))
 
+quoted_sized : (b : ℕ) (bs : List ℕ) → Sized (quoted_piece (take_while is_text_byte bs) (drop (prefix_len is_text_byte bs) bs)) (length (b ∷ bs))
+unfolding quoted_piece
+quoted_sized b bs =
+    cond_both (nat_lt 32 (length (take_while is_text_byte bs))) _ _ (λ piece. Sized piece (length (b ∷ bs)))
+    (λ long. record { some = omega arith; within = omega arith })
+    (λ short. cond_both (starts_with nat_eq (drop (prefix_len is_text_byte bs) bs) (quotation_mark ∷ [])) _ _ (λ piece. Sized piece (length (b ∷ bs)))
+    (λ closed. record { some = omega arith; within = omega (arith, quoted_within bs closed) })
+    (λ unclosed. record { some = omega arith; within = omega arith }))
+
 -- where the first byte passes a test, at least one does
 passes_first : (test : ℕ → Bool) (b : ℕ) (bs : List ℕ) → test b ≡ true → 1 ≤ prefix_len test (b ∷ bs)
 passes_first test b bs passes = rw passes (omega arith)
@@ -82,4 +93,6 @@ first_sized b bs =
       some = passes_first (λ c. not (is_newline c)) b bs (slash_goes_on b (and_parts _ _ comment).0);
       within = prefix_len-le-length (λ c. not (is_newline c)) (b ∷ bs);
     })
-    (λ no_comment. symbol_sized b bs))))
+    (λ no_comment. cond_both (b == quotation_mark) _ _ P
+    (λ mark. quoted_sized b bs)
+    (λ no_mark. symbol_sized b bs)))))

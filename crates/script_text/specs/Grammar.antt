@@ -6,14 +6,15 @@ use Rattle.std.specs.Prelude.{◌≡◌, ◌≤◌, ℕ, ◌+◌, Bool, true, fa
 use Rattle.std.specs.List.{list_any, list_all, flat_map}
 use Rattle.std.specs.Str.{bytes_eq}
 use Rattle.std.specs.Str.Parse.{digits_value}
+use Rattle.thor_value.specs.Words.{fits_word}
 use Rattle.script_text.specs.declared.token.TokenKind.{TokenKind}
-use Rattle.script_text.specs.declared.token.TokenKind.TheVariants.{Name, Number, Keyword, Symbol}
+use Rattle.script_text.specs.declared.token.TokenKind.TheVariants.{Name, Number, Keyword, Symbol, Quoted}
 use Rattle.script_text.specs.declared.token.Token.{Token}
 use Rattle.script_text.specs.declared.syntax.Syntax.{Syntax}
 use Rattle.script_text.specs.declared.syntax.SyntaxError.{SyntaxError}
 use Rattle.script_text.specs.declared.syntax.SyntaxError.TheVariants.{Fault, NoMemory}
 use Rattle.script_text.specs.Bytes.{is_newline, is_separator, is_letter, is_digit, is_word_byte}
-use Rattle.script_text.specs.Words.{is_keyword, long_symbols, short_symbols, comment_mark}
+use Rattle.script_text.specs.Words.{is_keyword, long_symbols, short_symbols, comment_mark, quotation_mark}
 use Rattle.script_text.specs.Tokens.{line_at}
 
 -- a letter, and then letters, digits or `_`
@@ -30,12 +31,23 @@ is_number (b ∷ bs) = is_digit b && list_all is_digit bs
 abbrev pub is_symbol : List ℕ → Bool
 is_symbol text = list_any (λ symbol. bytes_eq symbol text) (long_symbols ++ map (λ b. b ∷ []) short_symbols)
 
+-- bytes between quotation marks
+abbrev pub quoted : List ℕ → List ℕ
+quoted word = quotation_mark ∷ (word ++ quotation_mark ∷ [])
+
+-- a text between quotation marks
+pub record IsQuoted (text : List ℕ) : Type 0 where
+  pub word : List ℕ
+  pub fits : fits_word word ≡ true
+  pub is : text ≡ quoted word
+
 -- the bytes are a token of the kind
 abbrev pub IsToken : TokenKind → List ℕ → Type 0
 IsToken Name text = (is_word text ≡ true) × (length text ≤ 32) × (is_keyword text ≡ false)
 IsToken Keyword text = (is_word text ≡ true) × (length text ≤ 32) × (is_keyword text ≡ true)
 IsToken Number text = (is_number text ≡ true) × (length text ≤ 19) × (digits_value 10 text ≤ 9223372036854775807)
 IsToken Symbol text = is_symbol text ≡ true
+IsToken Quoted text = IsQuoted text
 
 -- a text doesn't begin with a byte that passes the test
 abbrev pub Stops : (ℕ → Bool) → List ℕ → Type 0
@@ -48,6 +60,7 @@ EndsBefore Name text behind = Stops is_word_byte behind
 EndsBefore Keyword text behind = Stops is_word_byte behind
 EndsBefore Number text behind = Stops is_digit behind
 EndsBefore Symbol text behind = Stops (λ b. is_symbol (text ++ b ∷ [])) behind
+EndsBefore Quoted text behind = Unit {0}
 
 -- what a text is made of; of a comment the bytes behind its mark
 pub data Part : Type 0 where

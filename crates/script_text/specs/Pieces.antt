@@ -1,12 +1,13 @@
 -- How a text is cut into pieces: separators, comments and tokens, each as long as it can be. This project's.
-use Rattle.std.specs.Prelude.{ℕ, zero, suc, ◌+◌, ◌-◌, not, ◌==◌, ◌||◌, nat_lt, nat_eq, List, [], ◌∷◌, length, if◌then◌else◌, take_while}
+use Rattle.std.specs.Prelude.{ℕ, zero, suc, ◌+◌, ◌-◌, not, ◌==◌, ◌||◌, nat_lt, nat_eq, List, [], ◌∷◌, drop, length, if◌then◌else◌, take_while}
 use Rattle.std.specs.List.{list_any, prefix_len, starts_with}
 use Rattle.std.specs.Str.Parse.{digits_value}
-use Rattle.script_text.specs.declared.token.TokenKind.TheVariants.{Name, Number, Keyword, Symbol}
+use Rattle.thor_value.specs.Words.{is_text_byte}
+use Rattle.script_text.specs.declared.token.TokenKind.TheVariants.{Name, Number, Keyword, Symbol, Quoted}
 use Rattle.script_text.specs.declared.piece.Piece.{Piece}
 use Rattle.script_text.specs.declared.piece.Piece.TheVariants.{Gap, Lexeme, NoToken}
 use Rattle.script_text.specs.Bytes.{is_newline, is_separator, is_letter, is_digit, is_word_byte}
-use Rattle.script_text.specs.Words.{is_keyword, long_symbols, short_symbols, comment_mark}
+use Rattle.script_text.specs.Words.{is_keyword, long_symbols, short_symbols, comment_mark, quotation_mark}
 
 -- a word of at most 32 bytes is a keyword or a name
 unfoldable pub word_piece : List ℕ → Piece
@@ -28,8 +29,15 @@ symbol_piece (b ∷ bs) =
     else (if list_any (λ symbol. symbol == b) short_symbols then Lexeme Symbol 1
     else NoToken)
 
+-- at most 32 bytes between quotation marks are a text literal
+unfoldable pub quoted_piece : List ℕ → List ℕ → Piece
+quoted_piece inside behind =
+    if nat_lt 32 (length inside) then NoToken
+    else (if starts_with nat_eq behind (quotation_mark ∷ []) then Lexeme Quoted (length inside + 2)
+    else NoToken)
+
 -- What a text begins with: a letter begins a word and a digit a number, each as long as it goes on; a
--- separator stands alone; a comment goes up to the end of its line.
+-- separator stands alone; a comment goes up to the end of its line; a quotation mark begins a text literal.
 unfoldable pub first_piece : List ℕ → Piece
 first_piece [] = NoToken
 first_piece (b ∷ bs) =
@@ -37,7 +45,8 @@ first_piece (b ∷ bs) =
     else (if is_digit b then number_piece (take_while is_digit (b ∷ bs))
     else (if is_separator b then Gap 1
     else (if starts_with nat_eq (b ∷ bs) comment_mark then Gap (prefix_len (λ c. not (is_newline c)) (b ∷ bs))
-    else symbol_piece (b ∷ bs))))
+    else (if b == quotation_mark then quoted_piece (take_while is_text_byte bs) (drop (prefix_len is_text_byte bs) bs)
+    else symbol_piece (b ∷ bs)))))
 
 -- how many bytes a piece takes; where no token begins it is the one byte there
 abbrev pub size : Piece → ℕ

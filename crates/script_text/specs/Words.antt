@@ -23,6 +23,10 @@ long_symbols = codes "==" ∷ codes "!=" ∷ []
 abbrev pub short_symbols : List ℕ
 short_symbols = codes "{}();,.=<+-*"
 
+-- what a text literal stands between
+abbrev pub quotation_mark : ℕ
+quotation_mark = 34
+
 -- how a comment begins
 abbrev pub comment_mark : List ℕ
 comment_mark = codes "//"

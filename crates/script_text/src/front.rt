@@ -4,12 +4,13 @@ ghost use Rattle.std.specs.Prelude.{◌≡◌, ◌≤◌, length, ◌==◌};
 ghost use Rattle.std.specs.List.{list_any};
 ghost use Rattle.std.specs.Str.Parse.{digits_value, AllDigits};
 ghost use Rattle.script_text.specs.Words.{short_symbols};
-ghost use Rattle.script_text.specs.Pieces.{word_piece, number_piece, symbol_piece, first_piece};
+ghost use Rattle.script_text.specs.Pieces.{word_piece, number_piece, quoted_piece, symbol_piece, first_piece};
 
-use crate::lengths::{digits_length, is_separator, line_length, word_length};
+use crate::lengths::{digits_length, is_separator, line_length, literal_length, word_length};
 use crate::piece::Piece;
 use crate::token::TokenKind;
 use crate::words::is_keyword;
+use thor_value::WORD_BYTES;
 
 /// The most bytes of a name.
 const NAME_BYTES: usize = 32;
@@ -86,6 +87,21 @@ fn symbol_piece(text: &[u8]) -> Piece
     }
 }
 
+/// What a quotation mark begins, where the bytes of a text literal stand behind it, and then other bytes.
+#[tactic(auto, unfolding(crate::specs::Pieces::quoted_piece))]
+fn quoted_piece(inside: &[u8], behind: &[u8]) -> Piece
+    ensures { result ≡ quoted_piece inside.now behind.now }
+{
+    if WORD_BYTES < inside.len() {
+        return Piece::NoToken;
+    }
+    if behind.starts_with(b"\"") {
+        Piece::Lexeme(TokenKind::Quoted, inside.len() + 2)
+    } else {
+        Piece::NoToken
+    }
+}
+
 /// What a text begins with; the empty text with no token.
 #[tactic(auto, using(crate::proofs::Digits::all_digits_front), unfolding(crate::specs::Pieces::first_piece))]
 pub fn first_piece(text: &[u8]) -> Piece
@@ -93,7 +109,7 @@ pub fn first_piece(text: &[u8]) -> Piece
 {
     match text {
         [] => Piece::NoToken,
-        [byte, ..] => {
+        [byte, rest @ ..] => {
             if byte.is_ascii_alphabetic() {
                 word_piece(text.split_at(word_length(text)).0)
             } else if byte.is_ascii_digit() {
@@ -102,6 +118,9 @@ pub fn first_piece(text: &[u8]) -> Piece
                 Piece::Gap(1)
             } else if text.starts_with(b"//") {
                 Piece::Gap(line_length(text))
+            } else if *byte == b'"' {
+                let (inside, behind) = rest.split_at(literal_length(rest));
+                quoted_piece(inside, behind)
             } else {
                 symbol_piece(text)
             }

@@ -17,7 +17,7 @@ mod syntax;
 mod token;
 mod words;
 
-pub use marking::number;
+pub use marking::{literal_text, number};
 pub use numbers::digits_value;
 pub use scanning::scan;
 pub use sections::{ClientParts, ItemParts, Sections, Split};

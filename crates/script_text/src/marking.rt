@@ -1,11 +1,12 @@
 //! What single tokens are for the parts of a script.
 
 ghost use Rattle.std.specs.Prelude.{◌≡◌, ◌≤◌, IfSome};
-ghost use Rattle.script_text.specs.Marks.{keyword_mark, symbol_mark, mark_of, number_in};
+ghost use Rattle.script_text.specs.Marks.{keyword_mark, symbol_mark, mark_of, number_in, inside, text_in};
 
 use crate::mark::Mark;
 use crate::numbers::digits_value;
 use crate::token::{Token, TokenKind};
+use thor_value::Word;
 
 /// The greatest number of a token.
 const GREATEST: u64 = 9223372036854775807;
@@ -50,7 +51,7 @@ pub fn mark(token: &Token) -> Mark
     match token.kind {
         TokenKind::Keyword => keyword_mark(token.text.as_slice()),
         TokenKind::Symbol => symbol_mark(token.text.as_slice()),
-        TokenKind::Name | TokenKind::Number => Mark::Other,
+        TokenKind::Name | TokenKind::Number | TokenKind::Quoted => Mark::Other,
     }
 }
 
@@ -61,6 +62,25 @@ pub fn number(token: &Token) -> Option<u64>
 {
     match token.kind {
         TokenKind::Number => digits_value(GREATEST, token.text.as_slice()),
+        _ => None,
+    }
+}
+
+fn inside(text: &[u8]) -> &[u8]
+    ensures { result.now ≡ inside text.now }
+{
+    match text {
+        [] => text,
+        [_, rest @ ..] => rest.split_at(rest.len().saturating_sub(1)).0,
+    }
+}
+
+/// The text that the token writes between its quotation marks; `None` where it is no text literal.
+pub fn literal_text(token: &Token) -> Option<Word>
+    ensures { result ≡ text_in token.now }
+{
+    match token.kind {
+        TokenKind::Quoted => Word::new(inside(token.text.as_slice())),
         _ => None,
     }
 }

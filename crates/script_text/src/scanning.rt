@@ -120,7 +120,8 @@ fn all_tokens(alloc: Global, text: &[u8]) -> Result<Tokens, SyntaxError>
 ///
 /// Bytes 9, 10, 13 and 32 separate tokens, and so does a comment, from `//` to the end of its line.
 /// `Fault` is at the line of the first byte, outside of comments, that begins no token: a byte of no
-/// token, a word of more than 32 bytes, or a number past 9223372036854775807 or of more than 19 digits.
+/// token, a word of more than 32 bytes, a number past 9223372036854775807 or of more than 19 digits, or a quotation mark
+/// behind which stand more than 32 bytes of a text, or other bytes than those of a text and a second quotation mark.
 ///
 /// A line has a number of 32 bits: of a text of 4 GiB or more nothing is told but want of memory.
 pub fn scan(alloc: Global, text: &[u8]) -> Result<Tokens, SyntaxError>

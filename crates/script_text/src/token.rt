@@ -11,6 +11,8 @@ pub enum TokenKind {
     Keyword,
     /// One of `{ } ( ) ; , . = == != < + - *`.
     Symbol,
+    /// A text between quotation marks, on one line.
+    Quoted,
 }
 
 /// One token of a script, with where it stands in the text.

@@ -4,6 +4,7 @@ pub mod AsideForms
 pub mod MadeSchemas
 pub mod Replayed
 pub mod SortedMaps
+pub mod Texts
 pub mod TfForms
 pub mod Viewed
 pub mod WholeStore

@@ -2,8 +2,8 @@
 
 ghost use Rattle.std.specs.Prelude.{◌≡◌, ◌↔◌, IsTrue};
 
-use class_defs::Operator;
-use thor_value::{Answer, Fault, Sequence};
+use class_defs::{Literal, Operator};
+use thor_value::{Answer, Fault, Sequence, Word};
 
 /// Values that can be told apart.
 pub trait Same {
@@ -33,6 +33,23 @@ impl Same for Fault {
 impl Same for Operator {
     fn same(&self, other: &Operator) -> bool {
         *self == *other
+    }
+}
+
+impl Same for Word {
+    #[tactic(auto, using(crate::proofs::Texts::same_bytes))]
+    fn same(&self, other: &Word) -> bool {
+        self.bytes() == other.bytes()
+    }
+}
+
+impl Same for Literal {
+    fn same(&self, other: &Literal) -> bool {
+        match (self, other) {
+            (Literal::Int(number), Literal::Int(other)) => number.same(other),
+            (Literal::Text(word), Literal::Text(other)) => word.same(other),
+            (_, _) => false,
+        }
     }
 }
 

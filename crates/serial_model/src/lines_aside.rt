@@ -94,11 +94,11 @@ fn same_expr(some: &Expr, other: &Expr) -> bool
     ensures { IsTrue result ↔ (expr_on_line_1 some.now ≡ expr_on_line_1 other.now) }
 {
     match some {
-        Expr::Int { value, line: _ } => match other {
-            Expr::Int {
+        Expr::Literal { value, line: _ } => match other {
+            Expr::Literal {
                 value: other,
                 line: _,
-            } => *value == *other,
+            } => value.same(other),
             _ => false,
         },
         Expr::Null { line: _ } => match other {
@@ -333,11 +333,11 @@ fn same_tf(some: &Tf, other: &Tf) -> bool
             Tf::Null { line: _ } => true,
             _ => false,
         },
-        Tf::Int { value, line: _ } => match other {
-            Tf::Int {
+        Tf::Literal { value, line: _ } => match other {
+            Tf::Literal {
                 value: other,
                 line: _,
-            } => *value == *other,
+            } => value.same(other),
             _ => false,
         },
         Tf::Path { names, line: _ } => match other {

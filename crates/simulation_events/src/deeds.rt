@@ -246,6 +246,6 @@ fn deed_of_mark(mark: &Mark) -> Deed {
         Mark::Took { .. } => Deed::Took,
         Mark::Drew { .. } => Deed::Drew,
         Mark::Forgot { .. } => Deed::Forgot,
-        Mark::Refused { refusal, .. } => deed_of_refusal(*refusal),
+        Mark::Refused { refusal, .. } => deed_of_refusal(*refusal.get()),
     }
 }

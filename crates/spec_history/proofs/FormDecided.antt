@@ -18,7 +18,7 @@ use Rattle.thor_value.specs.declared.names.Ts.{Ts}
 use Rattle.thor_value.specs.declared.values.Answer.TheVariants.{Fault, Ints}
 use Rattle.thor_value.specs.declared.values.Answer.{Answer}
 use Rattle.thor_value.specs.declared.values.Obj.{Obj}
-use Rattle.thor_value.specs.declared.values.Value.TheVariants.{Int, Null, Ref}
+use Rattle.thor_value.specs.declared.values.Value.TheVariants.{Int, Null, Ref, Text}
 use Rattle.thor_value.specs.declared.values.Value.{Value}
 
 below_pos : (n : ℕ) → FitsSigned w64 (pos n) → n < 2 ^ 63
@@ -49,6 +49,7 @@ decides_stamp t = turned (decides_lt t.time (2 ^ 62) also decides_lt t.repo 8 al
 
 decides_value : (v : Value) → Decides (is_value v) (ValueFits v)
 decides_value (Int z) = decides_number z
+decides_value (Text w) = ((λ e. e), (λ h. h))
 decides_value (Ref x) = decides_name x
 decides_value Null = ((λ e. tt), (λ h. refl))
 

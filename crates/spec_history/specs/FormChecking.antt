@@ -9,10 +9,11 @@ use Rattle.std.specs.declared.cmp.Ordering.{Ordering}
 use Rattle.thor_value.specs.Names.{oref_cmp}
 use Rattle.thor_value.specs.declared.names.Oref.{Oref}
 use Rattle.thor_value.specs.declared.names.Ts.{Ts}
+use Rattle.thor_value.specs.Words.{fits_word}
 use Rattle.thor_value.specs.declared.values.Answer.TheVariants.{Fault, Ints}
 use Rattle.thor_value.specs.declared.values.Answer.{Answer}
 use Rattle.thor_value.specs.declared.values.Obj.{Obj}
-use Rattle.thor_value.specs.declared.values.Value.TheVariants.{Int, Null, Ref}
+use Rattle.thor_value.specs.declared.values.Value.TheVariants.{Int, Null, Ref, Text}
 use Rattle.thor_value.specs.declared.values.Value.{Value}
 
 -- whether each key is before those behind it
@@ -35,6 +36,7 @@ abbrev pub is_value : Value → Bool
 is_value (Int z) = is_number z
 is_value (Ref x) = is_name x
 is_value Null = true
+is_value (Text w) = fits_word w
 
 abbrev pub is_object : Obj → Bool
 is_object o = nat_lt o.class (2 ^ 16) && nat_lt o.ver (2 ^ 32) && nat_le (length o.fields) most_fields && list_all is_value o.fields

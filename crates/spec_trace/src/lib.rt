@@ -11,6 +11,7 @@ mod item_examples;
 mod item_laws;
 mod kept_item;
 mod mark;
+mod refusing_mark;
 mod session_laws;
 mod told_examples;
 mod trace_laws;
@@ -28,6 +29,7 @@ pub use item_laws::{
 };
 pub use kept_item::KeptItem;
 pub use mark::Mark;
+pub use refusing_mark::refused_mark;
 pub use session_laws::{
     commits_are_told, copies_are_current, copies_stay_right, current_copies_stay,
     messages_are_in_order, messages_keep_copies, own_writes_stay, pages_bring_what_was_read,

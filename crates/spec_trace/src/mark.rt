@@ -2,7 +2,7 @@
 
 use log_entries::Request;
 use repo_refusals::Refusal;
-use thor_value::Ts;
+use thor_value::{Boxed, Ts};
 
 /// The mark of something that happened at a repository and that no log keeps.
 #[derive(Debug, Drop)]
@@ -53,9 +53,9 @@ pub enum Mark {
     Refused {
         /// The session that was named.
         session: u32,
-        /// The request, where it was one.
-        request: Option<Request>,
+        /// The request, where it was one. It has memory of its own, so that all marks are small.
+        request: Option<Boxed<Request>>,
         /// Why.
-        refusal: Refusal,
+        refusal: Boxed<Refusal>,
     },
 }

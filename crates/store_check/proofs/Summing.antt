@@ -38,6 +38,7 @@ part_found : (s : Schemas) (t : Option ExprType) → is_part_type s t ≡ true �
 part_found s None h = absurd (both_ways _ refl h)
 part_found s (Some (type.Class d)) h = (d, refl, h)
 part_found s (Some type.Int) h = absurd (both_ways _ refl h)
+part_found s (Some type.Text) h = absurd (both_ways _ refl h)
 part_found s (Some type.Null) h = absurd (both_ways _ refl h)
 part_found s (Some type.Untold) h = absurd (both_ways _ refl h)
 
@@ -159,6 +160,7 @@ module _ (s : Schemas) (m : Objects) (x : Oref) where
         by_value : (v : Option Value) → slice_get o.fields i ≡ v → Sums (More P a i) (get (noted s n a o i v) x)
         by_value None e = other None e (λ g. cc)
         by_value (Some (value.Int k)) e = other (Some (value.Int k)) e (λ g. cc)
+        by_value (Some (value.Text k)) e = other (Some (value.Text k)) e (λ g. cc)
         by_value (Some value.Null) e = other (Some value.Null) e (λ g. cc)
         by_value (Some (value.Ref z)) e =
             subst (Sums (More P a i)) (sym (get-insert oref_total n z (joined a i (is_owned_field s o i && (a.repo == z.repo)) (get n z)) x))

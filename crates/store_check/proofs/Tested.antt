@@ -57,21 +57,30 @@ RefersWell m t z = (d : ℕ) × (t ≡ Some (type.Class d)) × IsSomeAnd (get m 
 
 value_kind : (m : Objects) (t : ExprType) (v : Value) → value_fits m t v ≡ true → fitted t v ≡ v
 value_kind m type.Int (value.Int n) h = refl
+value_kind m type.Text (value.Int n) h = absurd (both_ways _ refl h)
+value_kind m type.Text (value.Text n) h = refl
+value_kind m type.Int (value.Text n) h = absurd (both_ways _ refl h)
 value_kind m type.Int (value.Ref z) h = absurd (both_ways _ refl h)
+value_kind m type.Text (value.Ref z) h = absurd (both_ways _ refl h)
 value_kind m type.Int value.Null h = absurd (both_ways _ refl h)
+value_kind m type.Text value.Null h = absurd (both_ways _ refl h)
 value_kind m type.Null (value.Int n) h = absurd (both_ways _ refl h)
+value_kind m type.Null (value.Text n) h = absurd (both_ways _ refl h)
 value_kind m type.Null (value.Ref z) h = absurd (both_ways _ refl h)
 value_kind m type.Null value.Null h = refl
 value_kind m (type.Class c) (value.Int n) h = absurd (both_ways _ refl h)
+value_kind m (type.Class c) (value.Text n) h = absurd (both_ways _ refl h)
 value_kind m (type.Class c) (value.Ref z) h = refl
 value_kind m (type.Class c) value.Null h = refl
 value_kind m type.Untold (value.Int n) h = absurd (both_ways _ refl h)
+value_kind m type.Untold (value.Text n) h = absurd (both_ways _ refl h)
 value_kind m type.Untold (value.Ref z) h = absurd (both_ways _ refl h)
 value_kind m type.Untold value.Null h = refl
 
 value_refers : (m : Objects) (t : Option ExprType) (z : Oref) → typed_fits m t (Some (value.Ref z)) ≡ true → RefersWell m t z
 value_refers m None z h = absurd (both_ways _ refl h)
 value_refers m (Some type.Int) z h = absurd (both_ways _ refl h)
+value_refers m (Some type.Text) z h = absurd (both_ways _ refl h)
 value_refers m (Some type.Null) z h = absurd (both_ways _ refl h)
 value_refers m (Some (type.Class c)) z h = (c, refl, class_is (get m z) c h)
 value_refers m (Some type.Untold) z h = absurd (both_ways _ refl h)
@@ -81,17 +90,25 @@ class_same h = cc
 
 value_passes : (m : Objects) (t : ExprType) (v : Value) → fitted t v ≡ v → ((z : Oref) → v ≡ value.Ref z → RefersWell m (Some t) z) → value_fits m t v ≡ true
 value_passes m type.Int (value.Int n) h f = refl
+value_passes m type.Text (value.Int n) h f = cc
+value_passes m type.Text (value.Text n) h f = refl
+value_passes m type.Int (value.Text n) h f = cc
 value_passes m type.Int (value.Ref z) h f = cc
+value_passes m type.Text (value.Ref z) h f = cc
 value_passes m type.Int value.Null h f = cc
+value_passes m type.Text value.Null h f = cc
 value_passes m type.Null (value.Int n) h f = cc
+value_passes m type.Null (value.Text n) h f = cc
 value_passes m type.Null (value.Ref z) h f = cc
 value_passes m type.Null value.Null h f = refl
 value_passes m (type.Class c) (value.Int n) h f = cc
+value_passes m (type.Class c) (value.Text n) h f = cc
 value_passes m (type.Class c) (value.Ref z) h f =
     let r = f z refl in
     is_class_so (get m z) c (subst (λ d. IsSomeAnd (get m z) (λ p. p.class ≡ d)) (sym (class_same r.1)) r.2)
 value_passes m (type.Class c) value.Null h f = refl
 value_passes m type.Untold (value.Int n) h f = cc
+value_passes m type.Untold (value.Text n) h f = cc
 value_passes m type.Untold (value.Ref z) h f = cc
 value_passes m type.Untold value.Null h f = refl
 

@@ -39,6 +39,7 @@ abbrev pub noted : Schemas → Namings → Oref → Obj → ℕ → Option Value
 noted s n a o i (Some (value.Ref z)) = insert n z (joined a i (is_owned_field s o i && (a.repo == z.repo)) (get n z))
 noted s n a o i (Some (value.Int k)) = n
 noted s n a o i (Some value.Null) = n
+noted s n a o i (Some (value.Text w)) = n
 noted s n a o i None = n
 
 -- the notes behind the first k fields of an object

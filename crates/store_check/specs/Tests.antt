@@ -36,15 +36,23 @@ abbrev pub value_fits : Objects → ExprType → Value → Bool
 value_fits m type.Int (value.Int n) = true
 value_fits m type.Int (value.Ref z) = false
 value_fits m type.Int value.Null = false
+value_fits m type.Int (value.Text w) = false
+value_fits m type.Text (value.Int n) = false
+value_fits m type.Text (value.Ref z) = false
+value_fits m type.Text value.Null = false
+value_fits m type.Text (value.Text w) = true
 value_fits m type.Null (value.Int n) = false
 value_fits m type.Null (value.Ref z) = false
 value_fits m type.Null value.Null = true
+value_fits m type.Null (value.Text w) = false
 value_fits m (type.Class c) (value.Int n) = false
 value_fits m (type.Class c) (value.Ref z) = is_of_class m c z
 value_fits m (type.Class c) value.Null = true
+value_fits m (type.Class c) (value.Text w) = false
 value_fits m type.Untold (value.Int n) = false
 value_fits m type.Untold (value.Ref z) = false
 value_fits m type.Untold value.Null = true
+value_fits m type.Untold (value.Text w) = false
 
 abbrev pub typed_fits : Objects → Option ExprType → Option Value → Bool
 typed_fits m (Some t) (Some v) = value_fits m t v

@@ -101,10 +101,11 @@ fn value_fits(objects: &OrefMap<Obj>, kind: ExprType, value: Value) -> bool
 {
     match (kind, value) {
         (ExprType::Int, Value::Int(_)) => true,
-        (ExprType::Int, Value::Ref(_)) | (ExprType::Int, Value::Null) => false,
+        (ExprType::Text, Value::Text(_)) => true,
+        (ExprType::Int, Value::Null) | (ExprType::Text, Value::Null) => false,
         (ExprType::Class(class), Value::Ref(oref)) => is_of_class(objects, class, oref),
         (_, Value::Null) => true,
-        (_, Value::Int(_)) | (_, Value::Ref(_)) => false,
+        (_, Value::Int(_)) | (_, Value::Ref(_)) | (_, Value::Text(_)) => false,
     }
 }
 

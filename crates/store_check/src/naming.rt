@@ -111,7 +111,7 @@ fn note_value(
             let naming = joined(oref, field, owned, namings.get(named));
             namings.insert(named, naming)
         }
-        Some(Value::Int(_)) | Some(Value::Null) | None => Ok(()),
+        Some(Value::Int(_)) | Some(Value::Null) | Some(Value::Text(_)) | None => Ok(()),
     }
 }
 

@@ -4,8 +4,8 @@ use std::alloc::Global;
 use std::cmp::Ordering;
 use std::test::Fail;
 use thor_value::{
-    NoMemory, Oref, ReadFault, Text, Ts, Value, put_oref, put_ts, put_value, read_oref, read_ts,
-    read_value,
+    NoMemory, Oref, ReadFault, Text, Ts, Value, Word, put_oref, put_ts, put_value, read_oref,
+    read_ts, read_value,
 };
 
 const FIRST: Oref = Oref {
@@ -32,6 +32,59 @@ const VALUES: &[(Value, &[u8])] = &[
     (Value::Ref(LAST), &[2, 7, 0, 0, 255, 255, 11]),
     (Value::Null, &[3]),
 ];
+
+/// Texts, each as its value is spelled.
+const TEXTS: &[(&[u8], &[u8])] = &[
+    (b"", &[4, 0]),
+    (b"ab", &[4, 2, 97, 98]),
+    (b" !~", &[4, 3, 32, 33, 126]),
+];
+
+#[test]
+fn texts_are_spelled_and_read(rt: HostRuntime) -> Result<(), Fail> {
+    for (text, bytes) in TEXTS {
+        let Some(word) = Word::new(text) else {
+            return Err("it is a text".into());
+        };
+        let mut out = Text::new(rt.alloc());
+        put_value(Value::Text(word), &mut out)?;
+        assert!(rt; out.as_slice() == *bytes);
+        assert!(rt; read_value(bytes) == Ok((Value::Text(word), bytes.len())));
+        assert!(rt; word.bytes() == *text && usize::from(word.len()) == text.len());
+        assert!(rt; (word == Word::empty()) == text.is_empty());
+    }
+    Ok(())
+}
+
+/// Bytes that are no text, and those that begin no text's value or end too early, with the fault.
+const NO_TEXTS: &[&[u8]] = &[
+    &[31],
+    &[127],
+    &[34],
+    &[97, 10],
+    b"123456789012345678901234567890123",
+];
+
+const TEXT_FAULTS: &[(&[u8], ReadFault)] = &[
+    (&[4], ReadFault::Short),
+    (&[4, 2, 97], ReadFault::Short),
+    (&[4, 32, 97, 98], ReadFault::Short),
+    (&[4, 33, 97, 98], ReadFault::BadTag),
+    (&[4, 2, 97, 34], ReadFault::BadTag),
+    (&[4, 5, 97, 31], ReadFault::BadTag),
+    (&[4, 1, 127], ReadFault::BadTag),
+    (&[5], ReadFault::BadTag),
+];
+
+#[test]
+fn what_is_no_text_is_told(rt: HostRuntime) {
+    for bytes in NO_TEXTS {
+        assert!(rt; Word::new(bytes).is_none());
+    }
+    for (bytes, fault) in TEXT_FAULTS {
+        assert!(rt; read_value(bytes) == Err(*fault));
+    }
+}
 
 #[test]
 fn values_are_read(rt: HostRuntime) -> Result<(), Fail> {
@@ -76,7 +129,7 @@ const SPELLED: &[u8] = &[
 const NO_VALUES: &[(&[u8], ReadFault)] = &[
     (&[], ReadFault::Short),
     (&[0], ReadFault::BadTag),
-    (&[4], ReadFault::BadTag),
+    (&[5], ReadFault::BadTag),
     (&[1, 0], ReadFault::Short),
     (&[2, 8], ReadFault::BadTag),
     (&[2, 7, 0, 1], ReadFault::BadTag),

@@ -79,7 +79,8 @@ const NO_OBJECTS: &[(&[u8], ObjFault)] = &[
         ObjFault::TooLarge { count: 255 },
     ),
     (&[0, 0, 0, 0, 0, 0, 2, 3], ObjFault::Short),
-    (&[0, 0, 0, 0, 0, 0, 1, 4], ObjFault::BadTag),
+    (&[0, 0, 0, 0, 0, 0, 1, 4], ObjFault::Short),
+    (&[0, 0, 0, 0, 0, 0, 1, 5], ObjFault::BadTag),
     (&[0, 0, 0, 0, 0, 0, 2, 3, 2, 8], ObjFault::BadTag),
     (&[0, 0, 0, 0, 0, 0, 2, 3, 1, 0], ObjFault::Short),
 ];

@@ -23,18 +23,18 @@ type Row = (
 );
 
 const PAGES: &[Row] = &[
-    (3, &[], &[84, 80, 1, 0, 0, 0, 0, 3], &[(0, None)]),
+    (3, &[], &[84, 80, 2, 0, 0, 0, 0, 3], &[(0, None)]),
     (
         0,
         &[(0, &[7, 8])],
-        &[84, 80, 1, 1, 0, 0, 0, 0, 0, 0, 2, 7, 8],
+        &[84, 80, 2, 1, 0, 0, 0, 0, 0, 0, 2, 7, 8],
         &[(0, Some(&[7, 8])), (1, None)],
     ),
     (
         258,
         &[(5, &[50]), (200, &[]), (2, &[20, 21]), (5, &[51, 52, 53])],
         &[
-            84, 80, 1, 3, 0, 0, 1, 2, 2, 0, 2, 20, 21, 5, 0, 3, 51, 52, 53, 200, 0, 0,
+            84, 80, 2, 3, 0, 0, 1, 2, 2, 0, 2, 20, 21, 5, 0, 3, 51, 52, 53, 200, 0, 0,
         ],
         &[(5, Some(&[51, 52, 53])), (200, Some(&[])), (3, None)],
     ),
@@ -76,7 +76,7 @@ fn is_spelled(page: &Page, wanted: &Text) -> Result<bool, Fail> {
 #[test]
 fn pages_are_spelled_and_read(rt: HostRuntime) -> Result<(), Fail> {
     for (number, puts, front, gets) in PAGES {
-        let wanted = filled(rt.alloc(), front, 4096)?;
+        let wanted = filled(rt.alloc(), front, 16384)?;
         assert!(rt; is_spelled(&page_of(rt.alloc(), *number, puts)?, &wanted)?);
         let read = Page::parse(rt.alloc(), wanted.as_slice())?;
         assert!(rt; read.number() == *number && has_all(&read, gets));
@@ -89,8 +89,8 @@ const ROOMS: &[(usize, &[(u8, usize, bool)])] = &[
     (
         0,
         &[
-            (4, 4086, false),
-            (4, 4085, true),
+            (4, 16374, false),
+            (4, 16373, true),
             (5, 0, false),
             (4, 1, true),
             (5, 0, true),
@@ -121,7 +121,7 @@ fn has_room(alloc: Global, page: &mut Page, slot: u8, bytes: usize) -> Result<bo
 }
 
 #[test]
-fn page_is_full_at_4096_bytes_and_255_objects(rt: HostRuntime) -> Result<(), Fail> {
+fn page_is_full_at_16384_bytes_and_255_objects(rt: HostRuntime) -> Result<(), Fail> {
     for (count, puts) in ROOMS {
         let mut page = with_empty(rt.alloc(), *count)?;
         for (slot, bytes, room) in *puts {
@@ -133,15 +133,16 @@ fn page_is_full_at_4096_bytes_and_255_objects(rt: HostRuntime) -> Result<(), Fai
 
 /// How bytes begin that no page has, and how many they are.
 const NO_PAGES: &[(&[u8], usize)] = &[
-    (&[84, 80, 1, 2, 0, 0, 0, 0, 5, 0, 0, 5, 0, 0], 4096),
-    (&[84, 80, 1, 2, 0, 0, 0, 0, 5, 0, 0, 4, 0, 0], 4096),
-    (&[84, 80, 1, 1, 0, 0, 0, 0, 5, 0, 1, 9, 1], 4096),
-    (&[84, 80, 1, 1, 0, 0, 0, 0, 5, 15, 246], 4096),
-    (&[84, 81, 1, 0, 0, 0, 0, 0], 4096),
-    (&[84, 80, 2, 0, 0, 0, 0, 0], 4096),
-    (&[83, 80, 1, 0, 0, 0, 0, 0], 4096),
-    (&[84, 80, 1, 0, 0, 0, 0, 0], 4095),
-    (&[84, 80, 1, 0, 0, 0, 0, 0], 4097),
+    (&[84, 80, 2, 2, 0, 0, 0, 0, 5, 0, 0, 5, 0, 0], 16384),
+    (&[84, 80, 2, 2, 0, 0, 0, 0, 5, 0, 0, 4, 0, 0], 16384),
+    (&[84, 80, 2, 1, 0, 0, 0, 0, 5, 0, 1, 9, 1], 16384),
+    (&[84, 80, 2, 1, 0, 0, 0, 0, 5, 63, 246], 16384),
+    (&[84, 81, 1, 0, 0, 0, 0, 0], 16384),
+    (&[84, 80, 1, 0, 0, 0, 0, 0], 16384),
+    (&[84, 80, 3, 0, 0, 0, 0, 0], 16384),
+    (&[83, 80, 1, 0, 0, 0, 0, 0], 16384),
+    (&[84, 80, 2, 0, 0, 0, 0, 0], 16383),
+    (&[84, 80, 2, 0, 0, 0, 0, 0], 16385),
 ];
 
 #[test]
@@ -150,6 +151,37 @@ fn bytes_that_are_no_page_are_damaged(rt: HostRuntime) -> Result<(), Fail> {
         let bytes = filled(rt.alloc(), front, *count)?;
         let read = Page::parse(rt.alloc(), bytes.as_slice());
         assert!(rt; matches!(read, Err(Damaged::NoPage)));
+    }
+    Ok(())
+}
+
+/// How a page of the older format begins, and how many bytes it has; then its number and what slot 5 has, where it is one.
+const OLD_PAGES: &[(&[u8], usize, Option<(u32, Option<&[u8]>)>)] = &[
+    (&[84, 80, 1, 0, 0, 0, 0, 3], 4096, Some((3, None))),
+    (
+        &[84, 80, 1, 1, 0, 0, 1, 2, 5, 0, 2, 20, 21],
+        4096,
+        Some((258, Some(&[20, 21]))),
+    ),
+    // One that is written now, one of its size, one that is cut, and one whose object passes its end.
+    (&[84, 80, 2, 0, 0, 0, 0, 3], 4096, None),
+    (&[84, 80, 1, 0, 0, 0, 0, 3], 16384, None),
+    (&[84, 80, 1, 0, 0, 0, 0, 3], 4095, None),
+    (&[84, 80, 1, 1, 0, 0, 0, 0, 5, 15, 246], 4096, None),
+];
+
+#[test]
+fn pages_of_the_older_format_are_read(rt: HostRuntime) -> Result<(), Fail> {
+    for (front, count, wanted) in OLD_PAGES {
+        let bytes = filled(rt.alloc(), front, *count)?;
+        let read = Page::parse_old(rt.alloc(), bytes.as_slice());
+        match (read, wanted) {
+            (Ok(page), Some((number, object))) => {
+                assert!(rt; page.number() == *number && page.get(5) == *object);
+            }
+            (Err(Damaged::NoPage), None) => {}
+            (_, _) => assert!(rt; false),
+        }
     }
     Ok(())
 }

@@ -56,22 +56,22 @@ const OTHERS: &[(&[u8], u32)] = &[
 ];
 
 /// The entry of a line.
-fn entry(alloc: Global, line: Line) -> Did {
-    Did {
+fn entry(alloc: Global, line: Line) -> Result<Did, NoMemory> {
+    Ok(Did {
         ts: line.ts,
         who: line.who,
-        what: what(alloc, line.number),
+        what: what(alloc, line.number)?,
         number: line.number,
         fresh: line.fresh,
         answer: line.answer,
-    }
+    })
 }
 
 /// The entries of lines.
 fn entries(alloc: Global, lines: Lines) -> Result<Dids, NoMemory> {
     let mut history = Dids::new(alloc);
     for line in lines.into_vec() {
-        history.push(entry(alloc, line))?;
+        history.push(entry(alloc, line)?)?;
     }
     Ok(history)
 }

@@ -1,7 +1,7 @@
 //! Reports of items that end in each way, many of which no run has today.
 
 use base_reasons::Reason;
-use class_defs::Upgrade;
+use class_defs::{Block, Upgrade};
 use report_text::print_report;
 use serial_model::{Cause, Did, Dids, Ended, Ends, ItemOutcome, What};
 use std::alloc::Global;
@@ -139,14 +139,14 @@ fn ends_of(alloc: Global, items: &[Item]) -> Result<Ends, NoMemory> {
 }
 
 /// A transaction without statements, or an upgrade of no class where it has a number.
-pub fn what(alloc: Global, number: u32) -> What {
+pub fn what(alloc: Global, number: u32) -> Result<What, NoMemory> {
     if number == 0 {
-        return What::Tx(Sequence::new(alloc));
+        return Ok(What::Tx(Block::new(alloc, Sequence::new(alloc))?));
     }
-    What::Upgrade(Upgrade {
+    Ok(What::Upgrade(Upgrade {
         line: 1,
         classes: Sequence::new(alloc),
-    })
+    }))
 }
 
 fn history_of(alloc: Global, entries: &[Entry]) -> Result<Dids, NoMemory> {
@@ -158,7 +158,7 @@ fn history_of(alloc: Global, entries: &[Entry]) -> Result<Dids, NoMemory> {
                 client: *client,
                 index: *index,
             },
-            what: what(alloc, *number),
+            what: what(alloc, *number)?,
             number: *number,
             fresh: Orefs::from_slice(alloc, fresh)?,
             answer: Answer::Ints(Ints::from_slice(alloc, printed)?),

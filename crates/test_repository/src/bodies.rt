@@ -33,7 +33,7 @@ const UPGRADED: &[u8] = &[
 
 /// A checkpoint with something in each of its lists.
 const FULL: &[u8] = &[
-    1, 0, 2, 0, 0, 0, 2, 0, 0, 0, 0, 0, 0, 0, 7, 0, 0, 0, 0, 0, 0, 0, 9, 0, 0, 0, 0, 2, 0, 0, 0, 3,
+    2, 0, 2, 0, 0, 0, 2, 0, 0, 0, 0, 0, 0, 0, 7, 0, 0, 0, 0, 0, 0, 0, 9, 0, 0, 0, 0, 2, 0, 0, 0, 3,
     0, 0, 0, 16, 102, 114, 101, 101, 32, 99, 108, 97, 115, 115, 32, 65, 32, 123, 32, 125, 0, 0, 0,
     1, 0, 0, 0, 1, 97, 0, 0, 0, 0, 0, 0, 0, 0, 0, 0, 0, 1, 0, 0, 0, 11, 117, 112, 103, 114, 97,
     100, 101, 32, 123, 32, 125, 0, 0, 0, 2, 0, 0, 0, 0, 1, 0, 0, 0, 2, 0, 0, 0, 0, 2, 0, 0, 0, 0,
@@ -214,7 +214,8 @@ fn is_none(alloc: Global, bytes: &[u8], at: usize, byte: u8) -> Result<bool, NoM
 /// 65,539 pages, a root's slot, a side, a page twice, a buffered name twice, a prepared transaction
 /// twice, kept decisions that fall, a client twice, and one behind the end.
 const NO_STATES: &[(usize, u8)] = &[
-    (0, 2),
+    (0, 1),
+    (0, 3),
     (7, 64),
     (23, 8),
     (29, 1),

@@ -17,7 +17,7 @@ use thor_value::{NoMemory, Obj, Oref, Sequence, Value, Writes};
 
 /// Page 0 with objects of the numbers 6 and 7 in slots 5 and 11.
 const FRONT: &[u8] = &[
-    84, 80, 1, 2, 0, 0, 0, 0, 5, 0, 16, 0, 0, 0, 0, 0, 0, 1, 1, 0, 0, 0, 0, 0, 0, 0, 6, 11, 0, 16,
+    84, 80, 2, 2, 0, 0, 0, 0, 5, 0, 16, 0, 0, 0, 0, 0, 0, 1, 1, 0, 0, 0, 0, 0, 0, 0, 6, 11, 0, 16,
     0, 0, 0, 0, 0, 0, 1, 1, 0, 0, 0, 0, 0, 0, 0, 7,
 ];
 
@@ -63,7 +63,7 @@ fn writes(alloc: Global) -> Result<Writes, NoMemory>
 /// Makes the writes where side 0 of page 0 is in use, and flushes it; then the disk crashes.
 fn flush<P: Parts>(alloc: Global, parts: &mut P, pick: u64) -> Result<Flushed, StoreFault>
     requires settled { IsSettled (P.disks parts.old) 2 }
-    requires long { WhereTold (P.disks parts.old) 2 (λ disk. 8192 ≤ length disk) }
+    requires long { WhereTold (P.disks parts.old) 2 (λ disk. 32768 ≤ length disk) }
 {
     let mut sides = Sides::new(alloc);
     sides.put(0, 0)?;
@@ -83,7 +83,7 @@ fn number<P: Parts>(
     slot: u8,
 ) -> Result<Option<i64>, StoreFault>
     requires side { side < 2 }
-    requires long { WhereTold (P.disks parts.old) 2 (λ disk. 8192 ≤ length disk) }
+    requires long { WhereTold (P.disks parts.old) 2 (λ disk. 32768 ≤ length disk) }
 {
     let pages = PageStore::new(alloc, &Sides::new(alloc))?;
     let mut store = ObjectStore::new(alloc, pages, Mob::new(alloc, 0)?);
@@ -104,10 +104,10 @@ fn number_of(object: Option<&Obj>) -> Option<i64> {
 /// A disk of pages with these bytes in front, on which a call fails.
 fn parts(alloc: Global, front: &[u8], call: u64) -> Result<MemParts<TickClock>, NoMemory>
     ensures settled { IfOk result (λ parts. IsSettled (mem_disks ⟦<TickClock as Clock>⟧.greatest parts) 2) }
-    ensures long { IfOk result (λ parts. WhereTold (mem_disks ⟦<TickClock as Clock>⟧.greatest parts) 2 (λ disk. 8192 ≤ length disk)) }
+    ensures long { IfOk result (λ parts. WhereTold (mem_disks ⟦<TickClock as Clock>⟧.greatest parts) 2 (λ disk. 32768 ≤ length disk)) }
 {
     let mut pages = Vec::from_slice(alloc, front)?;
-    pages.resize(8192.max(front.len()), 0)?;
+    pages.resize(32768.max(front.len()), 0)?;
     Ok(MemParts::new(
         Vec::new(alloc),
         Vec::new(alloc),

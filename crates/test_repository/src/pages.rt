@@ -34,7 +34,7 @@ fn install_thrice<P: Parts>(
 
 /// Reads page 0, whose side 0 is in use, twice: how many objects it has.
 fn read_twice<P: Parts>(alloc: Global, parts: &mut P) -> Result<u8, StoreFault>
-    requires { WhereTold (P.disks parts.old) 2 (λ disk. 4096 ≤ length disk) }
+    requires { WhereTold (P.disks parts.old) 2 (λ disk. 16384 ≤ length disk) }
 {
     let mut sides = Sides::new(alloc);
     sides.put(0, 0)?;
@@ -46,10 +46,10 @@ fn read_twice<P: Parts>(alloc: Global, parts: &mut P) -> Result<u8, StoreFault>
 
 fn parts(alloc: Global, front: &[u8], fails: &[(u8, u64)]) -> Result<MemParts<TickClock>, Fail>
     ensures settled { IfOk result (λ parts. IsSettled (mem_disks ⟦<TickClock as Clock>⟧.greatest parts) 2) }
-    ensures size { IfOk result (λ parts. WhereTold (mem_disks ⟦<TickClock as Clock>⟧.greatest parts) 2 (λ disk. 4096 ≤ length disk)) }
+    ensures size { IfOk result (λ parts. WhereTold (mem_disks ⟦<TickClock as Clock>⟧.greatest parts) 2 (λ disk. 16384 ≤ length disk)) }
 {
     let mut pages = Vec::from_slice(alloc, front)?;
-    pages.resize(4096.max(front.len()), 0)?;
+    pages.resize(16384.max(front.len()), 0)?;
     Ok(MemParts::new(
         Vec::new(alloc),
         Vec::new(alloc),
@@ -67,11 +67,11 @@ fn sides_alternate(alloc: Global, page: &Page) -> Result<bool, Fail>
     let mut parts = parts(alloc, &[], &[])?;
     let installed = install_thrice(alloc, &mut parts, page)?;
     let bytes = parts.bytes(Disk::Pages);
-    let begins = bytes.get(28672..28680) == Some([84, 80, 1, 0, 0, 0, 0, 3].as_slice());
+    let begins = bytes.get(114688..114696) == Some([84, 80, 2, 0, 0, 0, 0, 3].as_slice());
     Ok(
         installed == ([0, 1, 0], 1)
             && parts.calls(Disk::Pages).len() == 6
-            && bytes.len() == 32768
+            && bytes.len() == 131072
             && begins,
     )
 }
@@ -103,34 +103,34 @@ fn a_failing_call_is_told(rt: HostRuntime) -> Result<(), Fail> {
 
 /// The front of page 0, and how many objects are read of it, where it is none a damage is told.
 const FRONTS: &[(&[u8], Option<u8>)] = &[
-    (&[84, 80, 1, 0, 0, 0, 0, 0], Some(0)),
+    (&[84, 80, 2, 0, 0, 0, 0, 0], Some(0)),
     // An object of class 0 and version 0 without fields, in slot 11.
     (
-        &[84, 80, 1, 1, 0, 0, 0, 0, 11, 0, 7, 0, 0, 0, 0, 0, 0, 0],
+        &[84, 80, 2, 1, 0, 0, 0, 0, 11, 0, 7, 0, 0, 0, 0, 0, 0, 0],
         Some(1),
     ),
     // No page; another page; a slot of 12.
     (&[84, 81, 1, 0, 0, 0, 0, 0], None),
-    (&[84, 80, 1, 0, 0, 0, 0, 1], None),
+    (&[84, 80, 2, 0, 0, 0, 0, 1], None),
     (
-        &[84, 80, 1, 1, 0, 0, 0, 0, 12, 0, 7, 0, 0, 0, 0, 0, 0, 0],
+        &[84, 80, 2, 1, 0, 0, 0, 0, 12, 0, 7, 0, 0, 0, 0, 0, 0, 0],
         None,
     ),
     // An object that is cut, one with a byte behind it, one of 33 fields, one with no value in a field.
     (
-        &[84, 80, 1, 1, 0, 0, 0, 0, 11, 0, 6, 0, 0, 0, 0, 0, 0],
+        &[84, 80, 2, 1, 0, 0, 0, 0, 11, 0, 6, 0, 0, 0, 0, 0, 0],
         None,
     ),
     (
-        &[84, 80, 1, 1, 0, 0, 0, 0, 11, 0, 8, 0, 0, 0, 0, 0, 0, 0, 0],
+        &[84, 80, 2, 1, 0, 0, 0, 0, 11, 0, 8, 0, 0, 0, 0, 0, 0, 0, 0],
         None,
     ),
     (
-        &[84, 80, 1, 1, 0, 0, 0, 0, 11, 0, 7, 0, 0, 0, 0, 0, 0, 33],
+        &[84, 80, 2, 1, 0, 0, 0, 0, 11, 0, 7, 0, 0, 0, 0, 0, 0, 33],
         None,
     ),
     (
-        &[84, 80, 1, 1, 0, 0, 0, 0, 11, 0, 8, 0, 0, 0, 0, 0, 0, 1, 9],
+        &[84, 80, 2, 1, 0, 0, 0, 0, 11, 0, 8, 0, 0, 0, 0, 0, 0, 1, 9],
         None,
     ),
 ];

@@ -4,3 +4,4 @@ pub mod FiniteMap
 pub mod NameOrders
 pub mod ReadClauses
 pub mod Spellings
+pub mod TextBytes

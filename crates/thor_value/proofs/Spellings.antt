@@ -7,16 +7,18 @@ use Rattle.std.specs.Prelude.{ℤ, FitsSigned}
 use Rattle.std.specs.Int.{cast_signed, cast_unsigned}
 use Rattle.std.proofs.lemmas.Int.{to_z-of_z, of_z-to_z}
 use Rattle.std.proofs.Math.Facts.{sfits_to_z, Fits-of_lt, Fits-of_z}
-use Rattle.thor_value.specs.Reading.{number_at, below_at, page_at, oref_at, time_at, ts_at, is_tag, tag_at, behind_tag, value_at}
-use Rattle.thor_value.specs.Spelling.{OrefFits, oref_bytes, TsFits, ts_bytes, ValueFits, value_bytes}
+use Rattle.thor_value.specs.Reading.{number_at, below_at, page_at, oref_at, time_at, ts_at, is_tag, tag_at, behind_tag, value_at, word_at}
+use Rattle.thor_value.specs.Spelling.{OrefFits, oref_bytes, TsFits, ts_bytes, ValueFits, value_bytes, word_bytes}
+use Rattle.thor_value.specs.Words.{fits_word}
 use Rattle.thor_value.specs.declared.names.Ts.{Ts}
 use Rattle.thor_value.specs.declared.values.Value.{Value}
-use Rattle.thor_value.specs.declared.values.Value.TheVariants.{Int, Ref, Null}
+use Rattle.thor_value.specs.declared.values.Value.TheVariants.{Int, Ref, Null, Text}
 use Rattle.thor_value.specs.declared.names.Oref.{Oref}
 use Rattle.thor_value.specs.declared.bytes.ReadFault.{ReadFault}
 use Rattle.thor_value.specs.declared.bytes.ReadFault.TheVariants.{Short, BadTag}
 use Rattle.thor_value.proofs.Exactness.{IsBytes, IsExact, exact_done, exact_then, exact_as, exact_spelled, bind_ok, bind_err, ok_on, err_on}
 use Rattle.std.proofs.lemmas.List.{append-nil}
+use Rattle.thor_value.proofs.TextBytes.{exact_word}
 use Rattle.thor_value.proofs.Fields.{exact_byte, exact_number, wide16, wide32, wide64}
 
 apart_from_short : BadTag ≡ Short → ⊥
@@ -186,22 +188,32 @@ abbrev tag_of : Value → ℕ
 tag_of (Int z) = 1
 tag_of (Ref o) = 2
 tag_of Null = 3
+tag_of (Text w) = 4
 
 abbrev tail_of : Value → List ℕ
 tail_of (Int z) = to_be_bytes w64 (cast_unsigned w64 z)
 tail_of (Ref o) = oref_bytes o
 tail_of Null = []
+tail_of (Text w) = word_bytes w
 
--- the bits of a number, and the name in a reference
+-- the bits of a number, the name in a reference, and the bytes of a text
 abbrev bits_of : Value → ℕ
 bits_of (Int z) = cast_unsigned w64 z
 bits_of (Ref o) = 0
 bits_of Null = 0
+bits_of (Text w) = 0
 
 abbrev name_of : Value → Oref
 name_of (Int z) = named 0 0 0
 name_of (Ref o) = o
 name_of Null = named 0 0 0
+name_of (Text w) = named 0 0 0
+
+abbrev word_in : Value → List ℕ
+word_in (Int z) = []
+word_in (Ref o) = []
+word_in Null = []
+word_in (Text w) = w
 
 signed_fits : (n : ℕ) → n < 2 ^ 64 → FitsSigned w64 (cast_signed w64 n)
 signed_fits n h = sfits_to_z (Fits-of_lt h)
@@ -213,11 +225,13 @@ int_only : (t n : ℕ) → t ≡ 1 → (v : Value) → (ValueFits v × (tag_of v
 int_only t n e (Int z) h = ap (λ (y : ℤ). Int y) (sym (to_z-of_z w64 z h.0.0) ∙ ap (λ (k : ℕ). cast_signed w64 k) h.1)
 int_only t n e (Ref o) h = absurd (omega (arith, e, h.0.1))
 int_only t n e Null h = absurd (omega (arith, e, h.0.1))
+int_only t n e (Text w) h = absurd (omega (arith, e, h.0.1))
 
 int_keyed : (t : ℕ) → t ≡ 1 → (v : Value) → ValueFits v × (tag_of v ≡ t) → (bits_of v < 2 ^ 64) × (tail_of v ≡ to_be_bytes w64 (bits_of v) ++ [])
 int_keyed t e (Int z) h = (bits_below z h.0, refl)
 int_keyed t e (Ref o) h = absurd (omega (arith, e, h.1))
 int_keyed t e Null h = absurd (omega (arith, e, h.1))
+int_keyed t e (Text w) h = absurd (omega (arith, e, h.1))
 
 int_exact : (t : ℕ) → t ≡ 1 → IsExact (λ v. ValueFits v × (tag_of v ≡ t)) tail_of Short (λ rest. number w64 rest >>= λ n. Ok (Int (cast_signed w64 n.0), n.1))
 int_exact t e =
@@ -231,11 +245,13 @@ ref_only : (t : ℕ) (n : Oref) → t ≡ 2 → (v : Value) → (ValueFits v × 
 ref_only t n e (Int z) h = absurd (omega (arith, e, h.0.1))
 ref_only t n e (Ref o) h = ap (λ (y : Oref). Ref y) h.1
 ref_only t n e Null h = absurd (omega (arith, e, h.0.1))
+ref_only t n e (Text w) h = absurd (omega (arith, e, h.0.1))
 
 ref_keyed : (t : ℕ) → t ≡ 2 → (v : Value) → ValueFits v × (tag_of v ≡ t) → OrefFits (name_of v) × (tail_of v ≡ oref_bytes (name_of v) ++ [])
 ref_keyed t e (Int z) h = absurd (omega (arith, e, h.1))
 ref_keyed t e (Ref o) h = (h.0, sym (append-nil (oref_bytes o)))
 ref_keyed t e Null h = absurd (omega (arith, e, h.1))
+ref_keyed t e (Text w) h = absurd (omega (arith, e, h.1))
 
 ref_exact : (t : ℕ) → t ≡ 2 → IsExact (λ v. ValueFits v × (tag_of v ≡ t)) tail_of Short (λ rest. oref_at rest >>= λ o. Ok (Ref o.0, o.1))
 ref_exact t e =
@@ -249,6 +265,7 @@ null_only : (t : ℕ) → t ≡ 3 → (v : Value) → ValueFits v × (tag_of v �
 null_only t e (Int z) h = absurd (omega (arith, e, h.1))
 null_only t e (Ref o) h = absurd (omega (arith, e, h.1))
 null_only t e Null h = refl
+null_only t e (Text w) h = absurd (omega (arith, e, h.1))
 
 -- with no bytes behind the tag
 null_exact : (t : ℕ) → t ≡ 3 → IsExact (λ v. ValueFits v × (tag_of v ≡ t)) tail_of Short (λ rest. Ok (Null, rest))
@@ -257,27 +274,50 @@ null_exact t e = exact_spelled (λ v. ValueFits v × (tag_of v ≡ t)) (λ _. []
     none : (v : Value) → ValueFits v × (tag_of v ≡ t) → [] ≡ tail_of v
     none v h = ap tail_of (sym (null_only t e v h))
 
+word_only : (t : ℕ) (n : List ℕ) → t ≡ 4 → (v : Value) → (ValueFits v × (tag_of v ≡ t)) × (word_in v ≡ n) → v ≡ Text n
+word_only t n e (Int z) h = absurd (omega (arith, e, h.0.1))
+word_only t n e (Ref o) h = absurd (omega (arith, e, h.0.1))
+word_only t n e Null h = absurd (omega (arith, e, h.0.1))
+word_only t n e (Text w) h = ap (λ (y : List ℕ). Text y) h.1
+
+word_keyed : (t : ℕ) → t ≡ 4 → (v : Value) → ValueFits v × (tag_of v ≡ t) → (fits_word (word_in v) ≡ true) × (tail_of v ≡ word_bytes (word_in v) ++ [])
+word_keyed t e (Int z) h = absurd (omega (arith, e, h.1))
+word_keyed t e (Ref o) h = absurd (omega (arith, e, h.1))
+word_keyed t e Null h = absurd (omega (arith, e, h.1))
+word_keyed t e (Text w) h = (h.0, sym (append-nil (word_bytes w)))
+
+word_exact : (t : ℕ) → t ≡ 4 → IsExact (λ v. ValueFits v × (tag_of v ≡ t)) tail_of Short (λ rest. word_at rest >>= λ w. Ok (Text w.0, w.1))
+word_exact t e =
+    exact_then (λ w. fits_word w ≡ true) word_bytes (λ v. ValueFits v × (tag_of v ≡ t)) (λ _. []) tail_of word_in Short word_at (λ w rest. Ok (Text w, rest))
+    exact_word
+    (λ w hw. exact_done (λ v. (ValueFits v × (tag_of v ≡ t)) × (word_in v ≡ w)) Short (Text w) ((hw, sym e), refl) (word_only t w e))
+    (word_keyed t e)
+    (λ w hw. (Text w, (hw, sym e), refl))
+
 tagged : (t : ℕ) → is_tag t ≡ true → IsExact (λ v. ValueFits v × (tag_of v ≡ t)) tail_of Short (behind_tag t)
 unfolding behind_tag
 tagged zero e = absurd cc
 tagged (suc zero) e = int_exact 1 refl
 tagged (suc (suc zero)) e = ref_exact 2 refl
-tagged (suc (suc (suc n))) e =
-    let h : suc (suc n) < 3 = ltb-true (suc (suc n)) 3 e in
-    null_exact (suc (suc (suc n))) (omega arith)
+tagged (suc (suc (suc zero))) e = null_exact 3 refl
+tagged (suc (suc (suc (suc n)))) e =
+    let h : suc (suc (suc n)) < 4 = ltb-true (suc (suc (suc n))) 4 e in
+    word_exact (suc (suc (suc (suc n)))) (omega (arith, h))
 
 value_keyed : (v : Value) → ValueFits v → (is_tag (tag_of v) ≡ true) × (value_bytes v ≡ (tag_of v ∷ []) ++ tail_of v)
 value_keyed (Int z) h = (refl, refl)
 value_keyed (Ref o) h = (refl, refl)
 value_keyed Null h = (refl, refl)
+value_keyed (Text w) h = (refl, refl)
 
 some_tagged : (t : ℕ) → is_tag t ≡ true → (v : Value) × ValueFits v × (tag_of v ≡ t)
 some_tagged zero e = absurd cc
 some_tagged (suc zero) e = (Int (cast_signed w64 0), signed_fits 0 (omega arith), refl)
 some_tagged (suc (suc zero)) e = (Ref (named 0 0 0), record { repo = omega arith; page = omega arith; slot = omega arith }, refl)
-some_tagged (suc (suc (suc n))) e =
-    let h : suc (suc n) < 3 = ltb-true (suc (suc n)) 3 e in
-    (Null, tt, omega arith)
+some_tagged (suc (suc (suc zero))) e = (Null, tt, refl)
+some_tagged (suc (suc (suc (suc n)))) e =
+    let h : suc (suc (suc n)) < 4 = ltb-true (suc (suc (suc n))) 4 e in
+    (Text [], refl, omega (arith, h))
 
 exact_tag : IsExact (λ b. is_tag b ≡ true) (λ b. b ∷ []) Short tag_at
 exact_tag = exact_byte Short is_tag (λ _. BadTag) (λ b. is_tag b ≡ true) (λ b h. h) (λ b h. h) (1, refl) (λ b e. apart_from_short e)

@@ -3,10 +3,11 @@
 use Rattle.std.specs.Prelude.{ℕ, zero, suc, List, [], ◌∷◌, length, take, drop, Result, Ok, Err, nat_lt, if◌then◌else◌, Bool, false}
 use Rattle.std.specs.Int.{Width, w16, w32, w64, byte_len, from_be_bytes, cast_signed}
 use Rattle.thor_value.specs.Formats.{◌>>=◌}
+use Rattle.thor_value.specs.Words.{fits_word}
 use Rattle.thor_value.specs.declared.names.Oref.{Oref}
 use Rattle.thor_value.specs.declared.names.Ts.{Ts}
 use Rattle.thor_value.specs.declared.values.Value.{Value}
-use Rattle.thor_value.specs.declared.values.Value.TheVariants.{Int, Ref, Null}
+use Rattle.thor_value.specs.declared.values.Value.TheVariants.{Int, Ref, Null, Text}
 use Rattle.thor_value.specs.declared.bytes.ReadFault.{ReadFault}
 use Rattle.thor_value.specs.declared.bytes.ReadFault.TheVariants.{Short, BadTag}
 
@@ -53,10 +54,21 @@ ts_at bytes = do
 -- the byte that says what a value is
 abbrev pub is_tag : ℕ → Bool
 is_tag zero = false
-is_tag (suc n) = nat_lt n 3
+is_tag (suc n) = nat_lt n 4
 
 abbrev pub tag_at : List ℕ → Result (ℕ × List ℕ) ReadFault
 tag_at bytes = byte_at Short is_tag (λ _. BadTag) bytes
+
+-- so many bytes of a text, of which those that are there come first
+abbrev pub word_bytes_at : ℕ → List ℕ → Result (List ℕ × List ℕ) ReadFault
+word_bytes_at count bytes =
+    if fits_word (take count bytes) then (if nat_lt (length bytes) count then Err Short else Ok (take count bytes, drop count bytes)) else Err BadTag
+
+-- a text of at most 32 bytes
+unfoldable pub word_at : List ℕ → Result (List ℕ × List ℕ) ReadFault
+word_at bytes = do
+  count ← below_at 33 bytes
+  word_bytes_at count.0 count.1
 
 -- what stands behind that byte
 unfoldable pub behind_tag : ℕ → List ℕ → Result (Value × List ℕ) ReadFault
@@ -67,7 +79,10 @@ behind_tag (suc zero) bytes = do
 behind_tag (suc (suc zero)) bytes = do
   o ← oref_at bytes
   Ok (Ref o.0, o.1)
-behind_tag (suc (suc (suc n))) bytes = Ok (Null, bytes)
+behind_tag (suc (suc (suc zero))) bytes = Ok (Null, bytes)
+behind_tag (suc (suc (suc (suc n)))) bytes = do
+  w ← word_at bytes
+  Ok (Text w.0, w.1)
 
 unfoldable pub value_at : List ℕ → Result (Value × List ℕ) ReadFault
 value_at bytes = do

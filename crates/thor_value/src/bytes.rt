@@ -1,15 +1,18 @@
 //! The bytes of names, timestamps and values: one spelling for each, read and written exactly.
 
-ghost use Rattle.std.specs.Prelude.{◌≡◌, ◌↔◌, ℕ, List, ◌++◌, length, Ok, IfOk, OnOk, OnErr, IsErrOf};
+ghost use Rattle.std.specs.Prelude.{◌≡◌, ◌↔◌, ℕ, List, ◌++◌, length, take, Ok, IfOk, OnOk, OnErr, IsErrOf, if◌then◌else◌};
 ghost use Rattle.std.specs.Int.{w16, w32, w64};
 ghost use Rattle.thor_value.specs.Formats.{AreApart, BeginsOne, BeginsWithOne, Counts, Gives, IsAtFront};
 ghost use Rattle.thor_value.specs.Spelling.{NameFits, OrefFits, TsFits, ValueFits, oref_bytes, ts_bytes, value_bytes};
-ghost use Rattle.thor_value.specs.Reading.{behind_tag, below_at, number_at, oref_at, page_at, tag_at, time_at, ts_at, value_at};
+ghost use Rattle.thor_value.specs.declared.values.Value.TheVariants.{Text as TextOf};
+ghost use Rattle.thor_value.specs.Words.{fits_word};
+ghost use Rattle.thor_value.specs.Reading.{behind_tag, below_at, word_bytes_at, number_at, oref_at, page_at, tag_at, time_at, ts_at, value_at, word_at};
 
 use crate::lists::Text;
 use crate::memory::NoMemory;
 use crate::names::{Oref, Ts};
 use crate::values::Value;
+use crate::words::Word;
 use std::error::Error;
 use std::fmt;
 
@@ -106,7 +109,30 @@ pub fn put_value(v: Value, out: &mut Text) -> Result<(), NoMemory>
             out.extend_from_slice(&[2, o.repo, page[0], page[1], page[2], page[3], o.slot])
         }
         Value::Null => out.extend_from_slice(&[3]),
+        Value::Text(word) => put_word(word, out),
     }
+}
+
+/// Puts the one spelling of a text behind the last byte. After `NoMemory` the bytes are as they were.
+fn put_word(word: Word, out: &mut Text) -> Result<(), NoMemory>
+    ensures ok { OnOk result (out.new ≡ out.old ++ value_bytes (TextOf word)) }
+    ensures err { OnErr result (out.new ≡ out.old) }
+{
+    let before = out.len();
+    let put = put_parts(word, out);
+    if put.is_err() {
+        out.truncate(before);
+    }
+    put
+}
+
+/// Puts the parts of a text one after the other. After `NoMemory` some of them may stand there.
+fn put_parts(word: Word, out: &mut Text) -> Result<(), NoMemory>
+    ensures ok { OnOk result (out.new ≡ out.old ++ value_bytes (TextOf word)) }
+    ensures err { OnErr result (take (length out.old) out.new ≡ out.old) }
+{
+    out.extend_from_slice(&[4, word.len()])?;
+    out.extend_from_slice(word.bytes())
 }
 
 /// No spelling begins another, so whatever follows one is told apart from it.
@@ -133,8 +159,10 @@ fn counted_ts(bytes: &[u8]) -> Result<(Ts, usize), ReadFault>
 fn counted_value(bytes: &[u8]) -> Result<(Value, usize), ReadFault>
     ensures { Counts bytes.now result (value_at bytes.now) }
 {
-    let (value, rest) = value_of(bytes)?;
-    Ok((value, bytes.len() - rest.len()))
+    match value_of(bytes) {
+        Ok((value, rest)) => Ok((value, bytes.len() - rest.len())),
+        Err(fault) => Err(fault),
+    }
 }
 
 #[tactic(auto, unfolding(crate::specs::Reading::oref_at))]
@@ -179,7 +207,44 @@ fn behind(tag: u8, bytes: &[u8]) -> Result<(Value, &[u8]), ReadFault>
             let (oref, rest) = oref_of(bytes)?;
             Ok((Value::Ref(oref), rest))
         }
-        _ => Ok((Value::Null, bytes)),
+        3 => Ok((Value::Null, bytes)),
+        _ => match word_of(bytes) {
+            Ok((word, rest)) => Ok((Value::Text(word), rest)),
+            Err(fault) => Err(fault),
+        },
+    }
+}
+
+#[tactic(auto, unfolding(crate::specs::Reading::word_at))]
+fn word_of(bytes: &[u8]) -> Result<(Word, &[u8]), ReadFault>
+    ensures { Gives (λ x. (x.0, x.1.now)) result (word_at bytes.now) }
+{
+    let (count, rest) = below_of(bytes, 33)?;
+    word_bytes_of(count, rest)
+}
+
+#[tactic(auto, using(crate::proofs::TextBytes::word_cut, crate::proofs::TextBytes::word_there, crate::proofs::TextBytes::word_not_there))]
+fn word_bytes_of(count: u8, bytes: &[u8]) -> Result<(Word, &[u8]), ReadFault>
+    ensures { Gives (λ x. (x.0, x.1.now)) result (word_bytes_at count bytes.now) }
+{
+    let count = count as usize;
+    if bytes.len() < count {
+        return Err(cut_fault(bytes));
+    }
+    let (front, rest) = bytes.split_at(count);
+    match Word::new(front) {
+        Some(word) => Ok((word, rest)),
+        None => Err(ReadFault::BadTag),
+    }
+}
+
+/// What is wrong where the bytes of a text end too early.
+fn cut_fault(bytes: &[u8]) -> ReadFault
+    ensures { result ≡ if fits_word bytes.now then ReadFault.Short else ReadFault.BadTag }
+{
+    match Word::new(bytes) {
+        Some(_) => ReadFault::Short,
+        None => ReadFault::BadTag,
     }
 }
 
@@ -189,7 +254,7 @@ fn tag_of(bytes: &[u8]) -> Result<(u8, &[u8]), ReadFault>
     match bytes {
         [] => Err(ReadFault::Short),
         [tag, rest @ ..] => {
-            if *tag >= 1 && *tag <= 3 {
+            if *tag >= 1 && *tag <= 4 {
                 Ok((*tag, rest))
             } else {
                 Err(ReadFault::BadTag)

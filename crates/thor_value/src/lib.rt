@@ -11,8 +11,10 @@ mod names;
 mod oref_map;
 mod pairing;
 mod sequence;
+mod shared;
 mod step_count;
 mod values;
+mod words;
 
 pub use boxed::Boxed;
 pub use bytes::{
@@ -25,5 +27,7 @@ pub use names::{Oref, PAGES, REPOSITORIES, SLOTS, Ts};
 pub use oref_map::OrefMap;
 pub use pairing::both;
 pub use sequence::Sequence;
+pub use shared::Shared;
 pub use step_count::StepCount;
 pub use values::{Answer, Fault, Obj, Value, Who};
+pub use words::{WORD_BYTES, Word, is_text_byte};

@@ -1,6 +1,7 @@
 use crate::lists::{Ints, Values};
 use crate::memory::{NoMemory, TryCopy};
 use crate::names::{Oref, Ts};
+use crate::words::Word;
 
 /// What a field, a local or an expression holds.
 #[derive(Clone, Copy, Debug, PartialEq, Eq)]
@@ -11,6 +12,8 @@ pub enum Value {
     Ref(Oref),
     /// The reference to nothing.
     Null,
+    /// A text.
+    Text(Word),
 }
 
 /// An object as it is stored.

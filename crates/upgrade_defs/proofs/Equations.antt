@@ -4,6 +4,7 @@ use Rattle.class_defs.specs.Shape.{Shape}
 use Rattle.class_defs.specs.Words.{Word}
 use Rattle.class_defs.specs.declared.expressions.Name.{Name}
 use Rattle.class_defs.specs.declared.expressions.Operator.{Operator}
+use Rattle.class_defs.specs.declared.literals.Literal.{Literal}
 use Rattle.class_defs.specs.declared.upgrades.Tf.{Tf}
 use Rattle.class_defs.specs.declared.upgrades.Tf.TheFolds.{fold-roll-Tf}
 use Rattle.class_defs.specs.declared.upgrades.Tf.TheOpen.{Tf-F}
@@ -17,11 +18,11 @@ words-Null l = ap tf_words (sym (tf.rolls-Null l)) ∙ fold-roll-Tf (List Word) 
 pub shape-Null : (l : ℕ) → tf_shape (tf.Null l) ≡ tf_shape_step (Tf-F.Null l)
 shape-Null l = ap tf_shape (sym (tf.rolls-Null l)) ∙ fold-roll-Tf Shape tf_shape_step (Tf-F.Null l)
 
-pub words-Int : (v : ℤ) (l : ℕ) → tf_words (tf.Int v l) ≡ tf_step (Tf-F.Int v l)
-words-Int v l = ap tf_words (sym (tf.rolls-Int v l)) ∙ fold-roll-Tf (List Word) tf_step (Tf-F.Int v l)
+pub words-Literal : (v : Literal) (l : ℕ) → tf_words (tf.Literal v l) ≡ tf_step (Tf-F.Literal v l)
+words-Literal v l = ap tf_words (sym (tf.rolls-Literal v l)) ∙ fold-roll-Tf (List Word) tf_step (Tf-F.Literal v l)
 
-pub shape-Int : (v : ℤ) (l : ℕ) → tf_shape (tf.Int v l) ≡ tf_shape_step (Tf-F.Int v l)
-shape-Int v l = ap tf_shape (sym (tf.rolls-Int v l)) ∙ fold-roll-Tf Shape tf_shape_step (Tf-F.Int v l)
+pub shape-Literal : (v : Literal) (l : ℕ) → tf_shape (tf.Literal v l) ≡ tf_shape_step (Tf-F.Literal v l)
+shape-Literal v l = ap tf_shape (sym (tf.rolls-Literal v l)) ∙ fold-roll-Tf Shape tf_shape_step (Tf-F.Literal v l)
 
 pub words-Path : (ns : List Name) (l : ℕ) → tf_words (tf.Path ns l) ≡ tf_step (Tf-F.Path ns l)
 words-Path ns l = ap tf_words (sym (tf.rolls-Path ns l)) ∙ fold-roll-Tf (List Word) tf_step (Tf-F.Path ns l)
@@ -49,13 +50,13 @@ shape-Binary o x y l = ap tf_shape (sym (tf.rolls-Binary o x y l)) ∙ fold-roll
 
 pub ruleset the_forms = (
   words-Null,
-  words-Int,
+  words-Literal,
   words-Path,
   words-Parens,
   words-Negate,
   words-Binary,
   shape-Null,
-  shape-Int,
+  shape-Literal,
   shape-Path,
   shape-Parens,
   shape-Negate,

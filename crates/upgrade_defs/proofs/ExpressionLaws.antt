@@ -7,20 +7,21 @@ use Rattle.std.proofs.lemmas.Bool.{ltb-true, le-leb, and_from, and_parts}
 use Rattle.class_defs.specs.Shape.{Shape, left_level, level_of, right_level}
 use Rattle.class_defs.specs.Words.{Word, Fixed, FixedAt, Numbered, in_turn, name_word, symbol_of}
 use Rattle.class_defs.specs.declared.expressions.Name.{Name}
+use Rattle.class_defs.specs.declared.literals.Literal.TheVariants as literal
 use Rattle.class_defs.specs.declared.upgrades.Tf.{Tf}
 use Rattle.class_defs.specs.declared.upgrades.Tf.TheVariants as tf
 use Rattle.script_text.specs.declared.token.Token.{Token}
 use Rattle.method_parse.specs.Expressions.{operator_in, tighter}
-use Rattle.method_parse.specs.Matching.{AreWords, is}
+use Rattle.method_parse.specs.Matching.{AreWords, is, is_quoted}
 use Rattle.method_parse.specs.declared.deep.Level.{Level}
 use Rattle.method_parse.specs.declared.deep.Level.TheVariants as levels
 use Rattle.method_parse.proofs.ExpressionLaws.{HasOperators, left_tight, lawful_operator, sums, terms}
 use Rattle.method_parse.proofs.Fits.{FitsIn, tightness}
 use Rattle.method_parse.proofs.Lawful.{Says, Lawful, behind, lawful_bind, lawful_if, lawful_last, lawful_repeat, lawful_repeat_all}
-use Rattle.method_parse.proofs.Matched.{join, lawful_name, lawful_number, lawful_word, plain}
+use Rattle.method_parse.proofs.Matched.{join, lawful_name, lawful_number, lawful_quoted, lawful_word, plain}
 use Rattle.method_parse.proofs.SetupLaws.{Any, IsOne, turn-push}
 use Rattle.upgrade_defs.specs.Expressions.{Parts, all_names, at_level, dotted, expression_in, in_parens, integer, is_dot, is_join, is_minus, is_open, joined, joins, leaf, more_names, negated, parens, path, primary, sum, term, unary, value}
-use Rattle.upgrade_defs.specs.Grammar.{IsTf, has_names, tf_shape}
+use Rattle.upgrade_defs.specs.Grammar.{IsTf, alone, has_names, tf_shape}
 use Rattle.upgrade_defs.specs.Spelling.{dot_name, tf_words}
 use Rattle.upgrade_defs.specs.declared.deep.Deep.{Deep}
 use Rattle.upgrade_defs.proofs.Equations as eq
@@ -110,8 +111,8 @@ module _ (room below : ℕ) (deeper : room ≡ below + 1) (parts : Parts)
 
   lawful_integer : Lawful (Here 3) integer
   unfolding integer
-  lawful_integer = lawful_last (λ n. leaf (tf.Int (pos n.0) n.1)) lawful_number (λ n f s.
-      leaf_read (tf.Int (pos n.0) n.1) true f (Numbered (pos n.0) n.1 ∷ []) (eq.words-Int (pos n.0) n.1) (eq.shape-Int (pos n.0) n.1) refl s)
+  lawful_integer = lawful_last (λ n. leaf (tf.Literal (literal.Int (pos n.0)) n.1)) lawful_number (λ n f s.
+      leaf_read (tf.Literal (literal.Int (pos n.0)) n.1) true f (Numbered (pos n.0) n.1 ∷ []) (eq.words-Literal (literal.Int (pos n.0)) n.1) (eq.shape-Literal (literal.Int (pos n.0)) n.1) refl s)
 
   lawful_parens : 0 < below → Lawful (Here 3) (parens (parts levels.Sum))
   unfolding parens
@@ -245,6 +246,15 @@ null_is l =
       proper = ap (λ (x : Shape). x.proper) s;
     }
 
+text_is : (w : List ℕ) (l : ℕ) → IsTf (tf.Literal (literal.Text w) l)
+text_is w l =
+    let s : tf_shape (tf.Literal (literal.Text w) l) ≡ alone = eq.shape-Literal (literal.Text w) l in
+    record {
+      depth = subst (λ (x : Shape). x.depth ≤ 32) (sym s) (omega arith);
+      nesting = subst (λ (x : Shape). x.nesting ≤ 64) (sym s) (omega arith);
+      proper = ap (λ (x : Shape). x.proper) s;
+    }
+
 pub lawful_value : Lawful (IsOne tf_words IsTf) value
 unfolding value
 lawful_value =
@@ -253,7 +263,12 @@ lawful_value =
       spelled = subst (λ (w : List Word). AreWords f w) (sym (eq.words-Null l)) s;
       is = null_is l;
     }))
+    (lawful_if is_quoted
+    (λ t p. lawful_last (λ w. tf.Literal (literal.Text w.0) w.1) lawful_quoted (λ w f s. record {
+      spelled = subst (λ (v : List Word). AreWords f v) (sym (eq.words-Literal (literal.Text w.0) w.1)) s;
+      is = text_is w.0 w.1;
+    }))
     (lawful_last (λ d. d.value) (lawful_expression 32 levels.Sum (omega arith)) (λ d f s. record {
       spelled = s.spelled;
       is = record { depth = omega (arith, s.fits.deep, s.fits.within); nesting = omega (arith, s.fits.nested); proper = s.fits.proper };
-    }))
+    })))

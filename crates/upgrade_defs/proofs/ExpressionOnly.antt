@@ -4,25 +4,28 @@ use Rattle.std.specs.Prelude.{codes, ◌&&◌, nat_lt, nat_le, option_map}
 use Rattle.std.specs.Option.{is_some}
 use Rattle.std.proofs.lemmas.Bool.{leb-true, leb-false, lt-ltb, and_from, and_parts}
 use Rattle.class_defs.specs.Shape.{Shape, left_level, level_of, right_level}
-use Rattle.class_defs.specs.Words.{Word, Fixed, FixedAt, Numbered, in_turn, symbol_of}
+use Rattle.class_defs.specs.Words.{Word, Fixed, FixedAt, Numbered, Quoted, in_turn, symbol_of}
 use Rattle.class_defs.specs.declared.expressions.Name.{Name}
 use Rattle.class_defs.specs.declared.expressions.Operator.{Operator}
 use Rattle.class_defs.specs.declared.expressions.Operator.TheVariants as operators
+use Rattle.class_defs.specs.declared.literals.Literal.TheVariants as literal
 use Rattle.class_defs.specs.declared.upgrades.Tf.{Tf, map-Tf, out-Tf, roll-Tf, roll-out-Tf}
 use Rattle.class_defs.specs.declared.upgrades.Tf.TheFolds.{fold-roll-Tf}
 use Rattle.class_defs.specs.declared.upgrades.Tf.TheOpen.{Tf-F}
 use Rattle.class_defs.specs.declared.upgrades.Tf.TheVariants as tf
 use Rattle.script_text.specs.declared.token.Token.{Token}
-use Rattle.script_text.specs.Marks.{number_in}
+use Rattle.script_text.specs.declared.token.TokenKind.{TokenKind}
+use Rattle.script_text.specs.declared.token.TokenKind.TheVariants as kinds
+use Rattle.script_text.specs.Marks.{number_by, number_in, text_by}
 use Rattle.method_parse.specs.Expressions.{operator, operator_in, tighter}
-use Rattle.method_parse.specs.Matching.{AreWords, is}
+use Rattle.method_parse.specs.Matching.{AreWords, IsWord, is, is_fixed_kind, is_quoted, is_quoted_kind}
 use Rattle.method_parse.specs.Reader.{Reader, ◌>>=◌, onward, give, name, next, repeat, word}
 use Rattle.method_parse.specs.declared.deep.Level.{Level}
 use Rattle.method_parse.specs.declared.deep.Level.TheVariants as levels
-use Rattle.method_parse.proofs.Eats.{Stops, first, line_then, name_then, nothing, number_then, part_then, split, stop_close, stops_before, word_then}
+use Rattle.method_parse.proofs.Eats.{Stops, first, line_then, is_not, name_then, nothing, number_then, part_then, quoted_then, split, stop_close, stops_before, word_then}
 use Rattle.method_parse.proofs.Fits.{tightness}
 use Rattle.method_parse.proofs.ListOnly.{bind_assoc, head_fails, head_passes, turn}
-use Rattle.method_parse.proofs.OperatorOnly.{left_above, left_some, loosen, number_plain, operator_found, operator_stops, operator_takes, weak}
+use Rattle.method_parse.proofs.OperatorOnly.{left_above, left_some, loosen, number_plain, operator_found, operator_stops, operator_takes, quoted_plain, weak}
 use Rattle.method_parse.proofs.Repeats.{no_turn}
 use Rattle.method_parse.proofs.SetupOnly.{Any, all_any}
 use Rattle.method_parse.proofs.StatementOnly.{gives}
@@ -41,7 +44,8 @@ depth_of o = ap (λ (s : Shape). s.depth) (fold-roll-Tf Shape tf_shape_step o)
 
 positive_roll : (o : Tf-F Tf) → 0 < (tf_shape (roll-Tf o)).depth
 positive_roll (Tf-F.Null l) = omega (arith, depth_of (Tf-F.Null l))
-positive_roll (Tf-F.Int v l) = omega (arith, depth_of (Tf-F.Int v l))
+positive_roll (Tf-F.Literal (literal.Int v) l) = omega (arith, depth_of (Tf-F.Literal (literal.Int v) l))
+positive_roll (Tf-F.Literal (literal.Text v) l) = omega (arith, depth_of (Tf-F.Literal (literal.Text v) l))
 positive_roll (Tf-F.Path ns l) = omega (arith, depth_of (Tf-F.Path ns l))
 positive_roll (Tf-F.Parens x l) = omega (arith, depth_of (Tf-F.Parens x l))
 positive_roll (Tf-F.Negate x l) = omega (arith, depth_of (Tf-F.Negate x l))
@@ -112,21 +116,21 @@ path_reads (n ∷ ns) l ts rest h some ends =
     (λ front more p q. first_reads n front (more ++ rest) p)
     (λ vs m. ap (λ r. onward r (λ (names : List Name). give (leaf (tf.Path names l)))) (names_read ns (n ∷ []) vs rest m ends)))
 
-natural_reads : (n l : ℕ) (ts rest : List Token) → AreWords ts (Numbered (pos n) l ∷ []) → integer (ts ++ rest) ≡ got (leaf (tf.Int (pos n) l)) rest
+natural_reads : (n l : ℕ) (ts rest : List Token) → AreWords ts (Numbered (pos n) l ∷ []) → integer (ts ++ rest) ≡ got (leaf (tf.Literal (literal.Int (pos n)) l)) rest
 unfolding integer
 natural_reads n l ts rest k =
-    number_then rest _ n l [] ts (λ m. give (leaf (tf.Int (pos m.0) m.1))) k
-    (λ us m. ap (λ (u : List Token). got (leaf (tf.Int (pos n) l)) (u ++ rest)) (nothing us m))
+    number_then rest _ n l [] ts (λ m. give (leaf (tf.Literal (literal.Int (pos m.0)) m.1))) k
+    (λ us m. ap (λ (u : List Token). got (leaf (tf.Literal (literal.Int (pos n)) l)) (u ++ rest)) (nothing us m))
 
 int_by : (v : ℤ) (l : ℕ) (o : Option ℕ) (ts rest : List Token) → option_map pos o ≡ Some v → AreWords ts (Numbered v l ∷ [])
-    → integer (ts ++ rest) ≡ got (leaf (tf.Int v l)) rest
+    → integer (ts ++ rest) ≡ got (leaf (tf.Literal (literal.Int v) l)) rest
 int_by v l (Some n) ts rest is k =
     let same : pos n ≡ v = cc in
-    subst (λ (w : ℤ). integer (ts ++ rest) ≡ got (leaf (tf.Int w l)) rest) same
+    subst (λ (w : ℤ). integer (ts ++ rest) ≡ got (leaf (tf.Literal (literal.Int w) l)) rest) same
     (natural_reads n l ts rest (subst (λ (w : ℤ). AreWords ts (Numbered w l ∷ [])) (sym same) k))
 int_by v l None ts rest is k = absurd cc
 
-integer_reads : (v : ℤ) (l : ℕ) (ts rest : List Token) → AreWords ts (Numbered v l ∷ []) → integer (ts ++ rest) ≡ got (leaf (tf.Int v l)) rest
+integer_reads : (v : ℤ) (l : ℕ) (ts rest : List Token) → AreWords ts (Numbered v l ∷ []) → integer (ts ++ rest) ≡ got (leaf (tf.Literal (literal.Int v) l)) rest
 integer_reads v l ts rest k =
     let f = first ts (Numbered v l) [] k in
     int_by v l (number_in f.token) ts rest f.is.0 k
@@ -159,14 +163,14 @@ module _ (room below : ℕ) (deeper : room ≡ below + 1) (parts : Parts)
   abbrev unary_here : Reader Deep
   unary_here = unary room parts
 
-  int_case : (v : ℤ) (l : ℕ) (ts rest : List Token) → AreWords ts (tf_words (tf.Int v l)) → unary_here (ts ++ rest) ≡ got (deep (tf.Int v l)) rest
+  int_case : (v : ℤ) (l : ℕ) (ts rest : List Token) → AreWords ts (tf_words (tf.Literal (literal.Int v) l)) → unary_here (ts ++ rest) ≡ got (deep (tf.Literal (literal.Int v) l)) rest
   unfolding unary primary
   int_case v l ts rest h =
-      let k : AreWords ts (Numbered v l ∷ []) = subst (λ (w : List Word). AreWords ts w) (eq.words-Int v l) h in
+      let k : AreWords ts (Numbered v l ∷ []) = subst (λ (w : List Word). AreWords ts w) (eq.words-Literal (literal.Int v) l) h in
       rw (test_fails (codes "-") (ts ++ rest) (number_fails v l (codes "-") ts rest [] k))
       (rw (number_fails v l (codes "old") ts rest [] k)
       (rw (test_fails (codes "(") (ts ++ rest) (number_fails v l (codes "(") ts rest [] k))
-      (integer_reads v l ts rest k ∙ read_is (tf.Int v l) 1 rest (depth_is (eq.shape-Int v l)))))
+      (integer_reads v l ts rest k ∙ read_is (tf.Literal (literal.Int v) l) 1 rest (depth_is (eq.shape-Literal (literal.Int v) l)))))
 
   path_case : (ns : List Name) (l : ℕ) → Fit 3 (tf.Path ns l) → (ts rest : List Token) → AreWords ts (tf_words (tf.Path ns l))
       → next (is (codes ".")) rest ≡ false → unary_here (ts ++ rest) ≡ got (deep (tf.Path ns l)) rest
@@ -241,8 +245,10 @@ module _ (room below : ℕ) (deeper : room ≡ below + 1) (parts : Parts)
       → unary_here (ts ++ rest) ≡ got (deep x) rest
   unary_variant (Tf-F.Null l) x is fit ts rest h stops = absurd
       (too_loose x _ (ap tf_shape (sym is ∙ tf.rolls-Null l) ∙ eq.shape-Null l) (omega arith) fit)
-  unary_variant (Tf-F.Int v l) x is fit ts rest h stops =
-      let back : tf.Int v l ≡ x = sym (tf.rolls-Int v l) ∙ is in
+  unary_variant (Tf-F.Literal (literal.Text v) l) x is fit ts rest h stops = absurd
+      (too_loose x _ (ap tf_shape (sym is ∙ tf.rolls-Literal (literal.Text v) l) ∙ eq.shape-Literal (literal.Text v) l) (omega arith) fit)
+  unary_variant (Tf-F.Literal (literal.Int v) l) x is fit ts rest h stops =
+      let back : tf.Literal (literal.Int v) l ≡ x = sym (tf.rolls-Literal (literal.Int v) l) ∙ is in
       subst (λ (z : Tf). unary_here (ts ++ rest) ≡ got (deep z) rest) back
       (int_case v l ts rest (subst (λ (z : Tf). AreWords ts (tf_words z)) (sym back) h))
   unary_variant (Tf-F.Path ns l) x is fit ts rest h stops =
@@ -383,7 +389,10 @@ module _ (room below : ℕ) (deeper : room ≡ below + 1) (parts : Parts)
     row_form : (m : ℕ) → RowTo m → (o : Tf-F Tf) (x : Tf) → roll-Tf o ≡ x → (tf_shape x).depth ≤ suc m → Fit (tightness level) x → Row x
     row_form m to (Tf-F.Null l) x is le fit = absurd
         (null_none x (ap (λ (s : Shape). s.level) (ap tf_shape (sym is ∙ tf.rolls-Null l) ∙ eq.shape-Null l)) fit)
-    row_form m to (Tf-F.Int v l) x is le fit = row_base x (raise x _ (ap tf_shape (sym is ∙ tf.rolls-Int v l) ∙ eq.shape-Int v l) (omega arith) fit)
+    row_form m to (Tf-F.Literal (literal.Text v) l) x is le fit = absurd
+        (null_none x (ap (λ (s : Shape). s.level) (ap tf_shape (sym is ∙ tf.rolls-Literal (literal.Text v) l) ∙ eq.shape-Literal (literal.Text v) l)) fit)
+    row_form m to (Tf-F.Literal (literal.Int v) l) x is le fit = row_base x
+        (raise x _ (ap tf_shape (sym is ∙ tf.rolls-Literal (literal.Int v) l) ∙ eq.shape-Literal (literal.Int v) l) (omega arith) fit)
     row_form m to (Tf-F.Path ns l) x is le fit = row_base x
         (raise x _ (ap tf_shape (sym is ∙ tf.rolls-Path ns l) ∙ eq.shape-Path ns l) (omega arith) fit)
     row_form m to (Tf-F.Parens y l) x is le fit = row_base x
@@ -436,7 +445,7 @@ expression_reads zero level lt = absurd (omega arith)
 expression_reads (suc depth) level lt = at_level_reads (suc depth) depth (omega arith) (expression_in depth)
     (λ more l. expression_reads depth l more) level
 
--- ---- `null`, or a sum
+-- ---- `null`, a text, or a sum
 
 raised : (x : Tf) (s : Shape) → tf_shape x ≡ s → 1 ≤ s.level → IsTf x → Suits 32 1 (tf_shape x)
 raised x s same le is = record {
@@ -457,44 +466,89 @@ left_fits o l r line fit =
     let a = and_parts (tf_shape l).proper (nat_le (left_level o) (tf_shape l).level) two.0 in
     record { within = omega (arith, f.within); tight = omega (arith, left_some o, leb-true (left_level o) (tf_shape l).level a.1); proper = a.0 }
 
--- a sum doesn't begin with `null`
-abbrev NoNull : ℕ → Type 0
-NoNull m = (x : Tf) → (tf_shape x).depth ≤ m → Suits 32 1 (tf_shape x) → (ts rest : List Token) → AreWords ts (tf_words x)
-    → next (is (codes "null")) (ts ++ rest) ≡ false
+-- what the next token is, by the word that it is
+at_word : (test : Token → Bool) (b : Bool) (w : Word) (ts rest : List Token) (ws : List Word) → AreWords ts (w ∷ ws) → ((t : Token) → IsWord t w → test t ≡ b) → next test (ts ++ rest) ≡ b
+at_word test b w [] rest ws h one = absurd h
+at_word test b w (t ∷ ts) rest ws h one = one t h.0
 
-no_null_form : (m : ℕ) → NoNull m → (o : Tf-F Tf) (x : Tf) → roll-Tf o ≡ x → (tf_shape x).depth ≤ suc m → Suits 32 1 (tf_shape x)
-    → (ts rest : List Token) → AreWords ts (tf_words x) → next (is (codes "null")) (ts ++ rest) ≡ false
-no_null_form m to (Tf-F.Null l) x at le fit ts rest h =
-    let level : (tf_shape x).level ≡ 0 = ap (λ (s : Shape). s.level) (ap tf_shape (sym at ∙ tf.rolls-Null l) ∙ eq.shape-Null l) in
-    absurd (omega (arith, fit.tight))
-no_null_form m to (Tf-F.Int v l) x at le fit ts rest h =
-    number_fails v l (codes "null") ts rest []
-    (subst (λ (w : List Word). AreWords ts w) (ap tf_words (sym at ∙ tf.rolls-Int v l) ∙ eq.words-Int v l) h)
-no_null_form m to (Tf-F.Path ns l) x at le fit ts rest h =
-    head_fails (codes "old") (codes "null") ts rest _
-    (weak ts (codes "old") l _ (subst (λ (w : List Word). AreWords ts w) (ap tf_words (sym at ∙ tf.rolls-Path ns l) ∙ eq.words-Path ns l) h)) refl
-no_null_form m to (Tf-F.Parens y l) x at le fit ts rest h =
-    head_fails (codes "(") (codes "null") ts rest _
-    (weak ts (codes "(") l _ (subst (λ (w : List Word). AreWords ts w) (ap tf_words (sym at ∙ tf.rolls-Parens y l) ∙ eq.words-Parens y l) h)) refl
-no_null_form m to (Tf-F.Negate y l) x at le fit ts rest h =
-    head_fails (codes "-") (codes "null") ts rest _
-    (weak ts (codes "-") l _ (subst (λ (w : List Word). AreWords ts w) (ap tf_words (sym at ∙ tf.rolls-Negate y l) ∙ eq.words-Negate y l) h)) refl
-no_null_form m to (Tf-F.Binary o y z l) x at le fit ts rest h =
-    let back : x ≡ tf.Binary o y z l = sym at ∙ tf.rolls-Binary o y z l in
-    let s = split ts (tf_words y) _ (subst (λ (w : List Word). AreWords ts w) (ap tf_words back ∙ eq.words-Binary o y z l) h) in
-    let e1 : ts ++ rest ≡ s.front ++ (s.rest ++ rest) = ap (λ (u : List Token). u ++ rest) s.parts ∙ append_assoc s.front s.rest rest in
-    ap (next (is (codes "null"))) e1
-    ∙ to y (omega (arith, depth_is (ap tf_shape back ∙ eq.shape-Binary o y z l)))
-    (left_fits o y z l (subst (λ (u : Tf). Suits 32 1 (tf_shape u)) back fit)) s.front (s.rest ++ rest) s.first
+-- no token with which a sum begins passes the test
+record Misses (test : Token → Bool) : Type 0 where
+  number : (t : Token) (v : ℤ) (l : ℕ) → IsWord t (Numbered v l) → test t ≡ false
+  old_word : (t : Token) (l : ℕ) → IsWord t (FixedAt (codes "old") l) → test t ≡ false
+  open_word : (t : Token) (l : ℕ) → IsWord t (FixedAt (codes "(") l) → test t ≡ false
+  minus : (t : Token) (l : ℕ) → IsWord t (FixedAt (codes "-") l) → test t ≡ false
 
-no_null : (m : ℕ) → NoNull m
-no_null zero x le fit ts rest h = absurd (omega (arith, positive x))
-no_null (suc m) x le fit ts rest h = no_null_form m (no_null m) (out-Tf x) x (roll-out-Tf x) le fit ts rest h
+misses_null : Misses (is (codes "null"))
+misses_null = record {
+  number = λ t v l w. rw (number_plain t.kind t.text v w.0) refl;
+  old_word = λ t l w. is_not (codes "old") (codes "null") t w.1 refl;
+  open_word = λ t l w. is_not (codes "(") (codes "null") t w.1 refl;
+  minus = λ t l w. is_not (codes "-") (codes "null") t w.1 refl;
+}
+
+number_no_text : (k : TokenKind) (text : List ℕ) (v : ℤ) → option_map pos (number_by k text) ≡ Some v → is_quoted_kind k ≡ false
+number_no_text kinds.Name text v e = refl
+number_no_text kinds.Number text v e = refl
+number_no_text kinds.Keyword text v e = refl
+number_no_text kinds.Symbol text v e = refl
+number_no_text kinds.Quoted text v e = absurd cc
+
+fixed_no_text : (k : TokenKind) → is_fixed_kind k ≡ true → is_quoted_kind k ≡ false
+fixed_no_text kinds.Name f = refl
+fixed_no_text kinds.Number f = refl
+fixed_no_text kinds.Keyword f = refl
+fixed_no_text kinds.Symbol f = refl
+fixed_no_text kinds.Quoted f = absurd cc
+
+misses_text : Misses is_quoted
+misses_text = record {
+  number = λ t v l w. number_no_text t.kind t.text v w.0;
+  old_word = λ t l w. fixed_no_text t.kind w.0;
+  open_word = λ t l w. fixed_no_text t.kind w.0;
+  minus = λ t l w. fixed_no_text t.kind w.0;
+}
+
+-- a sum begins with no such token
+module _ (test : Token → Bool) (misses : Misses test) where
+  abbrev NoSum : ℕ → Type 0
+  NoSum m = (x : Tf) → (tf_shape x).depth ≤ m → Suits 32 1 (tf_shape x) → (ts rest : List Token) → AreWords ts (tf_words x) → next test (ts ++ rest) ≡ false
+
+  no_sum_form : (m : ℕ) → NoSum m → (o : Tf-F Tf) (x : Tf) → roll-Tf o ≡ x → (tf_shape x).depth ≤ suc m → Suits 32 1 (tf_shape x)
+      → (ts rest : List Token) → AreWords ts (tf_words x) → next test (ts ++ rest) ≡ false
+  no_sum_form m to (Tf-F.Null l) x at le fit ts rest h =
+      let level : (tf_shape x).level ≡ 0 = ap (λ (s : Shape). s.level) (ap tf_shape (sym at ∙ tf.rolls-Null l) ∙ eq.shape-Null l) in
+      absurd (omega (arith, fit.tight))
+  no_sum_form m to (Tf-F.Literal (literal.Text v) l) x at le fit ts rest h =
+      let level : (tf_shape x).level ≡ 0 = ap (λ (s : Shape). s.level) (ap tf_shape (sym at ∙ tf.rolls-Literal (literal.Text v) l) ∙ eq.shape-Literal (literal.Text v) l) in
+      absurd (omega (arith, fit.tight))
+  no_sum_form m to (Tf-F.Literal (literal.Int v) l) x at le fit ts rest h =
+      at_word test false (Numbered v l) ts rest []
+      (subst (λ (w : List Word). AreWords ts w) (ap tf_words (sym at ∙ tf.rolls-Literal (literal.Int v) l) ∙ eq.words-Literal (literal.Int v) l) h) (λ t w. misses.number t v l w)
+  no_sum_form m to (Tf-F.Path ns l) x at le fit ts rest h =
+      at_word test false (FixedAt (codes "old") l) ts rest _
+      (subst (λ (w : List Word). AreWords ts w) (ap tf_words (sym at ∙ tf.rolls-Path ns l) ∙ eq.words-Path ns l) h) (λ t w. misses.old_word t l w)
+  no_sum_form m to (Tf-F.Parens y l) x at le fit ts rest h =
+      at_word test false (FixedAt (codes "(") l) ts rest _
+      (subst (λ (w : List Word). AreWords ts w) (ap tf_words (sym at ∙ tf.rolls-Parens y l) ∙ eq.words-Parens y l) h) (λ t w. misses.open_word t l w)
+  no_sum_form m to (Tf-F.Negate y l) x at le fit ts rest h =
+      at_word test false (FixedAt (codes "-") l) ts rest _
+      (subst (λ (w : List Word). AreWords ts w) (ap tf_words (sym at ∙ tf.rolls-Negate y l) ∙ eq.words-Negate y l) h) (λ t w. misses.minus t l w)
+  no_sum_form m to (Tf-F.Binary o y z l) x at le fit ts rest h =
+      let back : x ≡ tf.Binary o y z l = sym at ∙ tf.rolls-Binary o y z l in
+      let s = split ts (tf_words y) _ (subst (λ (w : List Word). AreWords ts w) (ap tf_words back ∙ eq.words-Binary o y z l) h) in
+      let e1 : ts ++ rest ≡ s.front ++ (s.rest ++ rest) = ap (λ (u : List Token). u ++ rest) s.parts ∙ append_assoc s.front s.rest rest in
+      ap (next test) e1
+      ∙ to y (omega (arith, depth_is (ap tf_shape back ∙ eq.shape-Binary o y z l)))
+      (left_fits o y z l (subst (λ (u : Tf). Suits 32 1 (tf_shape u)) back fit)) s.front (s.rest ++ rest) s.first
+
+  no_sum : (m : ℕ) → NoSum m
+  no_sum zero x le fit ts rest h = absurd (omega (arith, positive x))
+  no_sum (suc m) x le fit ts rest h = no_sum_form m (no_sum m) (out-Tf x) x (roll-out-Tf x) le fit ts rest h
 
 sum_case : (x : Tf) → Suits 32 1 (tf_shape x) → (ts rest : List Token) → AreWords ts (tf_words x) → Stops 1 rest → value (ts ++ rest) ≡ gives x rest
 unfolding value
 sum_case x fit ts rest h stops =
-    rw (no_null (tf_shape x).depth x (omega arith) fit ts rest h)
+    rw (no_sum (is (codes "null")) misses_null (tf_shape x).depth x (omega arith) fit ts rest h, no_sum is_quoted misses_text (tf_shape x).depth x (omega arith) fit ts rest h)
     (ap (λ (r : Result (Deep × List Token) ℕ). onward r (λ read. give read.value))
     (expression_reads 32 levels.Sum (omega arith) x ts rest h fit stops))
 
@@ -505,6 +559,22 @@ null_case l ts rest h =
     rw (head_passes (codes "null") ts rest _ (weak ts (codes "null") l [] k))
     (line_then rest _ (codes "null") l [] ts (λ line. give (tf.Null line)) k
     (λ us m. ap (λ (u : List Token). gives (tf.Null l) (u ++ rest)) (nothing us m)))
+
+quoted_is : (k : TokenKind) (text w : List ℕ) → text_by k text ≡ Some w → is_quoted_kind k ≡ true
+quoted_is kinds.Name text w e = absurd cc
+quoted_is kinds.Number text w e = absurd cc
+quoted_is kinds.Keyword text w e = absurd cc
+quoted_is kinds.Symbol text w e = absurd cc
+quoted_is kinds.Quoted text w e = refl
+
+text_case : (v : List ℕ) (l : ℕ) (ts rest : List Token) → AreWords ts (Quoted v l ∷ []) → value (ts ++ rest) ≡ gives (tf.Literal (literal.Text v) l) rest
+unfolding value
+text_case v l ts rest k =
+    let no_null : next (is (codes "null")) (ts ++ rest) ≡ false = at_word (is (codes "null")) false (Quoted v l) ts rest [] k (λ t w. rw (quoted_plain t.kind t.text v w.0) refl) in
+    let text : next is_quoted (ts ++ rest) ≡ true = at_word is_quoted true (Quoted v l) ts rest [] k (λ t w. quoted_is t.kind t.text v w.0) in
+    rw (no_null, text)
+    (quoted_then rest _ v l [] ts (λ m. give (tf.Literal (literal.Text m.0) m.1)) k
+    (λ us m. ap (λ (u : List Token). gives (tf.Literal (literal.Text v) l) (u ++ rest)) (nothing us m)))
 
 binary_level : (o : Operator) (l r : Tf) (line : ℕ) → IsTf (tf.Binary o l r line) → 1 ≤ level_of o
 binary_level o l r line is =
@@ -521,8 +591,12 @@ value_form : (o : Tf-F Tf) (x : Tf) → roll-Tf o ≡ x → IsTf x → (ts rest 
 value_form (Tf-F.Null l) x at is ts rest h stops =
     let back : tf.Null l ≡ x = sym (tf.rolls-Null l) ∙ at in
     subst (λ (z : Tf). value (ts ++ rest) ≡ gives z rest) back (null_case l ts rest (subst (λ (z : Tf). AreWords ts (tf_words z)) (sym back) h))
-value_form (Tf-F.Int v l) x at is ts rest h stops = sum_case x
-    (raised x _ (ap tf_shape (sym at ∙ tf.rolls-Int v l) ∙ eq.shape-Int v l) (omega arith) is) ts rest h stops
+value_form (Tf-F.Literal (literal.Text v) l) x at is ts rest h stops =
+    let k : AreWords ts (Quoted v l ∷ []) = subst (λ (w : List Word). AreWords ts w) (ap tf_words (sym at ∙ tf.rolls-Literal (literal.Text v) l) ∙ eq.words-Literal (literal.Text v) l) h in
+    let back : tf.Literal (literal.Text v) l ≡ x = sym (tf.rolls-Literal (literal.Text v) l) ∙ at in
+    subst (λ (z : Tf). value (ts ++ rest) ≡ gives z rest) back (text_case v l ts rest k)
+value_form (Tf-F.Literal (literal.Int v) l) x at is ts rest h stops = sum_case x
+    (raised x _ (ap tf_shape (sym at ∙ tf.rolls-Literal (literal.Int v) l) ∙ eq.shape-Literal (literal.Int v) l) (omega arith) is) ts rest h stops
 value_form (Tf-F.Path ns l) x at is ts rest h stops = sum_case x
     (raised x _ (ap tf_shape (sym at ∙ tf.rolls-Path ns l) ∙ eq.shape-Path ns l) (omega arith) is) ts rest h stops
 value_form (Tf-F.Parens y l) x at is ts rest h stops = sum_case x

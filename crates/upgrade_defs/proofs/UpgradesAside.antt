@@ -9,6 +9,7 @@ use Rattle.class_defs.specs.Shape.{Shape, leaf}
 use Rattle.class_defs.specs.Spelling.{method_words}
 use Rattle.class_defs.specs.Words.{Word, Fixed, FixedAt, in_turn, name_word, symbol_of}
 use Rattle.class_defs.specs.declared.expressions.Name.{Name}
+use Rattle.class_defs.specs.declared.literals.Literal.TheVariants as literal
 use Rattle.class_defs.specs.declared.upgrades.ClassUpgrade.{ClassUpgrade}
 use Rattle.class_defs.specs.declared.upgrades.FieldUpgrade.{FieldUpgrade}
 use Rattle.class_defs.specs.declared.upgrades.Tf.{Tf, map-Tf, roll-Tf}
@@ -56,7 +57,8 @@ names_stay (n ∷ ns) = refl
 
 step_words : (y : Tf-F Held) → tf_words (tf_step_on_line_1 (on_line_1 (bare y))) ≡ lined (tf_step (map-Tf Tf (List Word) tf_words (bare y)))
 step_words (Tf-F.Null line) = eq.words-Null 1
-step_words (Tf-F.Int value line) = eq.words-Int value 1
+step_words (Tf-F.Literal (literal.Int n) line) = eq.words-Literal (literal.Int n) 1
+step_words (Tf-F.Literal (literal.Text w) line) = eq.words-Literal (literal.Text w) 1
 step_words (Tf-F.Path names line) =
     eq.words-Path (map name_on_line_1 names) 1 ∙ ap (λ (w : List Word). FixedAt (codes "old") 1 ∷ w) (names_lined names)
 step_words (Tf-F.Parens inner line) =
@@ -72,7 +74,7 @@ step_words (Tf-F.Binary operator left right line) =
 
 step_shape : (y : Tf-F Held) → tf_shape (tf_step_on_line_1 (on_line_1 (bare y))) ≡ tf_shape_step (map-Tf Tf Shape tf_shape (bare y))
 step_shape (Tf-F.Null line) = eq.shape-Null 1
-step_shape (Tf-F.Int value line) = eq.shape-Int value 1
+step_shape (Tf-F.Literal value line) = eq.shape-Literal value 1
 step_shape (Tf-F.Path names line) = eq.shape-Path (map name_on_line_1 names) 1 ∙ ap (leaf 0) (names_stay names)
 step_shape (Tf-F.Parens inner line) =
     eq.shape-Parens (tf_on_line_1 inner.0) 1 ∙ ap (λ (i : Shape). tf_shape_step (Tf-F.Parens i 1)) inner.1.shape

@@ -3,12 +3,13 @@ use Rattle.std.specs.Prelude.{◌+◌, ◌-◌, max, pos, ℕ, zero, suc, Bool, 
 use Rattle.std.specs.Option.{is_some}
 use Rattle.class_defs.specs.Grammar.{max_depth}
 use Rattle.class_defs.specs.declared.expressions.Name.{Name}
+use Rattle.class_defs.specs.declared.literals.Literal.TheVariants as literal
 use Rattle.class_defs.specs.declared.upgrades.Tf.{Tf}
 use Rattle.class_defs.specs.declared.upgrades.Tf.TheVariants as tf
 use Rattle.script_text.specs.declared.token.Token.{Token}
 use Rattle.method_parse.specs.Expressions.{operator, operator_in, tighter}
-use Rattle.method_parse.specs.Matching.{is}
-use Rattle.method_parse.specs.Reader.{Reader, ◌>>=◌, give, if_next, name, number, repeat, repeat_all, stuck, word}
+use Rattle.method_parse.specs.Matching.{is, is_quoted}
+use Rattle.method_parse.specs.Reader.{Reader, ◌>>=◌, give, if_next, name, number, quoted, repeat, repeat_all, stuck, word}
 use Rattle.method_parse.specs.declared.deep.Level.{Level}
 use Rattle.method_parse.specs.declared.deep.Level.TheVariants as levels
 use Rattle.upgrade_defs.specs.declared.deep.Deep.{Deep}
@@ -46,7 +47,7 @@ path = do
 unfoldable pub integer : Reader Deep
 integer = do
   n ← number
-  give (leaf (tf.Int (pos n.0) n.1))
+  give (leaf (tf.Literal (literal.Int (pos n.0)) n.1))
 
 abbrev pub in_parens : Deep → ℕ → Deep
 in_parens deep line = record { value = tf.Parens deep.value line; depth = deep.depth + 1 }
@@ -119,12 +120,16 @@ expression_in (suc depth) level = at_level (suc depth) (expression_in depth) lev
 abbrev pub parts_of : ℕ → Parts
 parts_of room = expression_in (room - 1)
 
--- `null`, or a sum
+-- `null`, a text, or a sum
 unfoldable pub value : Reader Tf
 value = if_next (is (codes "null"))
     (do
       line ← word (codes "null")
       give (tf.Null line))
+    (if_next is_quoted
+    (do
+      text ← quoted
+      give (tf.Literal (literal.Text text.0) text.1))
     (do
       read ← expression_in max_depth levels.Sum
-      give read.value)
+      give read.value))

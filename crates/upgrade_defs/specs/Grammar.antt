@@ -4,6 +4,8 @@ use Rattle.std.specs.List.{AllByRecursion}
 use Rattle.class_defs.specs.Grammar.{IsMethod, max_depth, max_nesting}
 use Rattle.class_defs.specs.Shape.{Shape, leaf, left_level, level_of, right_level}
 use Rattle.class_defs.specs.declared.expressions.Name.{Name}
+use Rattle.class_defs.specs.declared.literals.Literal.{Literal}
+use Rattle.class_defs.specs.declared.literals.Literal.TheVariants as literal
 use Rattle.class_defs.specs.declared.upgrades.ClassUpgrade.{ClassUpgrade}
 use Rattle.class_defs.specs.declared.upgrades.FieldUpgrade.{FieldUpgrade}
 use Rattle.class_defs.specs.declared.upgrades.Tf.{Tf}
@@ -16,11 +18,20 @@ abbrev pub has_names : List Name → Bool
 has_names [] = false
 has_names (name ∷ names) = true
 
--- What is asked of the expression of a new field, with the shapes of its parts in their places: `null` stands
--- alone, so its level is below that of every operand, and there are no comparisons.
+-- what stands alone: its level is below that of every operand
+abbrev pub alone : Shape
+alone = record { level = 0; depth = 1; nesting = 0; proper = true }
+
+-- a number may be an operand, and a text stands alone
+abbrev pub literal_shape : Literal → Shape
+literal_shape (literal.Int n) = leaf 0 true
+literal_shape (literal.Text w) = alone
+
+-- What is asked of the expression of a new field, with the shapes of its parts in their places: `null` and a text
+-- stand alone, and there are no comparisons.
 abbrev pub tf_shape_step : Tf-F Shape → Shape
-tf_shape_step (Tf-F.Null line) = record { level = 0; depth = 1; nesting = 0; proper = true }
-tf_shape_step (Tf-F.Int value line) = leaf 0 true
+tf_shape_step (Tf-F.Null line) = alone
+tf_shape_step (Tf-F.Literal value line) = literal_shape value
 tf_shape_step (Tf-F.Path names line) = leaf 0 (has_names names)
 tf_shape_step (Tf-F.Parens inner line) =
     record { level = 5; depth = inner.depth + 1; nesting = inner.nesting + 1; proper = inner.proper && nat_le 1 inner.level }

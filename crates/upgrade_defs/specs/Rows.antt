@@ -4,6 +4,7 @@ use Rattle.class_defs.specs.Shape.{Shape}
 use Rattle.class_defs.specs.declared.expressions.Name.{Name}
 use Rattle.class_defs.specs.declared.expressions.Operator.TheVariants.{Add, Subtract}
 use Rattle.class_defs.specs.declared.expressions.TypeName.TheVariants as type_name
+use Rattle.class_defs.specs.declared.literals.Literal.TheVariants as literal
 use Rattle.class_defs.specs.declared.upgrades.FieldUpgrade.{FieldUpgrade}
 use Rattle.class_defs.specs.declared.upgrades.Tf.{Tf}
 use Rattle.class_defs.specs.declared.upgrades.Tf.TheVariants as tf
@@ -19,14 +20,14 @@ old text = tf.Path (named text ∷ []) 1
 
 -- old.a - old.b - 1, to the left as the grammar has it, and to the right
 abbrev pub to_the_left : Tf
-to_the_left = tf.Binary Subtract (tf.Binary Subtract (old (codes "a")) (old (codes "b")) 1) (tf.Int (pos 1) 1) 2
+to_the_left = tf.Binary Subtract (tf.Binary Subtract (old (codes "a")) (old (codes "b")) 1) (tf.Literal (literal.Int (pos 1)) 1) 2
 
 abbrev pub to_the_right : Tf
-to_the_right = tf.Binary Subtract (old (codes "a")) (tf.Binary Subtract (old (codes "b")) (tf.Int (pos 1) 1) 2) 1
+to_the_right = tf.Binary Subtract (old (codes "a")) (tf.Binary Subtract (old (codes "b")) (tf.Literal (literal.Int (pos 1)) 1) 2) 1
 
 -- int n = old.n + 1;
 abbrev pub counted : FieldUpgrade
-counted = record { type_name = type_name.Int 1; name = named (codes "n"); value = tf.Binary Add (old (codes "n")) (tf.Int (pos 1) 1) 1 }
+counted = record { type_name = type_name.Int 1; name = named (codes "n"); value = tf.Binary Add (old (codes "n")) (tf.Literal (literal.Int (pos 1)) 1) 1 }
 
 -- upgrade { class Box { int n = old.n + 1; } }
 abbrev pub box_upgrade : Upgrade

@@ -1,7 +1,7 @@
 -- Which words spell which upgrade, from the first to the last. This project's.
 use Rattle.std.specs.Prelude.{List, [], ◌∷◌, ◌++◌, map, codes}
-use Rattle.class_defs.specs.Spelling.{method_words, type_word}
-use Rattle.class_defs.specs.Words.{Word, Fixed, FixedAt, Numbered, in_turn, name_word, symbol_of}
+use Rattle.class_defs.specs.Spelling.{literal_word, method_words, type_word}
+use Rattle.class_defs.specs.Words.{Word, Fixed, FixedAt, in_turn, name_word, symbol_of}
 use Rattle.class_defs.specs.declared.expressions.Name.{Name}
 use Rattle.class_defs.specs.declared.upgrades.ClassUpgrade.{ClassUpgrade}
 use Rattle.class_defs.specs.declared.upgrades.FieldUpgrade.{FieldUpgrade}
@@ -17,7 +17,7 @@ dot_name name = Fixed (codes ".") ∷ name_word name ∷ []
 -- the expression of a new field, with the words of its parts in their places
 abbrev pub tf_step : Tf-F (List Word) → List Word
 tf_step (Tf-F.Null line) = FixedAt (codes "null") line ∷ []
-tf_step (Tf-F.Int value line) = Numbered value line ∷ []
+tf_step (Tf-F.Literal value line) = literal_word value line ∷ []
 tf_step (Tf-F.Path names line) = FixedAt (codes "old") line ∷ in_turn (map dot_name names)
 tf_step (Tf-F.Parens inner line) = FixedAt (codes "(") line ∷ (inner ++ Fixed (codes ")") ∷ [])
 tf_step (Tf-F.Negate operand line) = FixedAt (codes "-") line ∷ operand

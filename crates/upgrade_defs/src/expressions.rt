@@ -9,11 +9,13 @@ ghost use Rattle.upgrade_defs.specs.Expressions.{all_names, at_level, dotted, ex
 
 use crate::deep::Deep;
 use crate::starts::{is_join, is_minus, is_open};
-use class_defs::{Name, Names, Operator, Tf};
-use method_parse::{Level, ParseError, name, next_is, number, operator, tighter, word};
+use class_defs::{Literal, Name, Names, Operator, Tf};
+use method_parse::{
+    Level, ParseError, name, next_is, next_is_quoted, number, operator, quoted, tighter, word,
+};
 use script_text::Token;
 use std::alloc::Global;
-use thor_value::{Boxed, NoMemory, both};
+use thor_value::{NoMemory, Shared, both};
 
 /// How high the expression of a new field may be as a tree. Parentheses count in it, so that their own limit
 /// of 64 is never met.
@@ -83,7 +85,8 @@ fn integer(tokens: &[Token]) -> Result<(Deep, &[Token]), ParseError>
 {
     let ((value, line), rest) = number(tokens)?;
     let value = value as i64;
-    Ok((leaf(Tf::Int { value, line }), rest))
+    let value = Literal::Int(value);
+    Ok((leaf(Tf::Literal { value, line }), rest))
 }
 
 /// An operand of an expression in a room.
@@ -112,7 +115,7 @@ fn parens(alloc: Global, room: u32, tokens: &[Token]) -> Result<(Deep, &[Token])
     let (line, rest) = word(tokens, b"(")?;
     let (read, rest) = operand(alloc, room, Level::Sum, rest)?;
     let (read, (_, rest)) = both(read, word(rest, b")"))?;
-    let inner = Boxed::new(alloc, read.value)?;
+    let inner = Shared::new(alloc, read.value)?;
     let value = Tf::Parens { inner, line };
     let depth = read.depth + 1;
     Ok((Deep { value, depth }, rest))
@@ -148,7 +151,7 @@ fn unary(alloc: Global, room: u32, tokens: &[Token]) -> Result<(Deep, &[Token]),
     }
     let (line, rest) = word(tokens, b"-")?;
     let (read, rest) = operand(alloc, room, Level::Unary, rest)?;
-    let operand = Boxed::new(alloc, read.value)?;
+    let operand = Shared::new(alloc, read.value)?;
     let value = Tf::Negate { operand, line };
     let depth = read.depth + 1;
     Ok((Deep { value, depth }, rest))
@@ -167,8 +170,8 @@ fn binary(
     ensures { IfOk result (λ deep. deep ≡ record { value = ABinary operator left.value right.value line; depth = max left.depth right.depth + 1 }) }
 {
     let depth = left.depth.max(right.depth) + 1;
-    let (right, left) = both(right.value, Boxed::new(alloc, left.value))?;
-    let (left, right) = both(left, Boxed::new(alloc, right))?;
+    let (right, left) = both(right.value, Shared::new(alloc, left.value))?;
+    let (left, right) = both(left, Shared::new(alloc, right))?;
     let value = Tf::Binary {
         operator,
         left,
@@ -288,7 +291,7 @@ fn expression_in(
     at_level(alloc, room, level, tokens)
 }
 
-/// `null`, or a sum.
+/// `null`, a text, or a sum.
 #[tactic(auto, unfolding(crate::specs::Expressions::value))]
 pub fn value(alloc: Global, tokens: &[Token]) -> Result<(Tf, &[Token]), ParseError>
     ensures { Gives (λ x. (x.0, x.1.now)) result (value tokens.now) }
@@ -296,6 +299,11 @@ pub fn value(alloc: Global, tokens: &[Token]) -> Result<(Tf, &[Token]), ParseErr
     if next_is(tokens, b"null") {
         let (line, rest) = word(tokens, b"null")?;
         return Ok((Tf::Null { line }, rest));
+    }
+    if next_is_quoted(tokens) {
+        let ((text, line), rest) = quoted(tokens)?;
+        let value = Literal::Text(text);
+        return Ok((Tf::Literal { value, line }, rest));
     }
     let (read, rest) = expression_in(alloc, MAX_DEPTH, Level::Sum, tokens)?;
     Ok((read.value, rest))

@@ -7,9 +7,9 @@ ghost use Rattle.upgrade_defs.specs.Printed.{printed_upgrade};
 ghost use Rattle.upgrade_defs.specs.Spelling.{class_upgrade_words, dot_name, field_upgrade_words, tf_words};
 
 use class_defs::{ClassUpgrade, FieldUpgrade, Name, Tf, Upgrade};
-use method_parse::{print_methods, print_name, print_type, print_value, print_word, symbol};
+use method_parse::{print_literal, print_methods, print_name, print_type, print_word, symbol};
 use std::alloc::Global;
-use thor_value::{Boxed, NoMemory, Text};
+use thor_value::{NoMemory, Shared, Text};
 
 /// Prints the names of a path, each behind a dot.
 #[tactic(auto, using(std::proofs::Common::append_assoc))]
@@ -26,7 +26,7 @@ fn print_names(out: &mut Text, names: &[Name]) -> Result<(), NoMemory>
 /// Prints what stands behind an opening parenthesis, and the closing one.
 #[cycle(print_tf)]
 #[tactic(auto, using(std::proofs::Common::append_assoc, method_parse::proofs::Spaced::spaced_both))]
-fn print_inner(out: &mut Text, inner: &Boxed<Tf>) -> Result<(), NoMemory>
+fn print_inner(out: &mut Text, inner: &Shared<Tf>) -> Result<(), NoMemory>
     ensures { OnOk result (out.new ≡ out.old ++ spaced_words (tf_words inner.now ++ Fixed (codes ")") ∷ [])) }
 {
     print_tf(out, inner.get())?;
@@ -41,7 +41,7 @@ fn print_tf(out: &mut Text, value: &Tf) -> Result<(), NoMemory>
 {
     match value {
         Tf::Null { .. } => print_word(out, b"null"),
-        Tf::Int { value, .. } => print_value(out, *value),
+        Tf::Literal { value, .. } => print_literal(out, *value),
         Tf::Path { names, .. } => {
             print_word(out, b"old")?;
             print_names(out, names.as_slice())

@@ -3,6 +3,7 @@
 ghost use Rattle.std.specs.Prelude.{◌≡◌, [], ◌∷◌, codes, pos};
 ghost use Rattle.class_defs.specs.Words.{Fixed, FixedAt, Named, Numbered};
 ghost use Rattle.class_defs.specs.declared.expressions.Operator.TheVariants.{Add, Less, Multiply};
+ghost use Rattle.class_defs.specs.declared.literals.Literal.TheVariants as literal;
 ghost use Rattle.class_defs.specs.declared.upgrades.Tf.TheVariants as tf;
 ghost use Rattle.upgrade_defs.specs.Grammar.{tf_shape};
 ghost use Rattle.upgrade_defs.specs.Printed.{printed_upgrade};
@@ -25,11 +26,11 @@ fn words()
 /// Expressions that the grammar has.
 fn expressions()
     ensures null { tf_shape (tf.Null 1) ≡ good 0 1 0 }
-    ensures a_number { tf_shape (tf.Int (pos 5) 1) ≡ good 5 1 0 }
+    ensures a_number { tf_shape (tf.Literal (literal.Int (pos 5)) 1) ≡ good 5 1 0 }
     ensures a_path { tf_shape (tf.Path (named (codes "part") ∷ named (codes "n") ∷ []) 1) ≡ good 5 1 0 }
     ensures a_sum_to_the_left { tf_shape to_the_left ≡ good 1 3 0 }
     ensures minus_twice { tf_shape (tf.Negate (tf.Negate (old (codes "a")) 1) 1) ≡ good 3 3 0 }
-    ensures parentheses { tf_shape (tf.Binary Multiply (tf.Parens (tf.Binary Add (old (codes "a")) (tf.Int (pos 1) 1) 1) 1) (old (codes "b")) 1)
+    ensures parentheses { tf_shape (tf.Binary Multiply (tf.Parens (tf.Binary Add (old (codes "a")) (tf.Literal (literal.Int (pos 1)) 1) 1) 1) (old (codes "b")) 1)
         ≡ good 2 4 1 }
 {}
 

@@ -1,5 +1,4 @@
-use Rattle.std.proofs.Common.{◌≡◌, ◌-◌, ◌+◌, ◌*◌, drop, map}
-use Rattle.lang_small_steps.specs.Plain.{plain, plain_stmt}
+use Rattle.std.proofs.Common.{◌≡◌, ◌-◌, ◌+◌, ◌*◌, drop}
 use Rattle.lang_small_steps.specs.Methods.{class_methods}
 use Rattle.paused_eval.specs.Copies.{Keeps, Tied, state}
 use Rattle.paused_eval.specs.Counted.{surplus}
@@ -13,7 +12,7 @@ invariant-direct::collect-loop-place g l =
     let w = on l.program.schema.now l.fn.cache in
     Tied l.cache × (Keeps l.fn.cache l.cache × ((l.bodies.methods.now ≡ class_methods l.program.schema.now.classes)
     × ((surplus l.bodies.work l.machine.steps ≡ surplus l.fn.bodies.work l.fn.machine.steps)
-    × (spec.collect w l.inner (directly w l.room l.inner) l.kind l.target l.method l.fn.none (map plain l.arguments) (state l.fn.machine l.fn.cache) ≡ spec.collect w l.inner (directly w l.room l.inner) l.kind l.target l.method l.done (map plain (drop l.place l.arguments)) (state l.machine l.cache)))))
+    × (spec.collect w l.inner (directly w l.room l.inner) l.kind l.target l.method l.fn.none l.arguments (state l.fn.machine l.fn.cache) ≡ spec.collect w l.inner (directly w l.room l.inner) l.kind l.target l.method l.done (drop l.place l.arguments) (state l.machine l.cache)))))
 
 -- what is left comes to what all of them come to
 abbrev pub invariant-direct_statements::in_order-loop-place : goal.invariant-direct_statements::in_order-loop-place
@@ -21,17 +20,15 @@ invariant-direct_statements::in_order-loop-place g l =
     let w = on l.program.schema.now l.fn.cache in
     Tied l.cache × (Keeps l.fn.cache l.cache × ((l.bodies.methods.now ≡ class_methods l.program.schema.now.classes)
     × ((surplus l.bodies.work l.machine.steps ≡ surplus l.fn.bodies.work l.fn.machine.steps)
-    × (spec.in_order w l.inner (directly w l.room l.inner) (map plain_stmt l.stmts) (state l.fn.machine l.fn.cache) ≡ spec.in_order w l.inner (directly w l.room l.inner) (map plain_stmt (drop l.place l.stmts)) (state l.machine l.cache)))))
+    × (spec.in_order w l.inner (directly w l.room l.inner) l.stmts (state l.fn.machine l.fn.cache) ≡ spec.in_order w l.inner (directly w l.room l.inner) (drop l.place l.stmts) (state l.machine l.cache)))))
 
 -- the turns that are left come to what all of them come to
 abbrev pub invariant-direct_statements::turns-loop-count : goal.invariant-direct_statements::turns-loop-count
 invariant-direct_statements::turns-loop-count g l =
     let w = on l.program.schema.now l.fn.cache in
-    let c = plain l.condition in
-    let b = map plain_stmt l.body in
     Tied l.cache × (Keeps l.fn.cache l.cache × ((l.bodies.methods.now ≡ class_methods l.program.schema.now.classes)
     × ((surplus l.bodies.work l.machine.steps ≡ surplus l.fn.bodies.work l.fn.machine.steps)
-    × (spec.turn w l.inner (directly w l.room l.inner) 100000 c b l.fn.tested (state l.fn.machine l.fn.cache) ≡ spec.turn w l.inner (directly w l.room l.inner) (100000 - l.count) c b l.value (state l.machine l.cache)))))
+    × (spec.turn w l.inner (directly w l.room l.inner) 100000 l.condition l.body l.fn.tested (state l.fn.machine l.fn.cache) ≡ spec.turn w l.inner (directly w l.room l.inner) (100000 - l.count) l.condition l.body l.value (state l.machine l.cache)))))
 
 -- Each part has room for one node less, and what is called with the same room comes in this order. So as many calls as the
 -- measure says stand inside one another at most: 32 times the room with which `ahead` begins, and some.

@@ -1,46 +1,47 @@
--- Each call has room for one node less, or is of a part of what the caller does with the same room. So as many calls as the
--- measure says stand inside one another at most: 16 times the room with which a transaction begins, and some.
+-- Each call is of nodes less deep, or of a part of what the caller does at the same depth, down to where plain recursion ends.
+-- So as many calls as the measure says stand inside one another at most: 16 times `RECURSION_LIMIT`, and some.
 use Rattle.std.proofs.Common.{◌≡◌, ◌+◌, ◌-◌, ◌*◌, [], drop}
 use Rattle.class_defs.specs.Expressions.{values_from}
 use Rattle.lang_bounded_eval.specs.Inner.{value_of, block, in_order, repeat}
 use Rattle.method_eval.specs.Viewed.{reading}
+use Rattle.lang_bounded_eval.proofs.Depth.{depth_left}
 use Rattle.lang_bounded_eval.proofs.run.+run.Given as goal
 
 abbrev pub decreases-value_of : goal.decreases-value_of
-decreases-value_of l = 16 * l.room
+decreases-value_of l = 16 * depth_left l.nested
 
 abbrev pub decreases-expression : goal.decreases-expression
-decreases-expression l = 16 * l.room + 15
+decreases-expression l = 16 * depth_left l.inner + 15
 
 abbrev pub decreases-node : goal.decreases-node
-decreases-node l = 16 * l.room + 14
+decreases-node l = 16 * depth_left l.inner + 14
 
 abbrev pub decreases-called : goal.decreases-called
-decreases-called l = 16 * l.room + 13
+decreases-called l = 16 * depth_left l.inner + 13
 
 abbrev pub decreases-values_of : goal.decreases-values_of
-decreases-values_of l = 16 * l.room + 12
+decreases-values_of l = 16 * depth_left l.inner + 12
 
 abbrev pub decreases-call_object : goal.decreases-call_object
-decreases-call_object l = 16 * l.room + 12
+decreases-call_object l = 16 * depth_left l.inner + 12
 
 abbrev pub decreases-run_body : goal.decreases-run_body
-decreases-run_body l = 16 * l.room + 11
+decreases-run_body l = 16 * depth_left l.inner + 11
 
 abbrev pub decreases-block : goal.decreases-block
-decreases-block l = 16 * l.room + 10
+decreases-block l = 16 * depth_left l.inner + 10
 
 abbrev pub decreases-in_order : goal.decreases-in_order
-decreases-in_order l = 16 * l.room + 9
+decreases-in_order l = 16 * depth_left l.inner + 9
 
 abbrev pub decreases-execute : goal.decreases-execute
-decreases-execute l = 16 * l.room
+decreases-execute l = 16 * depth_left l.nested
 
 abbrev pub decreases-statement : goal.decreases-statement
-decreases-statement l = 16 * l.room + 15
+decreases-statement l = 16 * depth_left l.inner + 15
 
 abbrev pub decreases-repeat : goal.decreases-repeat
-decreases-repeat l = 16 * l.room + 14
+decreases-repeat l = 16 * depth_left l.inner + 14
 
 -- the values so far and those of the expressions to come are those of all
 abbrev pub invariant-values_of-loop-expr : goal.invariant-values_of-loop-expr

@@ -9,11 +9,11 @@ returns-in-Evaluate-clause-goes g c = λ tx given count n runs.
     let s = c.args.program.now.schema.now in
     value_goes s (at_hand s c.args.cache.now) tx given count (supply n) RECURSION_LIMIT c.in-Evaluate.nested c.in-Evaluate.expr c.args.stack.now c.resumed.new.stack
     (state c.args.machine.now c.args.cache.now) (state c.value_of-came.new.machine c.value_of-came.new.cache) c.value_of-came.result c.resumed.result
-    (rw c.shared.ensures at c.value_of-came.ensures.does) (rw c.returned.ensures at c.resumed.ensures) (rw c.in-Evaluate.is at runs)
+    c.value_of-came.ensures.does (rw c.returned.ensures at c.resumed.ensures) (rw c.in-Evaluate.is at runs)
 
 pub returns-in-Execute-clause-goes : goal.returns-in-Execute-clause-goes
 returns-in-Execute-clause-goes g c = λ tx given count n runs.
     let s = c.args.program.now.schema.now in
     statement_goes s (at_hand s c.args.cache.now) tx given count (supply n) RECURSION_LIMIT c.in-Execute.nested c.in-Execute.stmt c.args.stack.now c.resumed-in-Execute.new.stack
     (state c.args.machine.now c.args.cache.now) (state c.execute-came.new.machine c.execute-came.new.cache) c.execute-came.result c.resumed-in-Execute.result
-    (rw c.shared-in-Execute.ensures at c.execute-came.ensures.does) c.resumed-in-Execute.ensures (rw c.in-Execute.is at runs)
+    (rw c.get.ensures at c.execute-came.ensures.does) c.resumed-in-Execute.ensures (rw c.in-Execute.is at runs)

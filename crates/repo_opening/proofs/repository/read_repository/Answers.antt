@@ -1,3 +1,4 @@
+use Rattle.recovery.specs.Reopening.{reopens}
 use Rattle.recovery.specs.declared.recovered.Recovered.{Recovered}
 use Rattle.repo_opening.proofs.Reading.{reads_on, recovered_on, recovered_reads, same_on, stored_is}
 use Rattle.repo_opening.proofs.Syncing.{same_then}
@@ -37,4 +38,5 @@ returns-clause-stored g c = λ images reads.
 
 pub returns-clause-reopens : goal.returns-clause-reopens
 returns-clause-reopens g c = λ images reads.
-    rw c.in-Some.is at c.in_ok-recovered.ensures.reopens images (reads_on (g.P.Parts.disks c.args.parts.now) (g.P.Parts.disks c.sync.new.parts) c.sync.ensures.same.content images reads)
+    let told : c.in-Some.recovered.reopens ≡ reopens images = rw c.in-Some.is at c.in_ok-recovered.ensures.reopens images (reads_on (g.P.Parts.disks c.args.parts.now) (g.P.Parts.disks c.sync.new.parts) c.sync.ensures.same.content images reads) in
+    sym told ∙ c.in_ok-read.ensures.reopens

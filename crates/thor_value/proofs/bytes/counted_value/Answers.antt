@@ -7,7 +7,7 @@ use Rattle.thor_value.proofs.Spellings.{exact_value}
 use Rattle.thor_value.proofs.bytes.counted_value.Goals as goal
 
 pub overflow_sub-result : goal.overflow_sub-result
-overflow_sub-result c = no_longer ValueFits value_bytes Short value_at exact_value c.args.bytes.now (c.in_ok-value.value, c.in_ok-value.rest.now) (λ i. omega (arith, c.type_inv.bytes i)) c.in_ok-value.ensures
+overflow_sub-result c = no_longer ValueFits value_bytes Short value_at exact_value c.args.bytes.now (c.in-Ok.value, c.in-Ok.rest.now) (λ i. omega (arith, c.type_inv.bytes i)) c.in-Ok.ensures
 
-pub returns : goal.returns
-returns c = counted ValueFits value_bytes Short value_at exact_value c.args.bytes.now (c.in_ok-value.value, c.in_ok-value.rest.now) (λ i. omega (arith, c.type_inv.bytes i)) c.in_ok-value.ensures
+pub returns-in-Ok : goal.returns-in-Ok
+returns-in-Ok c = counted ValueFits value_bytes Short value_at exact_value c.args.bytes.now (c.in-Ok.value, c.in-Ok.rest.now) (λ i. omega (arith, c.type_inv.bytes i)) c.in-Ok.ensures

@@ -17,10 +17,10 @@ use Rattle.std.specs.contracts.sync.Arc as arc
 use Rattle.std.specs.declared.alloc.Global.{Global}
 use Rattle.std.specs.contracts.alloc.Global as heap
 use Rattle.std.specs.contracts.impls.GlobalAllocator.TheImpl.{ghosts}
-use Rattle.lang_small_steps.specs.declared.shared.Shared.TheInside.{Inside}
-use Rattle.lang_small_steps.specs.declared.shared.Shared.TheView.{view, invariant}
-use Rattle.lang_small_steps.specs.contracts.shared.Shared as C
-use Rattle.lang_small_steps.specs.contracts.shared.Shared.TheInside as I
+use Rattle.thor_value.specs.declared.shared.Shared.TheInside.{Inside}
+use Rattle.thor_value.specs.declared.shared.Shared.TheView.{view, invariant}
+use Rattle.thor_value.specs.contracts.shared.Shared as C
+use Rattle.thor_value.specs.contracts.shared.Shared.TheInside as I
 
 abbrev pub the_former : Former {0} → Former {0}
 the_former g = g

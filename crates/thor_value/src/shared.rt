@@ -1,12 +1,13 @@
-ghost use Rattle.std.specs.Prelude.{◌≡◌, IfOk};
+ghost use Rattle.std.specs.Prelude.{◌≡◌, length, IfOk};
 
+use crate::memory::{NoMemory, TryCopy};
+use crate::sequence::Sequence;
 use std::alloc::Global;
 use std::marker::Model;
 use std::sync::Arc;
-use thor_value::NoMemory;
 
-/// A value with several owners, which contracts see as that value.
-#[derive(Drop)]
+/// A value with several owners, which contracts see as that value. A copy of it is another owner.
+#[derive(Debug, Drop)]
 pub struct Shared<T> {
     inner: Arc<T>,
 }
@@ -44,5 +45,26 @@ impl<T: Drop> Shared<T> {
         Ok(Shared {
             inner: Arc::new(alloc, value)?,
         })
+    }
+}
+
+impl<T> Shared<Sequence<T>> {
+    /// The elements of a list with several owners.
+    pub fn as_slice(&self) -> &[T]
+        ensures { result.now ≡ self.now }
+    {
+        self.get().as_slice()
+    }
+
+    pub fn len(&self) -> usize
+        ensures { result ≡ length self.now }
+    {
+        self.get().len()
+    }
+}
+
+impl<T> TryCopy for Shared<T> {
+    fn copy(&self) -> Result<Shared<T>, NoMemory> {
+        self.share()
     }
 }
