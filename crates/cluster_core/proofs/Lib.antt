@@ -1,3 +1,6 @@
+mod Begun
+mod Ending
+mod Happening
 mod Recovered
-pub mod Restarts
+mod Seating
 mod Steps

@@ -18,6 +18,11 @@ pub record Lent : Type 0 where
 pub record AreInPlace (sites : List Sited) : Type 0 where
   pub placed : (r : ℕ) (x : Sited) → slice_get sites r ≡ Some x → x.number ≡ r
 
+-- so many of them, each in its place
+pub record AreLent (n : ℕ) (sites : List Sited) : Type 0 where
+  pub placed : AreInPlace sites
+  pub count : length sites ≡ n
+
 abbrev pub trace_at : Option Sited → List Item
 trace_at None = []
 trace_at (Some x) = trace_of x.shown.trace

@@ -2,7 +2,7 @@
 
 ghost use Rattle.client_port.specs.Works.{AskWork, CommitWork, ConnectWork, DecideWork, Does, DrawWork, FetchWork, FinishWork, ForgetWork, GrantWork, PrepareWork, ReceiveWork};
 ghost use Rattle.cluster_port.specs.Lent.{AreInPlace, view_of};
-ghost use Rattle.std.specs.Prelude.{true, ℕ, ◌≡◌};
+ghost use Rattle.std.specs.Prelude.{true, vec_len, ℕ, ◌≡◌};
 
 use disk_trait::Parts;
 use log_entries::Request;
@@ -19,6 +19,7 @@ pub fn connect<P: Parts, O: Opening>(
 ) -> Result<Welcome, Refusal>
     requires { AreInPlace sites.old.items }
     ensures placed { AreInPlace sites.new.items }
+    ensures count { vec_len sites.new ≡ vec_len sites.old }
     ensures does { O.run.based ≡ true → (c : ℕ) → Does (view_of O.run c sites.old.items) (view_of O.run c sites.new.items) repo result (ConnectWork client result) }
 {
     match sites.get_mut(usize::from(repo)) {
@@ -36,6 +37,7 @@ pub fn fetch<P: Parts, O: Opening>(
 ) -> Result<(), Refusal>
     requires { AreInPlace sites.old.items }
     ensures placed { AreInPlace sites.new.items }
+    ensures count { vec_len sites.new ≡ vec_len sites.old }
     ensures does { O.run.based ≡ true → (c : ℕ) → Does (view_of O.run c sites.old.items) (view_of O.run c sites.new.items) at.repo result (FetchWork at.session page upto result) }
 {
     match sites.get_mut(usize::from(at.repo)) {
@@ -51,6 +53,7 @@ pub fn grant<P: Parts, O: Opening>(
 ) -> Result<(), Refusal>
     requires { AreInPlace sites.old.items }
     ensures placed { AreInPlace sites.new.items }
+    ensures count { vec_len sites.new ≡ vec_len sites.old }
     ensures does { O.run.based ≡ true → (c : ℕ) → Does (view_of O.run c sites.old.items) (view_of O.run c sites.new.items) at.repo result (GrantWork at.session result) }
 {
     match sites.get_mut(usize::from(at.repo)) {
@@ -66,6 +69,7 @@ pub fn receive<P: Parts, O: Opening>(
 ) -> Result<Option<Message>, Refusal>
     requires { AreInPlace sites.old.items }
     ensures placed { AreInPlace sites.new.items }
+    ensures count { vec_len sites.new ≡ vec_len sites.old }
     ensures does { O.run.based ≡ true → (c : ℕ) → Does (view_of O.run c sites.old.items) (view_of O.run c sites.new.items) at.repo result (ReceiveWork at.session result) }
 {
     match sites.get_mut(usize::from(at.repo)) {
@@ -82,6 +86,7 @@ pub fn draw<P: Parts, O: Opening>(
 ) -> Result<Ts, Refusal>
     requires { AreInPlace sites.old.items }
     ensures placed { AreInPlace sites.new.items }
+    ensures count { vec_len sites.new ≡ vec_len sites.old }
     ensures does { O.run.based ≡ true → (c : ℕ) → Does (view_of O.run c sites.old.items) (view_of O.run c sites.new.items) at.repo result (DrawWork at.session floor result) }
 {
     match sites.get_mut(usize::from(at.repo)) {
@@ -98,6 +103,7 @@ pub fn prepare<P: Parts, O: Opening>(
 ) -> Result<u64, Refusal>
     requires { AreInPlace sites.old.items }
     ensures placed { AreInPlace sites.new.items }
+    ensures count { vec_len sites.new ≡ vec_len sites.old }
     ensures does { O.run.based ≡ true → (c : ℕ) → Does (view_of O.run c sites.old.items) (view_of O.run c sites.new.items) at.repo result (PrepareWork at.session request result) }
 {
     match sites.get_mut(usize::from(at.repo)) {
@@ -117,6 +123,7 @@ pub fn commit_one<P: Parts, O: Opening>(
 ) -> Result<u64, Refusal>
     requires { AreInPlace sites.old.items }
     ensures placed { AreInPlace sites.new.items }
+    ensures count { vec_len sites.new ≡ vec_len sites.old }
     ensures does { O.run.based ≡ true → (c : ℕ) → Does (view_of O.run c sites.old.items) (view_of O.run c sites.new.items) at.repo result (CommitWork at.session request result) }
 {
     match sites.get_mut(usize::from(at.repo)) {
@@ -137,6 +144,7 @@ pub fn decide<P: Parts, O: Opening>(
 ) -> Result<Verdict, Refusal>
     requires { AreInPlace sites.old.items }
     ensures placed { AreInPlace sites.new.items }
+    ensures count { vec_len sites.new ≡ vec_len sites.old }
     ensures does { O.run.based ≡ true → (c : ℕ) → Does (view_of O.run c sites.old.items) (view_of O.run c sites.new.items) at.repo result (DecideWork at.session tx commit result) }
 {
     match sites.get_mut(usize::from(at.repo)) {
@@ -153,6 +161,7 @@ pub fn finish<P: Parts, O: Opening>(
 ) -> Result<Option<u64>, Refusal>
     requires { AreInPlace sites.old.items }
     ensures placed { AreInPlace sites.new.items }
+    ensures count { vec_len sites.new ≡ vec_len sites.old }
     ensures does { O.run.based ≡ true → (c : ℕ) → Does (view_of O.run c sites.old.items) (view_of O.run c sites.new.items) repo result (FinishWork verdict.now.tx verdict.now.commit result) }
 {
     match sites.get_mut(usize::from(repo)) {
@@ -169,6 +178,7 @@ pub fn forget<P: Parts, O: Opening>(
 ) -> Result<(), Refusal>
     requires { AreInPlace sites.old.items }
     ensures placed { AreInPlace sites.new.items }
+    ensures count { vec_len sites.new ≡ vec_len sites.old }
     ensures does { O.run.based ≡ true → (c : ℕ) → Does (view_of O.run c sites.old.items) (view_of O.run c sites.new.items) repo result (ForgetWork tx result) }
 {
     match sites.get_mut(usize::from(repo)) {
@@ -185,6 +195,7 @@ pub fn ask<P: Parts, O: Opening>(
 ) -> Result<Asked, Refusal>
     requires { AreInPlace sites.old.items }
     ensures placed { AreInPlace sites.new.items }
+    ensures count { vec_len sites.new ≡ vec_len sites.old }
     ensures does { O.run.based ≡ true → (c : ℕ) → Does (view_of O.run c sites.old.items) (view_of O.run c sites.new.items) repo result (AskWork tx result) }
 {
     match sites.get_mut(usize::from(repo)) {

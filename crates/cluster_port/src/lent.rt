@@ -1,3 +1,8 @@
+//! Repositories of a run, as they are lent to a client.
+
+ghost use Rattle.cluster_port.specs.Lent.{AreInPlace};
+ghost use Rattle.std.specs.Prelude.{vec_len, ℕ, ◌≡◌};
+
 use crate::calls;
 use client_port::Port;
 use disk_trait::Parts;
@@ -5,51 +10,64 @@ use log_entries::Request;
 use repo_refusals::Refusal;
 use repo_site::{Opening, Site};
 use session_outbox::{Asked, At, Message, Verdict, Welcome};
-use std::marker::Model;
+use std::marker::{Brand, Model, PhantomData};
 use thor_value::Ts;
 
-/// The repositories of a run, lent to one client. Each call is one event of one of them. One that isn't there is taken as one
-/// that is down.
-#[derive(Drop)]
-pub struct LentSites<P: Parts, O: Opening> {
-    client: u8,
-    sites: Vec<Site<P, O>>,
+/// A number of repositories, which no code holds.
+pub trait Count {
+    ghost count: { ℕ };
 }
 
-impl<P: Parts, O: Opening> Model for LentSites<P, O> {
-    ghost use Rattle.cluster_port.specs.Lent.{AreInPlace, Lent};
+impl Count for Brand {
+    ghost count = { 0 };
+}
+
+/// The repositories of a run, as many as `N` has, lent to one client. Each call is one event of one of them. One that isn't there is
+/// taken as one that is down.
+#[derive(Drop)]
+pub struct LentSites<P: Parts, O: Opening, N: Count> {
+    client: u8,
+    sites: Vec<Site<P, O>>,
+    of: PhantomData<N>,
+}
+
+impl<P: Parts, O: Opening, N: Count> Model for LentSites<P, O, N> {
+    ghost use Rattle.cluster_port.specs.Lent.{AreLent, Lent};
 
     ghost Value = { Lent };
 
     ghost view = { λ l. record { client = l.client; sites = l.sites.items } };
 
-    ghost invariant = { λ l. AreInPlace l.sites.items };
+    ghost invariant = { λ l. AreLent N.count l.sites.items };
 }
 
-impl<P: Parts, O: Opening> LentSites<P, O> {
-    ghost use Rattle.cluster_port.specs.Lent.{AreInPlace};
-    ghost use Rattle.std.specs.Prelude.{◌≡◌};
-
+impl<P: Parts, O: Opening, N: Count> LentSites<P, O, N> {
     /// The repositories, each at the place of its number, as they are lent to a client.
-    pub fn new(client: u8, sites: Vec<Site<P, O>>) -> LentSites<P, O>
-        requires { AreInPlace sites.items }
+    pub fn new(client: u8, sites: Vec<Site<P, O>>) -> LentSites<P, O, N>
+        requires placed { AreInPlace sites.items }
+        requires count { vec_len sites ≡ N.count }
         ensures client { result.client ≡ client }
         ensures sites { result.sites ≡ sites.items }
     {
-        LentSites { client, sites }
+        LentSites {
+            client,
+            sites,
+            of: PhantomData,
+        }
     }
 
     /// They come back.
     pub fn into_sites(self) -> Vec<Site<P, O>>
         ensures sites { result.items ≡ self.sites }
         ensures placed { AreInPlace result.items }
+        ensures count { vec_len result ≡ N.count }
     {
         let LentSites { sites, .. } = self;
         sites
     }
 }
 
-impl<P: Parts, O: Opening> Port for LentSites<P, O> {
+impl<P: Parts, O: Opening, N: Count> Port for LentSites<P, O, N> {
     ghost use Rattle.cluster_port.specs.Lent.{view_of};
 
     // Where each repository has a base.

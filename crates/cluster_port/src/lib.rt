@@ -4,4 +4,4 @@
 pub mod calls;
 mod lent;
 
-pub use lent::LentSites;
+pub use lent::{Count, LentSites};

@@ -1,9 +1,11 @@
 -- With what a repository begins over what was recovered of its disks.
 use Rattle.cached_sets.specs.Noted.{most_noted}
+use Rattle.class_defs.specs.declared.store.Setup.{Setup}
+use Rattle.repo_format.specs.Fresh.{first_ts, page_count}
 use Rattle.repo_state.specs.declared.held.Held.{Held}
 use Rattle.spec_history.specs.History.{Base}
 use Rattle.std.specs.List.{list_all}
-use Rattle.std.specs.Prelude.{Bool, Some, [], false, nat_eq, nat_le, ℕ, ◌&&◌, ◌×◌}
+use Rattle.std.specs.Prelude.{Bool, Some, [], false, nat_eq, nat_le, ℕ, ◌&&◌}
 use Rattle.thor_value.specs.FiniteMap.{empty}
 use Rattle.thor_value.specs.declared.names.Ts.{Ts}
 use Rattle.two_phase.specs.declared.transaction.Transaction.TheVariants as kept
@@ -33,6 +35,25 @@ base_of repos h = record {
   texts = h.upgrades;
   next_page = h.next_grant;
   alone = h.table.alone;
+  left = empty;
+  silence = Some most_noted;
+  tells = false;
+}
+
+-- The base of one of so many new repositories, by the store's setup, with a buffer of so many bytes. Of its objects it says nothing.
+abbrev pub new_base : ℕ → ℕ → Setup → ℕ → Base
+new_base number repos setup mob = record {
+  repo = number;
+  repos = repos;
+  life = 0;
+  count = 0;
+  limit = mob;
+  objects = empty;
+  top = first_ts;
+  roots = [];
+  texts = [];
+  next_page = page_count number setup.roots;
+  alone = empty;
   left = empty;
   silence = Some most_noted;
   tells = false;

@@ -76,6 +76,13 @@ impl<P: Parts, O: Opening> Site<P, O> {
         &self.repo
     }
 
+    /// Whether it is up.
+    pub fn is_up(&self) -> bool
+        ensures { result ≡ self.now.shown.is_up }
+    {
+        self.repo.is_up()
+    }
+
     /// Refuses a call on a repository that is down.
     pub(crate) fn check_up(&self) -> Result<(), Refusal>
         ensures up { OnOk result (self.now.shown.is_up ≡ true) }

@@ -171,6 +171,7 @@ impl<P: Parts> Found<P> {
     pub fn into_repositories(self) -> (Vec<Closed<P>>, Vec<P>, u32, Option<usize>)
         ensures count { vec_len result.0 ≡ parts_in self }
         ensures places { result.0.items ≡ self.places.items }
+        ensures mob { result.2 ≡ self.mob }
         ensures empty { vec_len result.1 ≡ 0 }
         ensures room { vec_len result.0 ≤ vec_capacity result.1 }
     {

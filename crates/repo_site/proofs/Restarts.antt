@@ -1,5 +1,5 @@
 -- A repository that is started again goes on.
-use Rattle.cluster_core.specs.Restarting.{GoesOn}
+use Rattle.repo_site.specs.Happening.{GoesOn}
 use Rattle.repo_core.specs.Behind.{IsRecovered, IsRestarted}
 use Rattle.repo_core.specs.Shown.{Shown}
 use Rattle.std.proofs.Common.{Err, Ok, OnErr, OnOk, Result, false, inl, inr, true, ◌≡◌}
