@@ -152,7 +152,7 @@ NAMES = {
 
 # Of a text between quotation marks that is none of the language: what is wrong with it, and what mends it.
 TEXTS = {
-    "open": ("This text isn't closed on its line.", "Put a `\"` behind its last letter. A text has no end of a line and no `\"` in it, and there is no `\\`."),
+    "open": ("This text isn't closed on its line.", "Put a `\"` behind its last letter. A text has no end of a line and no `\"` in it; a `\\` is a letter like any other."),
     "byte": ("This text has a byte that no text has: the letters are those of ASCII, from the blank to `~`.", "Leave out tabs and letters with accents."),
     "long": ("This text is longer than 32 bytes.", "Shorten it, or keep its parts in several fields."),
 }  # fmt: skip

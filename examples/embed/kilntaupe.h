@@ -33,4 +33,15 @@ uint8_t kilntaupe_c_play(const struct kilntaupe_given *given, const uint8_t *scr
 uint8_t kilntaupe_c_play_on(const struct kilntaupe_given *given, const uint8_t *script, size_t script_length, const uint8_t *image, size_t image_length,
                             uint8_t *report, size_t report_room, uint8_t *after, size_t after_room, struct kilntaupe_lengths *lengths);
 
+/* The same on disks and clocks that behave as `devices` says, to see what a store comes to where they fail. It has for each repository how many
+ * numbers its clock gives, and these; then how many calls of its disks fail, and of each the number of its disk, 0 to 2 (the logs, then the pages),
+ * and which call of that disk it is, counted from 1. All are numbers of eight bytes, the highest first. Behind its last number a clock gives that
+ * again and again, and 0 where it has none. A call that fails changes nothing. Behind the image in `after` stand the calls of each disk: how many
+ * there were, as eight bytes, and a letter for each: `r` it read, `l` told its length, `w` wrote, `s` synced, `c` was crashed and started again,
+ * `f` failed. The answer is 2, too, where `devices` is none of so many repositories. An image may end behind any repository: those that are left
+ * are new. */
+uint8_t kilntaupe_c_play_with(const struct kilntaupe_given *given, const uint8_t *script, size_t script_length, const uint8_t *image,
+                              size_t image_length, const uint8_t *devices, size_t devices_length, uint8_t *report, size_t report_room,
+                              uint8_t *after, size_t after_room, struct kilntaupe_lengths *lengths);
+
 #endif

@@ -13,7 +13,7 @@ use Rattle.page_format.specs.Pages as page
 use Rattle.thor_value.specs.FiniteMap.{get}
 use Rattle.thor_value.specs.Formats.{AreApart, IsAtFront}
 use Rattle.thor_value.specs.declared.values.Obj.{Obj}
-use Rattle.client_cache.specs.Placing.{Brings, HasName, IsObject, IsPageOf}
+use Rattle.client_cache.specs.Placing.{Brings, HasName, IsObject, IsObjectPage, IsPageOf}
 use Rattle.client_cache.specs.Slots.{kept_in}
 use Rattle.client_cache.specs.declared.page_copies.Slot.{Slot}
 use Rattle.thor_value.specs.declared.memory.NoMemory.{NoMemory as OutOfMemory}
@@ -136,6 +136,12 @@ pub told_kept : (r : Result (Option (List Slot)) OutOfMemory) (p : page.Contents
 told_kept (Ok (Some slots)) p bytes number apart only b = λ objects is s. same_brought apart p (kept_in slots) objects b (subst (λ (c : page.Contents). Brings c objects) (sym (only is.contents is.fits is.spelled)) is.brings) s
 told_kept (Ok None) p bytes number apart only b = tt
 told_kept (Err e) p bytes number apart only b = tt
+
+-- where nothing was read from it the bytes are no page of objects
+pub told_none : (r : Result (Option (List Slot)) OutOfMemory) (p : page.Contents) (bytes : List ℕ) (number : ℕ) → ((c : page.Contents) → page.PageFits c → bytes ≡ page.page_bytes c → p ≡ c)
+    → IfOk r (λ found. found ≡ None → (objects : ℕ → Option Obj) → Brings p objects → ⊥) → IfOk r (λ found. found ≡ None → IsObjectPage bytes number → ⊥)
+told_none (Ok found) p bytes number only none = λ e is. none e is.0 (subst (λ (c : page.Contents). Brings c is.0) (sym (only is.1.contents is.1.fits is.1.spelled)) is.1.brings)
+told_none (Err e) p bytes number only none = tt
 
 -- the same of the copies that were found
 pub found_kept : (found : Option (List Slot)) (copies : List Slot) (bytes : List ℕ) (number : ℕ) → found ≡ Some copies → IfSome found (λ slots. (objects : ℕ → Option Obj) → IsPageOf bytes number objects → (s : ℕ) → kept_in slots s ≡ objects s)

@@ -18,6 +18,7 @@ use crate::name_set::NameSet;
 use crate::page_copies::Slots;
 use crate::page_name::PageName;
 use crate::placing::copies_of;
+use page_format::PageImage;
 use std::alloc::Global;
 use std::collections::BTreeSet;
 use std::marker::Model;
@@ -118,7 +119,7 @@ impl Cache {
     /// Puts the objects of a page, as its message brings them, in the place of the copies there, and answers whether
     /// the bytes are such a page; where they aren't, nothing has changed. What the try has written stays. The page
     /// becomes the most recently used one. After `NoMemory` nothing has changed.
-    pub fn place(&mut self, page: u32, repo: u8, bytes: &[u8]) -> Result<bool, NoMemory>
+    pub fn place(&mut self, page: u32, repo: u8, bytes: &PageImage) -> Result<bool, NoMemory>
         ensures placed { IfOk result (λ placed. IsTrue placed ↔ IsObjectPage bytes.now page) }
         ensures kept { OnOk result ((objects : ℕ → Option Obj) → IsPageOf bytes.now page objects → (x : Oref) → kept self.new x ≡ cond (same_page (on repo page) (page_of x)) (objects x.slot) (kept self.old x)) }
         ensures changed { OnOk result ((x : Oref) → changed self.new x ≡ changed self.old x) }

@@ -9,28 +9,29 @@ ghost use Rattle.client_cache.specs.Slots.{kept_in, written_in};
 
 use crate::page_copies::Slots;
 use object_codec::{ObjFault, objects_are_apart, read_obj};
-use page_format::{Damaged, Page};
+use page_format::{Page, PageImage, pages_are_apart};
 use std::alloc::Global;
 use thor_value::{NoMemory, Obj, SLOTS};
 
 /// The copies that the bytes of a page bring; nothing where they aren't the page of this number, or one of its slots
 /// isn't one that objects are named by or hasn't one object.
-pub(crate) fn copies_of(alloc: Global, bytes: &[u8], number: u32) -> Result<Option<Slots>, NoMemory>
+pub(crate) fn copies_of(
+    alloc: Global,
+    bytes: &PageImage,
+    number: u32,
+) -> Result<Option<Slots>, NoMemory>
     ensures page { IfOk result (λ found. IfSome found (λ slots. IsPageOf bytes.now number (kept_in slots))) }
     ensures none { IfOk result (λ found. found ≡ None → IsObjectPage bytes.now number → ⊥) }
     ensures kept { IfOk result (λ found. IfSome found (λ slots. (objects : ℕ → Option Obj) → IsPageOf bytes.now number objects → (s : ℕ) → kept_in slots s ≡ objects s)) }
     ensures written { IfOk result (λ found. IfSome found (λ slots. (s : ℕ) → written_in slots s ≡ None)) }
 {
     objects_are_apart();
-    let page = match Page::parse(alloc, bytes) {
-        Ok(page) => page,
-        Err(Damaged::NoPage) => return Ok(None),
-        Err(Damaged::NoMemory) => return Err(NoMemory),
-    };
+    pages_are_apart();
+    let page = bytes.page();
     if page.number() != number {
         return Ok(None);
     }
-    copies_on(alloc, &page)
+    copies_on(alloc, page)
 }
 
 /// The copies that a page brings; nothing where one of its slots isn't one that objects are named by or hasn't one

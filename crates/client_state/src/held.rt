@@ -20,11 +20,12 @@ ghost use Rattle.thor_value.specs.declared.names.Oref.{Oref};
 use crate::link::{Link, Waits};
 use client_cache::Looked;
 use client_items::Opened;
+use page_format::PageImage;
 use paused_eval::{Copies, GrantedNames};
 use session_outbox::At;
 use std::alloc::Global;
 use std::mem;
-use thor_value::{NoMemory, Obj, Oref, REPOSITORIES, Repos, SLOTS, Text, TryCopy, Ts};
+use thor_value::{NoMemory, Obj, Oref, REPOSITORIES, Repos, SLOTS, TryCopy, Ts};
 
 /// What a client holds of the repositories.
 #[derive(Drop)]
@@ -352,12 +353,12 @@ impl Held {
 
     /// Puts a page's objects in the place of the copies of it. Bytes that are no page of objects bring
     /// nothing.
-    pub fn place(&mut self, repo: u8, page: u32, bytes: &Text) -> Result<(), NoMemory>
+    pub fn place(&mut self, repo: u8, page: u32, bytes: &PageImage) -> Result<(), NoMemory>
         ensures kept { OnOk result (BringsPage repo page bytes.now self.old.cache.cache self.new.cache.cache) }
         ensures writes { WritesStay self.old.cache.cache self.new.cache.cache }
         ensures rest { self.new ≡ record self.old { cache = self.new.cache } }
     {
-        self.cache.place(page, repo, bytes.as_slice())?;
+        self.cache.place(page, repo, bytes)?;
         Ok(())
     }
 

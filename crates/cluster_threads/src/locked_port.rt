@@ -1,6 +1,6 @@
 //! The calls of one client, each of which takes the lock of one repository.
 
-use crate::locks::Locks;
+use crate::locks::{Decisions, Locks};
 use crate::prompts::Prompt;
 use client_port::Port;
 use cluster_core::Seat;
@@ -14,6 +14,10 @@ use std::sync::{MutexGuard, Wait};
 use std::thread;
 use thor_value::Ts;
 
+/// How often a client waits in vain at most for another one's decision: for a second each time. Behind that it goes on
+/// at once, so that a transaction that nobody decides any more doesn't hold the run up for each try of each item.
+pub(crate) const MOST_WAITS: u8 = 10;
+
 /// The repositories behind their locks, as one client calls them. Each call is one event of one repository. The
 /// gate is passed before a call and behind it, with no lock held.
 #[derive(Drop)]
@@ -23,6 +27,8 @@ pub(crate) struct LockedPort<'a, R: Wait, P: Parts, G: Gate> {
     pub(crate) client: u8,
     /// Where to prompt the repositories to be flushed, in their order; empty where nobody flushes.
     pub(crate) prompts: Vec<Sender<Prompt>>,
+    /// How often it may still wait for another client's decision in vain.
+    pub(crate) waits: u8,
 }
 
 impl<'a, R: Wait, P: Parts, G: Gate> LockedPort<'a, R, P, G> {
@@ -53,6 +59,16 @@ impl<'a, R: Wait, P: Parts, G: Gate> LockedPort<'a, R, P, G> {
     fn give_way(&self, answer: &Result<u64, Refusal>) {
         if answer.is_err() {
             thread::yield_now();
+        }
+    }
+
+    /// Waits until the repository has decided more, which is what another client does that stands between its first
+    /// `prepare` and its `decide`, and mostly waits for a disk there. A client that tried again at once would use up its
+    /// tries meanwhile. It holds no lock here, and has aborted its own transaction, so nobody waits in a circle: one
+    /// that meets what it has prepared asks for it, and is told the abort.
+    fn await_decision(&mut self, repo: u8, before: Decisions) {
+        if self.waits > 0 && !self.locks.await_decision(repo, before) {
+            self.waits = self.waits.saturating_sub(1);
         }
     }
 
@@ -126,6 +142,7 @@ impl<'a, R: Wait, P: Parts, G: Gate> Port for LockedPort<'a, R, P, G> {
     fn decide(&mut self, at: At, tx: Ts, commit: bool) -> Result<Verdict, Refusal> {
         let mut seat = self.begin(at.repo)?;
         let answer = seat.decide(at, tx, commit);
+        self.locks.tell_decided(at.repo);
         self.end(at.repo, seat);
         answer
     }
@@ -147,7 +164,11 @@ impl<'a, R: Wait, P: Parts, G: Gate> Port for LockedPort<'a, R, P, G> {
     fn ask(&mut self, repo: u8, tx: Ts) -> Result<Asked, Refusal> {
         let mut seat = self.begin(repo)?;
         let answer = seat.ask(repo, tx);
+        let before = self.locks.decisions(repo);
         self.end(repo, seat);
+        if let Ok(Asked::Undecided) = answer {
+            self.await_decision(repo, before);
+        }
         answer
     }
 }

@@ -29,7 +29,10 @@ fn restart<R: Wait, P: Parts, G: Gate>(
         return Ok(());
     };
     match locks.enter(repo) {
-        Some(mut seat) => seat.restart(u64::from(pick)),
+        Some(mut seat) => {
+            locks.tell_decided(repo);
+            seat.restart(u64::from(pick))
+        }
         None => Ok(()),
     }
 }

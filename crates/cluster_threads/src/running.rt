@@ -6,7 +6,7 @@ ghost use Rattle.std.specs.Prelude.{vec_len, ◌≡◌, ◌≤◌};
 use crate::beside::beside;
 use crate::client::{Client, Job};
 use crate::flushing::Flusher;
-use crate::locked_port::LockedPort;
+use crate::locked_port::{LockedPort, MOST_WAITS};
 use crate::locks::{Locks, lock_all, unlock_all};
 use crate::prompts::{Channels, Prompt, make_channels, others};
 use cluster_core::{Cluster, Emptied, Finished, Seat};
@@ -144,6 +144,7 @@ fn jobs_of<'a, C: Client<S>, S, R: Wait, P: Parts, G: Gate>(
             locks,
             client: number_behind(jobs.len()),
             prompts: others(alloc, senders.as_slice())?,
+            waits: MOST_WAITS,
         };
         jobs.push(Job {
             client,
@@ -193,6 +194,7 @@ fn ask_last<'a, C: Client<S>, S, R: Wait, P: Parts, G: Gate>(
             locks,
             client: number_behind(place),
             prompts: Vec::new(alloc),
+            waits: 0,
         };
         client.last(&mut port, opened)?;
     }

@@ -22,11 +22,11 @@ use base_reasons::Reason;
 use client_items::{News, Opened};
 use client_port::Port;
 use client_state::cause_of;
-use page_format::Page;
+use page_format::{Page, PageImage};
 use repo_refusals::Refusal;
 use serial_model::Cause;
 use session_outbox::{At, Message};
-use thor_value::{NoMemory, Oref, Orefs, Text};
+use thor_value::{NoMemory, Oref, Orefs};
 
 /// Whether an object lies on a page.
 fn is_on(oref: Oref, repo: u8, page: u32) -> bool
@@ -172,7 +172,7 @@ impl Client {
     }
 
     /// A page has come. Where it lacks the object that is needed next, the try ends.
-    fn take_page(&mut self, repo: u8, page: u32, bytes: &Text) -> Result<News, NoMemory>
+    fn take_page(&mut self, repo: u8, page: u32, bytes: &PageImage) -> Result<News, NoMemory>
         ensures owed { OnOk result ((tries : ℕ) → uncounted tries self.new ≤ uncounted tries self.old) }
         ensures shown { IfOk result (λ news. (old new : View) (repos : ℕ) → (place : ℕ) → IsTaken old new repo (message.Page page bytes.now place) → NewsShown old new repos news) }
         ensures takes { (place : ℕ) → OnOk result (TakesCopies repo (message.Page page bytes.now place) self.old.held self.new.held) }
@@ -198,7 +198,7 @@ impl Client {
         ensures writes { ClientWrites self.old → ClientWrites self.new }
         ensures rises { Rises self.old.held self.new.held }
     {
-        let bytes = Page::empty(self.held.alloc, page)?.spell()?;
+        let bytes = PageImage::new(Page::empty(self.held.alloc, page)?);
         self.held.place(repo, page, &bytes)?;
         if self.held.names.has_none_of(repo, page) {
             self.held.names.grant(repo, page)?;

@@ -1,12 +1,13 @@
 //! The store for C and Rust: a script is played on disks in memory, which are handed in and come back as bytes.
 #![tactic(auto)]
 
+mod devices;
 mod given;
 mod images;
 mod playing;
 
 use crate::images::Unread;
-use crate::playing::{Lengths, play, play_on};
+use crate::playing::{Lengths, play, play_on, play_with_devices};
 pub use given::KilntaupeGiven;
 use std::alloc::Global;
 use top_reply::Status;
@@ -67,4 +68,29 @@ pub extern "C" fn kilntaupe_c_play_on(
     lengths: &mut KilntaupeLengths,
 ) -> u8 {
     put_lengths(lengths, play_on(alloc, given, script, image, report, after))
+}
+
+/// The same on disks and clocks that behave as `devices` says, to see what a store comes to where they fail.
+///
+/// `devices` has for each repository how many numbers its clock gives, and these; then how many calls of its disks fail, and of each
+/// the number of its disk, 0 to 2 (the logs, then the pages), and which call of that disk it is, counted from 1. All are numbers of
+/// eight bytes, the highest first. Behind its last number a clock gives that again and again, and 0 where it has none. A call that
+/// fails changes nothing. Behind the image in `after` stand the calls of each disk: how many there were, as eight bytes, and a letter
+/// for each: `r` it read, `l` told its length, `w` wrote, `s` synced, `c` was crashed and started again, `f` failed.
+///
+/// The answer is 2, too, where `devices` is none of so many repositories. An image may end behind any repository: those that are left
+/// are new.
+#[unsafe(no_mangle)]
+pub extern "C" fn kilntaupe_c_play_with(
+    alloc: Global,
+    given: &KilntaupeGiven,
+    script: &[u8],
+    image: &[u8],
+    devices: &[u8],
+    report: &mut [u8],
+    after: &mut [u8],
+    lengths: &mut KilntaupeLengths,
+) -> u8 {
+    let played = play_with_devices(alloc, given, script, image, devices, report, after);
+    put_lengths(lengths, played)
 }

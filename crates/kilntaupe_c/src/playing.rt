@@ -1,7 +1,11 @@
 //! A script is played.
 
+use crate::devices::GivenClock;
 use crate::given::KilntaupeGiven;
-use crate::images::{Disks, Unread, image_of, new_disks, read_image};
+use crate::images::{
+    Disks, Unread, image_of, new_disks, put_all_calls, read_image, read_with_devices,
+};
+use disk_trait::{Clock, MemParts};
 use outside::{MemSink, MemSource};
 use std::alloc::Global;
 use thor_top::{Outcome, Status, StoreParts, perform};
@@ -18,11 +22,11 @@ pub(crate) struct Lengths {
 
 /// What a run has come to.
 #[derive(Drop)]
-struct Played {
+struct Played<C> {
     status: Status,
     /// How long its text is.
     report: usize,
-    disks: Disks,
+    disks: Disks<C>,
 }
 
 /// Puts bytes into a room, as many as it takes. How many there were.
@@ -34,13 +38,13 @@ fn put_into(room: &mut [u8], bytes: &[u8]) -> usize {
 }
 
 /// Plays a script that is a text of its own, on disks.
-fn play_text(
+fn play_text<C: Clock>(
     alloc: Global,
     given: &KilntaupeGiven,
     script: Text,
-    disks: Disks,
+    disks: Disks<C>,
     report: &mut [u8],
-) -> Played {
+) -> Played<C> {
     let mut source = MemSource::new(script, Ints::new(alloc));
     let mut sink = MemSink::new(Ints::new(alloc));
     let plan = Plan {
@@ -76,13 +80,13 @@ fn play_text(
 }
 
 /// Plays a script on disks.
-fn play_disks(
+fn play_disks<C: Clock>(
     alloc: Global,
     given: &KilntaupeGiven,
     script: &[u8],
-    disks: Disks,
+    disks: Disks<C>,
     report: &mut [u8],
-) -> Result<Played, NoMemory> {
+) -> Result<Played<C>, NoMemory> {
     let (disks, text) = both(disks, Text::from_slice(alloc, script))?;
     Ok(play_text(alloc, given, text, disks, report))
 }
@@ -121,6 +125,15 @@ pub(crate) fn play_on(
     let disks = read_image(alloc, image, given.repos)?;
     let played = play_disks(alloc, given, script, disks, report)?;
     let image = image_of(alloc, played.disks.as_slice());
+    put_image(played, image, after)
+}
+
+/// The lengths of a run whose disks have this image.
+fn put_image<C: Clock>(
+    played: Played<C>,
+    image: Result<Text, NoMemory>,
+    after: &mut [u8],
+) -> Result<Lengths, Unread> {
     let Played {
         status,
         report,
@@ -133,4 +146,31 @@ pub(crate) fn play_on(
         report,
         image: put_into(after, image.as_slice()),
     })
+}
+
+/// The image of disks, and behind it the calls on them.
+fn image_and_calls(alloc: Global, disks: &[MemParts<GivenClock>]) -> Result<Text, NoMemory> {
+    let mut image = image_of(alloc, disks)?;
+    put_all_calls(&mut image, disks)?;
+    Ok(image)
+}
+
+/// Plays a script on the store of an image, with given clocks and failing calls, and puts the image of what its disks hold then, and
+/// behind it the calls on them.
+pub(crate) fn play_with_devices(
+    alloc: Global,
+    given: &KilntaupeGiven,
+    script: &[u8],
+    image: &[u8],
+    devices: &[u8],
+    report: &mut [u8],
+    after: &mut [u8],
+) -> Result<Lengths, Unread> {
+    if !given.is_within_ranges() {
+        return Err(Unread::Wrong);
+    }
+    let disks = read_with_devices(alloc, image, devices, given.repos)?;
+    let played = play_disks(alloc, given, script, disks, report)?;
+    let image = image_and_calls(alloc, played.disks.as_slice());
+    put_image(played, image, after)
 }

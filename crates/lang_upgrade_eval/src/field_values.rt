@@ -44,20 +44,20 @@ pub fn field_behind(classes: &Classes, object: Option<&Object>, name: &Name) -> 
 }
 
 /// The object that a value names, where it names one that is there.
-pub fn object_behind(objects: &PlainObjects, value: Option<Value>) -> Option<&Object>
-    ensures { option_copied result ≡ object_behind (get objects.now) value }
+pub fn object_behind<'a>(objects: &'a PlainObjects, value: &Option<Value>) -> Option<&'a Object>
+    ensures { option_copied result ≡ object_behind (get objects.now) value.now }
 {
     match value {
-        Some(Value::Ref(oref)) => objects.get(oref),
+        Some(Value::Ref(oref)) => objects.get(*oref),
         Some(Value::Int(_)) | Some(Value::Null) | Some(Value::Text(_)) | None => None,
     }
 }
 
 /// What a path leads to from an object.
-fn path_value(
+fn path_value<'a>(
     classes: &Classes,
-    objects: &PlainObjects,
-    object: &Object,
+    objects: &'a PlainObjects,
+    object: &'a Object,
     names: &Names,
 ) -> Option<Value>
     ensures { result ≡ path_value classes.now (get objects.now) (Some object.now) names.now }
@@ -66,7 +66,7 @@ fn path_value(
     let mut value = None;
     for name in names.as_slice() {
         value = field_behind(classes, reached, name);
-        reached = object_behind(objects, value);
+        reached = object_behind(objects, &value);
     }
     value
 }

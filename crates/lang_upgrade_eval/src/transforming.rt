@@ -1,4 +1,4 @@
-ghost use Rattle.std.specs.Prelude.{◌≡◌, IfOk, find, is_some, map};
+ghost use Rattle.std.specs.Prelude.{◌≡◌, ℕ, IfOk, find, is_some, map};
 ghost use Rattle.std.specs.Option.{option_copied};
 ghost use Rattle.std.specs.Str.{bytes_eq};
 ghost use Rattle.thor_value.specs.FiniteMap.{get};

@@ -116,18 +116,18 @@ fn follow(
     let old = classes_at(past.schemas, before, &none);
     let mut reached = value;
     for name in names {
-        look(past, before, reached, parts, looked)?;
-        reached = field_behind(old, object_behind(parts, reached), name);
+        look(past, before, &reached, parts, looked)?;
+        reached = field_behind(old, object_behind(parts, &reached), name);
     }
     Ok(())
 }
 
 /// The object that a value names.
-fn named(value: Option<Value>) -> Option<Oref>
-    ensures { MatchOption result (named value ≡ []) (λ part. named value ≡ part ∷ []) }
+fn named(value: &Option<Value>) -> Option<Oref>
+    ensures { MatchOption result (named value.now ≡ []) (λ part. named value.now ≡ part ∷ []) }
 {
     match value {
-        Some(Value::Ref(part)) => Some(part),
+        Some(Value::Ref(part)) => Some(*part),
         Some(Value::Int(_)) | Some(Value::Null) | Some(Value::Text(_)) | None => None,
     }
 }
@@ -137,11 +137,11 @@ fn named(value: Option<Value>) -> Option<Oref>
 fn look(
     past: &Past<'_>,
     before: u32,
-    value: Option<Value>,
+    value: &Option<Value>,
     parts: &mut PlainObjects,
     looked: &mut Orefs,
 ) -> Result<(), NoMemory>
-    ensures { OnOk result (Gathers past.now before (named value) parts.old parts.new looked.old looked.new) }
+    ensures { OnOk result (Gathers past.now before (named value.now) parts.old parts.new looked.old looked.new) }
 {
     match named(value) {
         Some(part) => look_at(past, before, part, parts, looked),

@@ -39,7 +39,7 @@ fn set_value(locals: &mut Locals, place: usize, value: Value)
     let hole = Local {
         name: Text::new(locals.allocator()),
         kind: ExprType::Untold,
-        value,
+        value: Value::Null,
     };
     let held = locals.replace(place, hole);
     let Local {

@@ -234,6 +234,7 @@ fn after_field(
         return Ok((leaf(Expr::Field { name: field }), tokens));
     }
     let (read, rest) = arguments(alloc, place, room, tokens)?;
+    let depth = read.depth.max(1) + 1;
     let (field, arguments) = both(field, Exprs::new(alloc, read.exprs))?;
     let (called, receiver) = both((field, arguments), Shared::new(alloc, Expr::This { line }))?;
     let (method, arguments) = called;
@@ -242,7 +243,6 @@ fn after_field(
         method,
         arguments,
     };
-    let depth = read.depth.max(1) + 1;
     Ok((Deep { expr, depth }, rest))
 }
 
@@ -325,11 +325,13 @@ fn primary(
             let value = Literal::Int(value);
             Ok((leaf(Expr::Literal { value, line }), rest))
         }
-        Start::Quoted => {
-            let ((text, line), rest) = quoted(tokens)?;
-            let value = Literal::Text(text);
-            Ok((leaf(Expr::Literal { value, line }), rest))
-        }
+        Start::Quoted => match quoted(tokens) {
+            Ok(((text, line), rest)) => {
+                let value = Literal::Text(text);
+                Ok((leaf(Expr::Literal { value, line }), rest))
+            }
+            Err(error) => Err(error),
+        },
         Start::Name => {
             let (name, rest) = name(tokens)?;
             Ok((leaf(Expr::Variable { name }), rest))

@@ -12,7 +12,7 @@ ghost use Rattle.repo_refusals.specs.Refusals.{bytes_of};
 use crate::names::{Objects, written};
 use log_entries::Request;
 use object_codec::put_obj;
-use page_format::Page;
+use page_format::{Page, PageImage};
 use std::alloc::Global;
 use thor_value::{NoMemory, Obj, Oref, Text, Value};
 
@@ -103,12 +103,12 @@ fn put(alloc: Global, page: &mut Page, name: Oref, object: &Obj) -> Result<(), N
 }
 
 /// The bytes of a page with those of some objects that stand on it. Want of memory, too, where they have no room there.
-pub(crate) fn page_of(alloc: Global, number: u32, objects: &Objects) -> Result<Text, NoMemory>
+pub(crate) fn page_of(alloc: Global, number: u32, objects: &Objects) -> Result<PageImage, NoMemory>
     ensures { IfOk result (λ bytes. bytes ≡ page_bytes (contents_of number objects.now.entries)) }
 {
     let mut page = Page::empty(alloc, number)?;
     for (name, object) in objects {
         put(alloc, &mut page, *name, object)?;
     }
-    page.spell()
+    Ok(PageImage::new(page))
 }

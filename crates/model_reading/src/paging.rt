@@ -11,8 +11,9 @@ use crate::item::Item;
 use crate::opening::Opening;
 use crate::state::State;
 use log_entries::Entry;
+use page_format::PageImage;
 use std::alloc::Global;
-use thor_value::{NoMemory, Text};
+use thor_value::NoMemory;
 
 /// One more entry comes.
 #[tactic(auto, using(crate::proofs::Settling::put_is))]
@@ -60,7 +61,7 @@ pub fn page_at(
     items: &[Item],
     page: u32,
     place: u64,
-) -> Result<Text, NoMemory>
+) -> Result<PageImage, NoMemory>
     ensures { IfOk result (λ bytes. bytes ≡ page_at (base_of opening.now) (trace_of items.now) page place) }
 {
     let state = state_below(alloc, opening, place, items)?;

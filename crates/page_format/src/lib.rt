@@ -3,6 +3,7 @@
 
 mod fault;
 mod format;
+mod image;
 mod page;
 mod sides;
 mod splice;
@@ -10,6 +11,7 @@ mod walk;
 
 pub use fault::{Damaged, Full};
 pub use format::StoreFormat;
+pub use image::PageImage;
 pub use page::{Page, pages_are_apart, twelve_objects_fit};
 pub use sides::{Room, Sides};
 pub use walk::PAGE as PAGE_BYTES;

@@ -134,6 +134,13 @@ impl Page {
         Ok(())
     }
 
+    /// The objects fit a page.
+    pub fn within(&self)
+        ensures { ObjectsFit self.now.objects.pairs }
+    {
+        let _count = self.entries.len();
+    }
+
     /// The one spelling of the page.
     pub fn spell(&self) -> Result<Text, NoMemory>
         ensures text { IfOk result (λ text. text ≡ page_bytes self.now) }

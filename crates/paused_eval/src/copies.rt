@@ -12,6 +12,7 @@ ghost use Rattle.client_cache.specs.Placing.{IsObjectPage, IsPageOf};
 ghost use Rattle.paused_eval.specs.Copies.{AreAmong, Keeps, Tied};
 
 use client_cache::{Cache, Looked};
+use page_format::PageImage;
 use std::alloc::Global;
 use thor_value::{NoMemory, Obj, Oref, Orefs};
 
@@ -57,7 +58,7 @@ impl Copies {
     /// the bytes are such a page; where they aren't, nothing has changed. What the try has written stays. The page
     /// becomes the most recently used one. After `NoMemory` nothing has changed.
     #[tactic(auto, using(crate::proofs::Hands::same_tied))]
-    pub fn place(&mut self, page: u32, repo: u8, bytes: &[u8]) -> Result<bool, NoMemory>
+    pub fn place(&mut self, page: u32, repo: u8, bytes: &PageImage) -> Result<bool, NoMemory>
         ensures placed { IfOk result (λ placed. IsTrue placed ↔ IsObjectPage bytes.now page) }
         ensures kept { OnOk result ((objects : ℕ → Option Obj) → IsPageOf bytes.now page objects → (x : Oref) → kept self.new.cache x ≡ cond (same_page (on repo page) (page_of x)) (objects x.slot) (kept self.old.cache x)) }
         ensures changed { (x : Oref) → changed self.new.cache x ≡ changed self.old.cache x }

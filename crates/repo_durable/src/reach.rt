@@ -7,10 +7,7 @@ ghost use Rattle.page_store.specs.Sides.{ReachesSides};
 ghost use Rattle.repo_durable.specs.Reach.{are_within, end_of, is_within};
 
 use disk_trait::{Disk, Outage, Parts};
-use page_format::Sides;
-
-/// How many bytes a side of a page has.
-const SIDE: u64 = 4_096;
+use page_format::{PAGE_BYTES, Sides};
 
 /// Whether the disk of pages reaches the end of each installed side: one call for its length.
 pub(crate) fn reaches<P: Parts>(parts: &mut P, sides: &Sides) -> Result<bool, Outage>
@@ -50,5 +47,5 @@ fn is_within(side: (u32, u8), length: u64) -> bool
 fn end_of(page: u32, side: u8) -> u64
     ensures { result ≡ end_of page side }
 {
-    (2 * u64::from(page) + u64::from(side) + 1) * SIDE
+    (2 * u64::from(page) + u64::from(side) + 1) * PAGE_BYTES as u64
 }

@@ -12,13 +12,13 @@ ghost use Rattle.validation_queue.specs.Names.{Rises};
 ghost use Rattle.repo_sessions.specs.Sessions.{KeepsNumbers, acknowledged, begun, ended, is_live, no_sessions, retire, sent, has_session, taken, without};
 
 use cached_sets::Sets;
-use page_format::Page;
+use page_format::{Page, PageImage};
 use session_outbox::{Message, Outbox};
 use std::alloc::Global;
 use std::collections::BTreeMap;
 use std::marker::Model;
 use std::mem;
-use thor_value::{NoMemory, Oref, Orefs};
+use thor_value::{NoMemory, Oref, Orefs, TryCopy};
 
 /// The live sessions of a repository, each with what its client may have cached and what waits for it, and the
 /// sessions that were given up and haven't ended. A client has one of these at most.
@@ -199,7 +199,7 @@ impl Sessions {
         ensures ok { OnOk result (self.new ≡ sent self.old session page.now.number (APage page.now.number (page_bytes page.now) place)) }
         ensures last { self.new.last ≡ self.old.last }
     {
-        let bytes = page.spell()?;
+        let bytes = PageImage::new(page.copy()?);
         let page = page.number();
         self.send(session, page, Message::Page { page, bytes, place })
     }

@@ -229,7 +229,7 @@ alone_made repo prepared decisions singles c to = sym (append_nil c.alone.pairs)
     append_nil [] = refl
     append_nil (e ∷ es) = ap (λ (fs : List (ℕ × Ts)). e ∷ fs) (append_nil es)
 
-pub same_made : (s : State) (i : List (ℕ × ℕ)) (m : List (Oref × Obj)) (p : List Request) (k : List Ts) (a : List (ℕ × Ts)) → s.format ≡ 1 → i ≡ s.installed → m ≡ s.mob → p ≡ s.prepared → k ≡ s.kept → a ≡ s.alone → record s { format = 1; installed = i; mob = m; prepared = p; kept = k; alone = a } ≡ s
+pub same_made : (s : State) (i : List (ℕ × ℕ)) (m : List (Oref × Obj)) (p : List Request) (k : List Ts) (a : List (ℕ × Ts)) → s.format ≡ 2 → i ≡ s.installed → m ≡ s.mob → p ≡ s.prepared → k ≡ s.kept → a ≡ s.alone → record s { format = 2; installed = i; mob = m; prepared = p; kept = k; alone = a } ≡ s
 same_made s i m p k a format installed mob prepared kept alone =
     ap (λ (x : ℕ). record s { format = x; installed = i; mob = m; prepared = p; kept = k; alone = a }) (sym format)
     ∙ ap (λ (x : List (ℕ × ℕ)). record s { installed = x; mob = m; prepared = p; kept = k; alone = a }) installed

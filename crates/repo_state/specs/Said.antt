@@ -7,7 +7,7 @@ use Rattle.repo_state.specs.declared.held.Held.{Held}
 abbrev pub said : Held → State
 said h =
     record {
-      format = 1;
+      format = 2;
       repo = h.repo;
       repos = h.repos;
       life = h.life;

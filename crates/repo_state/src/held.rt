@@ -216,7 +216,7 @@ impl Held {
         let ((classes, roots, upgrades), (installed, mob)) = held;
         let (prepared, kept, alone) = standing;
         Ok(State {
-            format: 1,
+            format: 2,
             repo: self.repo,
             repos: self.repos,
             life: self.life,

@@ -1,6 +1,7 @@
 ghost use Rattle.session_outbox.specs.Messages.{place_of};
 ghost use Rattle.std.specs.Prelude.{◌≡◌};
 
+use page_format::PageImage;
 use thor_value::{Orefs, Text};
 
 /// What waits in an outbox for a client (Liskov and others, SIGMOD 1996; places are this project's).
@@ -14,7 +15,7 @@ pub enum Message {
         /// Its number.
         page: u32,
         /// Its bytes.
-        bytes: Text,
+        bytes: PageImage,
         /// How many entries there were when it was read.
         place: u64,
     },

@@ -101,6 +101,96 @@ fn seal_methods(
     Ok(())
 }
 
+/// The methods of a box that go by its text.
+fn label_methods(pieces: &mut Pieces, depth: u8, layout: &Layout) -> Result<(), NoMemory> {
+    let l = layout.label();
+    let alloc = pieces.alloc;
+    let label = format!(in alloc; "method text label() {{ return this.{l}; }}")?;
+    pieces.line(depth, label)?;
+    let call = format!(in alloc;
+        "method text call(text to) {{ var text was = this.{l}; this.{l} = to; return was; }}"
+    )?;
+    pieces.line(depth, call)?;
+    let is = format!(in alloc; "method int is(text other) {{ return this.{l} == other; }}")?;
+    pieces.line(depth, is)?;
+    let advance = format!(in alloc;
+        "method text advance() {{ if (this.{l} == \"new\") {{ this.{l} = \"paid\"; return this.{l}; }} if (this.{l} != \"sent\") {{ this.{l} = \"sent\"; return this.{l}; }} this.{l} = \"new\"; }}"
+    )?;
+    pieces.line(depth, advance)?;
+    let trade = format!(in alloc;
+        "method int trade(Box with) {{ this.{l} = with.call(this.{l}); return with.label() != this.{l}; }}"
+    )?;
+    pieces.line(depth, trade)
+}
+
+/// The same methods of a box without a text.
+fn unlabeled_methods(pieces: &mut Pieces, depth: u8) -> Result<(), NoMemory> {
+    fixed(pieces, depth, "method text label() { return \"none\"; }")?;
+    fixed(pieces, depth, "method text call(text to) { return to; }")?;
+    fixed(
+        pieces,
+        depth,
+        "method int is(text other) { return other == \"none\"; }",
+    )?;
+    fixed(pieces, depth, "method text advance() { }")?;
+    fixed(
+        pieces,
+        depth,
+        "method int trade(Box with) { with.call(this.label()); return 0; }",
+    )
+}
+
+/// What fills a box's further texts.
+fn note_method(pieces: &mut Pieces, depth: u8, layout: &Layout) -> Result<(), NoMemory> {
+    let alloc = pieces.alloc;
+    let mut text = format!(in alloc; "method text fill(text with) {{")?;
+    for place in 0..layout.notes {
+        let more = format!(in alloc; " this.g{place} = with;")?;
+        text.push_str(&more)?;
+    }
+    text.push_str(if layout.notes == 0 {
+        " return with; }"
+    } else {
+        " return this.g0; }"
+    })?;
+    pieces.line(depth, text)
+}
+
+/// The methods of a box that go by its seal's text.
+fn brand_methods(pieces: &mut Pieces, depth: u8, layout: &Layout) -> Result<(), NoMemory> {
+    let s = layout.seal();
+    let alloc = pieces.alloc;
+    let brand = format!(in alloc;
+        "method text brand(text to) {{ if (this.{s} == null) {{ this.{s} = new Seal(); }} return this.{s}.brand(to); }}"
+    )?;
+    pieces.line(depth, brand)?;
+    let branded = format!(in alloc;
+        "method text branded() {{ if (this.{s} == null) {{ return \"no seal\"; }} return this.{s}.branded(); }}"
+    )?;
+    pieces.line(depth, branded)
+}
+
+/// The methods of a box that go by texts.
+fn text_methods(
+    pieces: &mut Pieces,
+    depth: u8,
+    world: &World,
+    layout: &Layout,
+) -> Result<(), NoMemory> {
+    if layout.label {
+        label_methods(pieces, depth, layout)?;
+    } else {
+        unlabeled_methods(pieces, depth)?;
+    }
+    if world.notes > 0 {
+        note_method(pieces, depth, layout)?;
+    }
+    if world.seals {
+        brand_methods(pieces, depth, layout)?;
+    }
+    Ok(())
+}
+
 /// The methods of a box.
 pub(crate) fn box_methods(
     pieces: &mut Pieces,
@@ -117,6 +207,9 @@ pub(crate) fn box_methods(
     }
     if world.seals {
         seal_methods(pieces, depth, world, layout)?;
+    }
+    if world.labels {
+        text_methods(pieces, depth, world, layout)?;
     }
     Ok(())
 }
@@ -194,7 +287,22 @@ pub(crate) fn seal_class_methods(
         )?;
         pieces.line(depth, pay)?;
     }
+    if world.labels {
+        branding_methods(pieces, depth, layout)?;
+    }
     Ok(())
+}
+
+/// The methods of a seal that go by its text.
+fn branding_methods(pieces: &mut Pieces, depth: u8, layout: &Layout) -> Result<(), NoMemory> {
+    let b = layout.brand();
+    let alloc = pieces.alloc;
+    let brand = format!(in alloc;
+        "method text brand(text to) {{ var text was = this.{b}; this.{b} = to; return was; }}"
+    )?;
+    pieces.line(depth, brand)?;
+    let branded = format!(in alloc; "method text branded() {{ return this.{b}; }}")?;
+    pieces.line(depth, branded)
 }
 
 /// The methods of wax.
@@ -232,11 +340,24 @@ fn box_class(pieces: &mut Pieces, world: &World, layout: &Layout) -> Result<(), 
     if world.seals {
         field(pieces, "Seal", layout.seal())?;
     }
+    if world.labels {
+        field(pieces, "text", layout.label())?;
+    }
+    further_fields(pieces, layout)?;
+    box_methods(pieces, 1, world, layout)
+}
+
+/// Puts the further numbers and texts of a box.
+fn further_fields(pieces: &mut Pieces, layout: &Layout) -> Result<(), NoMemory> {
     for place in 0..layout.fills {
         let text = format!(in pieces.alloc; "int f{place};")?;
         pieces.line(1, text)?;
     }
-    box_methods(pieces, 1, world, layout)
+    for place in 0..layout.notes {
+        let text = format!(in pieces.alloc; "text g{place};")?;
+        pieces.line(1, text)?;
+    }
+    Ok(())
 }
 
 /// The class of seals.
@@ -252,6 +373,9 @@ fn seal_class(pieces: &mut Pieces, world: &World, layout: &Layout) -> Result<(),
     }
     if world.points {
         field(pieces, "Box", layout.target())?;
+    }
+    if world.labels {
+        field(pieces, "text", layout.brand())?;
     }
     seal_class_methods(pieces, 1, world, layout)
 }

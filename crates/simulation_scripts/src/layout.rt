@@ -4,7 +4,7 @@ ghost use Rattle.std.specs.Prelude.{◌<◌, ◌≤◌};
 
 use crate::world::World;
 
-/// How the fields of the classes are called in an epoch. The four names of a class change places by turns.
+/// How the fields of the classes are called in an epoch. The five names of a class change places by turns.
 #[derive(Clone, Copy)]
 pub struct Layout {
     pub boxes: u8,
@@ -12,8 +12,12 @@ pub struct Layout {
     pub wax: u8,
     /// Whether a box has its second number.
     pub second: bool,
+    /// Whether a box has its text.
+    pub label: bool,
     /// How many further numbers a box has.
     pub fills: u8,
+    /// How many further texts.
+    pub notes: u8,
 }
 
 impl Layout {
@@ -24,7 +28,9 @@ impl Layout {
             seals: 0,
             wax: 0,
             second: world.second,
+            label: world.labels,
             fills: world.fills,
+            notes: world.notes,
         }
     }
 
@@ -48,6 +54,11 @@ impl Layout {
         letter(b'p', self.boxes, 3)
     }
 
+    /// Its text.
+    pub fn label(&self) -> char {
+        letter(b'p', self.boxes, 4)
+    }
+
     /// A seal's number.
     pub fn weight(&self) -> char {
         letter(b't', self.seals, 0)
@@ -68,6 +79,11 @@ impl Layout {
         letter(b't', self.seals, 3)
     }
 
+    /// A seal's text.
+    pub fn brand(&self) -> char {
+        letter(b't', self.seals, 4)
+    }
+
     /// The number of a piece of wax.
     pub fn drops(&self) -> char {
         letter(b'a', self.wax, 0)
@@ -79,10 +95,10 @@ impl Layout {
     }
 }
 
-/// One of four letters from one on, by turns.
+/// One of five letters from one on, by turns.
 fn letter(first: u8, turns: u8, role: u8) -> char
     requires { first ≤ 122 }
 {
-    let place = turns.wrapping_add(role) % 4;
+    let place = turns.wrapping_add(role) % 5;
     (first + place) as char
 }

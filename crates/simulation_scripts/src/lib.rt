@@ -14,6 +14,7 @@ mod roots;
 mod script;
 mod shrinking;
 mod statements;
+mod texts;
 mod trouble;
 mod upgrades;
 mod words;

@@ -2,6 +2,7 @@
 
 use crate::draws::Draws;
 use crate::pieces::Pieces;
+use crate::texts::draw_text;
 use crate::world::World;
 use thor_value::NoMemory;
 
@@ -129,6 +130,39 @@ impl<'a> Statements<'a> {
         self.pieces.line(depth, text)
     }
 
+    /// Puts a statement that goes by texts.
+    fn labelling(&mut self, depth: u8) -> Result<(), NoMemory> {
+        let a = self.root();
+        let b = self.root();
+        let word = draw_text(self.draws);
+        let alloc = self.pieces.alloc;
+        let text = match self.draws.below(12) {
+            0 => format!(in alloc; "print r{a}.label();")?,
+            1 | 2 => format!(in alloc; "print r{a}.call(\"{word}\");")?,
+            3 => format!(in alloc; "print r{a}.is(\"{word}\");")?,
+            4 => format!(in alloc; "print r{a}.advance();")?,
+            5 => format!(in alloc; "print r{a}.trade(r{b});")?,
+            6 => format!(in alloc; "print r{a}.label() == r{b}.label();")?,
+            7 | 8 if self.world.notes > 0 => format!(in alloc; "print r{a}.fill(\"{word}\");")?,
+            9 if self.world.seals => format!(in alloc; "print r{a}.brand(\"{word}\");")?,
+            10 if self.world.seals => format!(in alloc; "r{a}.call(r{b}.branded());")?,
+            _ => return self.compared(depth, a, b, word),
+        };
+        self.pieces.line(depth, text)
+    }
+
+    /// Calls one root by the text of another, where that isn't this one.
+    fn compared(&mut self, depth: u8, root: u8, other: u8, word: &str) -> Result<(), NoMemory> {
+        let alloc = self.pieces.alloc;
+        let x = self.local();
+        let found = format!(in alloc; "var text x{x} = r{root}.label();")?;
+        self.pieces.line(depth, found)?;
+        let test = format!(in alloc; "if (x{x} != \"{word}\")")?;
+        self.pieces.block(depth, test)?;
+        let text = format!(in alloc; "print r{other}.call(x{x});")?;
+        self.pieces.line(depth.saturating_add(1), text)
+    }
+
     /// Puts a choice, or a repetition, of one statement or two.
     fn nested(&mut self, depth: u8) -> Result<(), NoMemory> {
         let a = self.root();
@@ -166,10 +200,11 @@ impl<'a> Statements<'a> {
 
     /// Puts a statement that has no others in it.
     fn leaf(&mut self, depth: u8) -> Result<(), NoMemory> {
-        match self.draws.below(6) {
+        match self.draws.below(8) {
             0 | 1 if self.world.links => self.linking(depth),
             2 | 3 if self.world.seals => self.sealing(depth),
             4 if self.world.second => self.swapping(depth),
+            5 | 6 if self.world.labels => self.labelling(depth),
             _ => self.simple(depth),
         }
     }

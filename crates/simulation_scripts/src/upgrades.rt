@@ -4,6 +4,7 @@ use crate::classes::{box_methods, seal_class_methods, wax_methods};
 use crate::draws::Draws;
 use crate::layout::Layout;
 use crate::pieces::Pieces;
+use crate::texts::draw_text;
 use crate::world::World;
 use std::alloc::Global;
 use thor_value::NoMemory;
@@ -39,6 +40,14 @@ fn draw_second(draws: &mut Draws, world: &World, has: bool) -> bool {
     world.second && draws.comes(if has { 70 } else { 50 })
 }
 
+fn draw_label(draws: &mut Draws, world: &World, has: bool) -> bool {
+    world.labels && draws.comes(if has { 80 } else { 60 })
+}
+
+fn notes_behind(draws: &mut Draws, notes: u8) -> u8 {
+    if draws.comes(30) { notes / 2 } else { notes }
+}
+
 fn fills_behind(draws: &mut Draws, fills: u8) -> u8 {
     match draws.below(4) {
         0 => fills / 2,
@@ -54,6 +63,8 @@ fn layout_behind(draws: &mut Draws, world: &World, named: Named, old: &Layout) -
         layout.boxes = turned(draws, old.boxes);
         layout.second = draw_second(draws, world, old.second);
         layout.fills = fills_behind(draws, old.fills);
+        layout.label = draw_label(draws, world, old.label);
+        layout.notes = notes_behind(draws, old.notes);
     }
     if named.seals {
         layout.seals = turned(draws, old.seals);
@@ -126,6 +137,44 @@ fn handed(
     pieces.line(3, text)
 }
 
+/// Puts a text that is handed on or, where there was none and at times, begins anew.
+fn text_field(
+    pieces: &mut Pieces,
+    draws: &mut Draws,
+    new: char,
+    old: Option<char>,
+) -> Result<(), NoMemory> {
+    let word = draw_text(draws);
+    let text = match old {
+        Some(old) if draws.comes(80) => format!(in pieces.alloc; "text {new} = old.{old};")?,
+        _ => format!(in pieces.alloc; "text {new} = \"{word}\";")?,
+    };
+    pieces.line(3, text)
+}
+
+/// Puts the texts of a box, the further ones some in each other's places, or in that of its own.
+fn text_fields(
+    pieces: &mut Pieces,
+    draws: &mut Draws,
+    new: &Layout,
+    old: &Layout,
+) -> Result<(), NoMemory> {
+    let label = if old.label { Some(old.label()) } else { None };
+    if new.label {
+        text_field(pieces, draws, new.label(), label)?;
+    }
+    for place in 0..new.notes {
+        let other = place ^ 1;
+        let text = match label {
+            _ if other < old.notes => format!(in pieces.alloc; "text g{place} = old.g{other};")?,
+            Some(label) => format!(in pieces.alloc; "text g{place} = old.{label};")?,
+            None => format!(in pieces.alloc; "text g{place} = \"none\";")?,
+        };
+        pieces.line(3, text)?;
+    }
+    Ok(())
+}
+
 /// Puts the further numbers of a box, some of them in each other's places.
 fn fill_fields(pieces: &mut Pieces, new: &Layout, old: &Layout) -> Result<(), NoMemory> {
     for place in 0..new.fills {
@@ -192,6 +241,7 @@ fn box_change(
         handed(pieces, draws, "Seal", new.seal(), old.seal())?;
     }
     fill_fields(pieces, new, old)?;
+    text_fields(pieces, draws, new, old)?;
     box_methods(pieces, 3, world, new)
 }
 
@@ -239,6 +289,9 @@ fn seal_change(
     }
     if world.points {
         handed(pieces, draws, "Box", new.target(), old.target())?;
+    }
+    if world.labels {
+        text_field(pieces, draws, new.brand(), Some(old.brand()))?;
     }
     seal_class_methods(pieces, 3, world, new)
 }

@@ -40,6 +40,10 @@ pub struct World {
     pub points: bool,
     /// How many further numbers a box has.
     pub fills: u8,
+    /// Whether boxes and seals have a text.
+    pub labels: bool,
+    /// How many further texts a box has.
+    pub notes: u8,
     /// The kind of simple statements that comes most often, and how many times in a hundred.
     pub liked: u8,
     pub liking: u8,
@@ -58,6 +62,15 @@ fn draw_fills(draws: &mut Draws) -> u8 {
         0 => draws.within(20, 26),
         1 | 2 => draws.within(1, 4),
         _ => 0,
+    }
+}
+
+/// So many that an object has 32 fields at most, behind three upgrades too.
+fn draw_notes(draws: &mut Draws, labels: bool, fills: u8) -> u8 {
+    if labels && fills < 5 && draws.comes(30) {
+        draws.within(1, 16)
+    } else {
+        0
     }
 }
 
@@ -103,6 +116,8 @@ fn loose(draws: &mut Draws, bounds: &Bounds, world: World) -> World {
 pub(crate) fn draw_world(draws: &mut Draws, bounds: &Bounds) -> World {
     let plain = draws.comes(40);
     let seals = !plain && draws.comes(60);
+    let labels = draws.comes(if plain { 40 } else { 60 });
+    let fills = if plain { 0 } else { draw_fills(draws) };
     let world = World {
         repos: 1,
         clients: 1,
@@ -117,7 +132,9 @@ pub(crate) fn draw_world(draws: &mut Draws, bounds: &Bounds) -> World {
         wax: seals && draws.comes(50),
         nested: seals && draws.comes(40),
         points: seals && draws.comes(40),
-        fills: if plain { 0 } else { draw_fills(draws) },
+        fills,
+        labels,
+        notes: draw_notes(draws, labels, fills),
         liked: if draws.comes(50) { 2 } else { draws.below(7) },
         liking: draws.within(0, 80),
     };

@@ -1,9 +1,9 @@
 //! The copies that a client holds: what a try leaves of them, and which pages leave.
 
 use client_cache::{Cache, Looked};
-use page_format::Page;
+use page_format::{Page, PageImage};
 use std::alloc::Global;
-use thor_value::{NoMemory, Obj, Oref, Orefs, Text, Value, Values};
+use thor_value::{NoMemory, Obj, Oref, Orefs, Value, Values};
 
 /// A name: its repository, its page and its slot.
 type At = (u8, u32, u8);
@@ -113,11 +113,9 @@ fn name(at: At) -> Oref {
     Oref { repo, page, slot }
 }
 
-/// The bytes of a page with no object.
-fn empty_page(alloc: Global, page: u32) -> Result<Text, NoMemory> {
-    let empty = Page::empty(alloc, page)?;
-    let bytes = empty.spell()?;
-    Ok(bytes)
+/// The image of a page with no object.
+fn empty_page(alloc: Global, page: u32) -> Result<PageImage, NoMemory> {
+    Ok(PageImage::new(Page::empty(alloc, page)?))
 }
 
 fn box_of(alloc: Global, n: i64) -> Result<Obj, NoMemory> {
@@ -151,13 +149,13 @@ fn invalidate_written(alloc: Global, cache: &mut Cache, at: At) -> Result<(), No
 /// Places a page with no object. The answer is whether it was placed.
 fn place(alloc: Global, cache: &mut Cache, repo: u8) -> Result<bool, NoMemory> {
     let bytes = empty_page(alloc, 0)?;
-    cache.place(0, repo, bytes.as_slice())
+    cache.place(0, repo, &bytes)
 }
 
 /// Whether the bytes of page 0 bring nothing where page 1 is meant.
 fn refuses(alloc: Global, cache: &mut Cache, repo: u8) -> Result<bool, NoMemory> {
     let bytes = empty_page(alloc, 0)?;
-    Ok(!cache.place(1, repo, bytes.as_slice())?)
+    Ok(!cache.place(1, repo, &bytes)?)
 }
 
 fn evict(cache: &mut Cache, at: At) {

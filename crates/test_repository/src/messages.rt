@@ -1,5 +1,6 @@
 //! The messages that wait for sessions.
 
+use page_format::{Page, PageImage};
 use session_outbox::{At, Message, Outbox, Verdict};
 use std::alloc::Global;
 use thor_value::{NoMemory, Orefs, Text, Ts};
@@ -36,15 +37,15 @@ const STEPS: &[Step] = &[
     Step::Take(2, None),
 ];
 
-fn message(alloc: Global, form: &Form) -> Message {
-    match form {
+fn message(alloc: Global, form: &Form) -> Result<Message, NoMemory> {
+    Ok(match form {
         Form::Grant(place) => Message::Grant {
             page: 4,
             place: *place,
         },
         Form::Page(place) => Message::Page {
             page: 4,
-            bytes: Text::new(alloc),
+            bytes: PageImage::new(Page::empty(alloc, 4)?),
             place: *place,
         },
         Form::Invalid(place) => Message::Invalid {
@@ -56,7 +57,7 @@ fn message(alloc: Global, form: &Form) -> Message {
             text: Text::new(alloc),
             place: *place,
         },
-    }
+    })
 }
 
 /// The place of what is taken.
@@ -70,7 +71,7 @@ fn taken(outbox: &mut Outbox, session: u32) -> Option<u64> {
 /// Takes a step. The answer is whether it comes out as it says.
 fn holds(alloc: Global, outbox: &mut Outbox, step: &Step) -> Result<bool, NoMemory> {
     match step {
-        Step::Push(session, form) => outbox.push(*session, message(alloc, form))?,
+        Step::Push(session, form) => outbox.push(*session, message(alloc, form)?)?,
         Step::Take(session, place) => return Ok(taken(outbox, *session) == *place),
         Step::Drop(session) => outbox.drop_session(*session),
     }

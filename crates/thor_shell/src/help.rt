@@ -27,7 +27,8 @@ for all but audit:
 for play, run and gen alone:
   --tries N     tries that an item has, 1 to 100 (without it 16)
   --mob N       bytes of a repository's buffer, 1 to 16777216 (without it 1048576)
-  --cache N     pages of a client's cache, 1 to 4096 (without it 64)
+  --cache N     pages of a client's cache, 1 to 4096 (without it 64); 4096 take up to 64 MB for each
+                client, and a repository holds up to 4096 pages in memory as well
 
   --help        writes this text
   --version     writes the version

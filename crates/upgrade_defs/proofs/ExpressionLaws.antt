@@ -20,7 +20,7 @@ use Rattle.method_parse.proofs.Fits.{FitsIn, tightness}
 use Rattle.method_parse.proofs.Lawful.{Says, Lawful, behind, lawful_bind, lawful_if, lawful_last, lawful_repeat, lawful_repeat_all}
 use Rattle.method_parse.proofs.Matched.{join, lawful_name, lawful_number, lawful_quoted, lawful_word, plain}
 use Rattle.method_parse.proofs.SetupLaws.{Any, IsOne, turn-push}
-use Rattle.upgrade_defs.specs.Expressions.{Parts, all_names, at_level, dotted, expression_in, in_parens, integer, is_dot, is_join, is_minus, is_open, joined, joins, leaf, more_names, negated, parens, path, primary, sum, term, unary, value}
+use Rattle.upgrade_defs.specs.Expressions.{Parts, all_names, at_level, dotted, expression_in, in_parens, integer, is_dot, is_join, is_minus, is_open, joined, joins, leaf, more_names, negated, parens, path, primary, sum, term, text_literal, unary, value}
 use Rattle.upgrade_defs.specs.Grammar.{IsTf, alone, has_names, tf_shape}
 use Rattle.upgrade_defs.specs.Spelling.{dot_name, tf_words}
 use Rattle.upgrade_defs.specs.declared.deep.Deep.{Deep}
@@ -256,7 +256,7 @@ text_is w l =
     }
 
 pub lawful_value : Lawful (IsOne tf_words IsTf) value
-unfolding value
+unfolding value text_literal
 lawful_value =
     lawful_if (is (codes "null"))
     (λ t p. lawful_last (λ l. tf.Null l) (lawful_word (codes "null")) (λ l f s. record {

@@ -29,7 +29,7 @@ use Rattle.method_parse.proofs.OperatorOnly.{left_above, left_some, loosen, numb
 use Rattle.method_parse.proofs.Repeats.{no_turn}
 use Rattle.method_parse.proofs.SetupOnly.{Any, all_any}
 use Rattle.method_parse.proofs.StatementOnly.{gives}
-use Rattle.upgrade_defs.specs.Expressions.{Parts, all_names, at_level, dotted, expression_in, in_parens, integer, is_join, joined, joins, leaf, more_names, negated, parens, path, primary, sum, term, unary, value}
+use Rattle.upgrade_defs.specs.Expressions.{Parts, all_names, at_level, dotted, expression_in, in_parens, integer, is_join, joined, joins, leaf, more_names, negated, parens, path, primary, sum, term, text_literal, unary, value}
 use Rattle.upgrade_defs.specs.Grammar.{IsTf, has_names, tf_shape, tf_shape_step}
 use Rattle.upgrade_defs.specs.Spelling.{dot_name, tf_words}
 use Rattle.upgrade_defs.specs.declared.deep.Deep.{Deep}
@@ -568,7 +568,7 @@ quoted_is kinds.Symbol text w e = absurd cc
 quoted_is kinds.Quoted text w e = refl
 
 text_case : (v : List ℕ) (l : ℕ) (ts rest : List Token) → AreWords ts (Quoted v l ∷ []) → value (ts ++ rest) ≡ gives (tf.Literal (literal.Text v) l) rest
-unfolding value
+unfolding value text_literal
 text_case v l ts rest k =
     let no_null : next (is (codes "null")) (ts ++ rest) ≡ false = at_word (is (codes "null")) false (Quoted v l) ts rest [] k (λ t w. rw (quoted_plain t.kind t.text v w.0) refl) in
     let text : next is_quoted (ts ++ rest) ≡ true = at_word is_quoted true (Quoted v l) ts rest [] k (λ t w. quoted_is t.kind t.text v w.0) in

@@ -9,7 +9,7 @@ use Rattle.method_parse.specs.declared.deep.Level.{Level}
 use Rattle.method_parse.specs.declared.deep.Level.TheVariants as levels
 use Rattle.method_parse.proofs.Local.{Local, Strict, local_bind, local_give, local_if, local_name, local_number, local_one, local_quoted, local_repeat, local_repeat_all, local_stuck, local_type, local_word, strict_bind, strict_word}
 use Rattle.method_parse.proofs.LocalReaders.{local_methods}
-use Rattle.upgrade_defs.specs.Expressions.{Parts, all_names, at_level, dotted, expression_in, integer, is_dot, is_join, joined, joins, more_names, parens, path, primary, sum, term, unary, value}
+use Rattle.upgrade_defs.specs.Expressions.{Parts, all_names, at_level, dotted, expression_in, integer, is_dot, is_join, joined, joins, more_names, parens, path, primary, sum, term, text_literal, unary, value}
 use Rattle.upgrade_defs.specs.Upgrades.{all_classes, class, field, fields, is_class, more_classes, more_fields, upgrade}
 use Rattle.upgrade_defs.specs.declared.deep.Deep.{Deep}
 
@@ -89,7 +89,7 @@ local_expression zero l = local_stuck
 local_expression (suc depth) l = local_level (suc depth) (expression_in depth) (local_expression depth) l
 
 local_value : Local value
-unfolding value
+unfolding value text_literal
 local_value =
     local_if _ (local_bind (local_word _) (λ l. local_give _))
     (local_if _ (local_bind local_quoted (λ t. local_give _)) (local_bind (local_expression 32 levels.Sum) (λ d. local_give _)))

@@ -120,16 +120,19 @@ expression_in (suc depth) level = at_level (suc depth) (expression_in depth) lev
 abbrev pub parts_of : ℕ → Parts
 parts_of room = expression_in (room - 1)
 
+-- a text
+unfoldable pub text_literal : Reader Tf
+text_literal = do
+  text ← quoted
+  give (tf.Literal (literal.Text text.0) text.1)
+
 -- `null`, a text, or a sum
 unfoldable pub value : Reader Tf
 value = if_next (is (codes "null"))
     (do
       line ← word (codes "null")
       give (tf.Null line))
-    (if_next is_quoted
-    (do
-      text ← quoted
-      give (tf.Literal (literal.Text text.0) text.1))
+    (if_next is_quoted text_literal
     (do
       read ← expression_in max_depth levels.Sum
       give read.value))

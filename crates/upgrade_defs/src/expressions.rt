@@ -5,7 +5,7 @@ ghost use Rattle.std.specs.Prelude.{◌≡◌, ◌<◌, ◌≤◌, ◌+◌, ◌-
 ghost use Rattle.class_defs.specs.declared.upgrades.Tf.TheVariants.{Binary as ABinary};
 ghost use Rattle.method_parse.specs.Reader.{Gives};
 ghost use Rattle.method_parse.specs.declared.deep.Level.TheVariants as levels;
-ghost use Rattle.upgrade_defs.specs.Expressions.{all_names, at_level, dotted, expression_in, integer, joined, joins, leaf, more_names, parens, parts_of, path, primary, sum, term, unary, value};
+ghost use Rattle.upgrade_defs.specs.Expressions.{all_names, at_level, dotted, expression_in, integer, joined, joins, leaf, more_names, parens, parts_of, path, primary, sum, term, text_literal, unary, value};
 
 use crate::deep::Deep;
 use crate::starts::{is_join, is_minus, is_open};
@@ -291,6 +291,20 @@ fn expression_in(
     at_level(alloc, room, level, tokens)
 }
 
+/// A text.
+#[tactic(auto, unfolding(crate::specs::Expressions::text_literal))]
+fn text_literal(tokens: &[Token]) -> Result<(Tf, &[Token]), ParseError>
+    ensures { Gives (λ x. (x.0, x.1.now)) result (text_literal tokens.now) }
+{
+    match quoted(tokens) {
+        Ok(((text, line), rest)) => {
+            let value = Literal::Text(text);
+            Ok((Tf::Literal { value, line }, rest))
+        }
+        Err(error) => Err(error),
+    }
+}
+
 /// `null`, a text, or a sum.
 #[tactic(auto, unfolding(crate::specs::Expressions::value))]
 pub fn value(alloc: Global, tokens: &[Token]) -> Result<(Tf, &[Token]), ParseError>
@@ -301,9 +315,7 @@ pub fn value(alloc: Global, tokens: &[Token]) -> Result<(Tf, &[Token]), ParseErr
         return Ok((Tf::Null { line }, rest));
     }
     if next_is_quoted(tokens) {
-        let ((text, line), rest) = quoted(tokens)?;
-        let value = Literal::Text(text);
-        return Ok((Tf::Literal { value, line }, rest));
+        return text_literal(tokens);
     }
     let (read, rest) = expression_in(alloc, MAX_DEPTH, Level::Sum, tokens)?;
     Ok((read.value, rest))

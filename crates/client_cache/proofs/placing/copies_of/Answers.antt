@@ -1,5 +1,14 @@
-use Rattle.client_cache.proofs.Brought.{told_kept}
+use Rattle.std.proofs.Common.{◌≡◌, ◌∙◌, sym}
+use Rattle.page_format.specs.Pages as page
+use Rattle.client_cache.proofs.Brought.{told_kept, told_none}
 use Rattle.client_cache.proofs.placing.copies_of.Goals as goal
 
+-- a page with these bytes is this one
+only : (c : goal.After-copies_on) (p : page.Contents) → page.PageFits p → c.args.bytes.now ≡ page.page_bytes p → c.page-page.result.now ≡ p
+only c p fits is = c.pages_are_apart.ensures _ p c.page-page.ensures.fits fits (sym c.page-page.ensures.bytes ∙ is)
+
 pub returns-clause-kept : goal.returns-clause-kept
-returns-clause-kept c = told_kept c.copies_on.result c.in-Ok.page c.args.bytes.now c.args.number c.objects_are_apart.ensures c.in-Ok.ensures.only c.copies_on.ensures.brings
+returns-clause-kept c = told_kept c.copies_on.result c.page-page.result.now c.args.bytes.now c.args.number c.objects_are_apart.ensures (only c) c.copies_on.ensures.brings
+
+pub returns-clause-none : goal.returns-clause-none
+returns-clause-none c = told_none c.copies_on.result c.page-page.result.now c.args.bytes.now c.args.number (only c) c.copies_on.ensures.none

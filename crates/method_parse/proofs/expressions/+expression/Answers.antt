@@ -1,8 +1,8 @@
-use Rattle.std.proofs.Common.{◌≡◌, ◌-◌, length, refl, sym, ◌∙◌, arith}
+use Rattle.std.proofs.Common.{◌≡◌, ◌-◌, ◌<◌, length, refl, sym, ◌∙◌, arith}
 use Rattle.std.proofs.lemmas.Result.{err_from_is_err_and}
 use Rattle.method_parse.specs.Expressions.{is_comma, argument, more_arguments, is_call, called, calls, is_join, joined, joins, expression_in, inner_of, parts_of}
 use Rattle.method_parse.proofs.Repeats.{goes_on, stops, ends, breaks}
-use Rattle.method_parse.proofs.Rooms.{in_room}
+use Rattle.method_parse.proofs.Rooms.{field_call_room, in_room}
 use Rattle.method_parse.proofs.expressions.+expression.Goals as goal
 
 pub calls-loop-turn-init : goal.calls-loop-turn-init
@@ -91,3 +91,8 @@ expression_in-returns-then-room-eq0-clause-read t c = rw c.if-room-eq0.true refl
 pub expression_in-returns-clause-read : goal.expression_in-returns-clause-read
 expression_in-returns-clause-read t c =
     rw (in_room c.args.place c.args.room c.args.level (omega arith)) c.at_level.ensures.read
+
+pub after_field-returns-clause-within : goal.after_field-returns-clause-within
+after_field-returns-clause-within t c =
+    let room : 1 < c.args.room.depth = field_call_room c.args.room c.args.tokens.now (sym c.is_field_call.ensures ∙ c.if-not-is_field_call.false) in
+    omega (arith, c.max-depth.ensures, c.in_ok-read.ensures.within, room)
