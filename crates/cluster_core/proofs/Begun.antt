@@ -4,7 +4,7 @@ use Rattle.cluster_core.specs.Seated.{AreBegun, Begins, IsBegun, are_settled, ba
 use Rattle.cluster_core.specs.declared.plan.Start.TheVariants as start
 use Rattle.cluster_core.specs.declared.plan.Start.{Start}
 use Rattle.repo_site.specs.Begun.{new_base}
-use Rattle.repo_site.specs.Run.{Run}
+use Rattle.repo_site.specs.Run.{Run, no_run}
 use Rattle.std.proofs.Common.{Bool, List, [], ap, arith, false, length, refl, subst, suc, sym, true, ℕ, ◌&&◌, ◌+◌, ◌∙◌, ◌∷◌, ◌≡◌}
 use Rattle.std.specs.List.{slice_get}
 use Rattle.std.specs.Prelude.{Option, Some}
@@ -49,3 +49,16 @@ module _ {P : Type 0} (mob : ℕ) (all : List (Closed P)) where
 
 pub begins_over : {P : Type 0} (run : Run) (places : List (Closed P)) (mob : ℕ) (s : Start) → run ≡ run_of places mob s → Begins run places mob s
 begins_over run places mob s is = subst (λ (r : Run). Begins r places mob s) (sym is) (begins mob places s)
+
+-- where the run has no base nothing is asked
+none_begun : {P : Type 0} (run : Run) (repos : ℕ) → (run.based ≡ true → ⊥) → (n : ℕ) (places : List (Closed P)) → AreBegun run repos n places
+none_begun run repos none n [] = tt
+none_begun run repos none n (found.Parts p ∷ cs) = (tt, none_begun run repos none (suc n) cs)
+none_begun run repos none n (found.Fresh p ∷ cs) = (tt, none_begun run repos none (suc n) cs)
+none_begun run repos none n (found.Known k ∷ cs) = (λ based. absurd (none based), none_begun run repos none (suc n) cs)
+
+not_based : no_run.based ≡ true → ⊥
+not_based e = cc
+
+pub unbased : {P : Type 0} (places : List (Closed P)) (mob : ℕ) (s : Start) → Begins no_run places mob s
+unbased places mob s = record { stored = λ is. none_begun no_run (length places) not_based 0 places; new = λ setup is n based. absurd (not_based based) }

@@ -1,4 +1,4 @@
-mod Begun
+pub mod Begun
 mod Ending
 mod Happening
 mod Recovered

@@ -1,6 +1,6 @@
 use denote.Param.Send.{sendable}
 use Rattle.cluster_threads.proofs.ClientsCross.{front_end_send, opened_sync}
-use Rattle.cluster_threads.proofs.running.run_clients.Goals as goal
+use Rattle.cluster_threads.proofs.running.run_apart.Goals as goal
 
 pub run_locked-seats-requires-send-C : goal.run_locked-seats-requires-send-C
 run_locked-seats-requires-send-C g c κs within = search (front_end_send, sendable) depth 30
