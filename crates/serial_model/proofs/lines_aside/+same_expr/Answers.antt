@@ -51,7 +51,7 @@ same_expr-returns-else-not-same_expr t c =
     let right = of_these expr_on_line_1 a.right b.second c.get-in-Binary-other-3.result.now c.get-in-Binary-other-4.result.now c.same_expr-in-Binary-other-2.result
     (sym c.get-in-Binary-other-3.ensures) (sym c.get-in-Binary-other-4.ensures) c.same_expr-in-Binary-other-2.ensures in
     of_these expr_on_line_1 c.args.some.now c.args.other.now _ _ c.same_expr-in-Binary-other-2.result a.is b.is
-    (third _ _ _ _ c.same_expr-in-Binary-other-2.result (c.same.ensures.0 c.if-not-same.false) (left.0 c.if-not-same_expr.false) right same.0 same.1)
+    (third _ _ _ _ c.same_expr-in-Binary-other-2.result (c.same-in-Binary-other.ensures.0 c.if-not-same.false) (left.0 c.if-not-same_expr.false) right same.0 same.1)
 
 pub same_expr-returns-then-not-same_expr-2 : goal.same_expr-returns-then-not-same_expr-2
 same_expr-returns-then-not-same_expr-2 t c =

@@ -39,4 +39,4 @@ returns-else-not-same_tf t c =
     let right = of_these tf_on_line_1 a.right b.second c.get-in-Binary-other-3.result.now c.get-in-Binary-other-4.result.now c.same_tf-in-Binary-other-2.result
     (sym c.get-in-Binary-other-3.ensures) (sym c.get-in-Binary-other-4.ensures) c.same_tf-in-Binary-other-2.ensures in
     of_these tf_on_line_1 c.args.some.now c.args.other.now _ _ c.same_tf-in-Binary-other-2.result a.is b.is
-    (third _ _ _ _ c.same_tf-in-Binary-other-2.result (c.same.ensures.0 c.if-not-same.false) (left.0 c.if-not-same_tf.false) right same.0 same.1)
+    (third _ _ _ _ c.same_tf-in-Binary-other-2.result (c.same-in-Binary-other.ensures.0 c.if-not-same.false) (left.0 c.if-not-same_tf.false) right same.0 same.1)
