@@ -47,10 +47,7 @@ pub fn fetch<P: Parts, O: Opening>(
 }
 
 /// Asks a repository for a page of names.
-pub fn grant<P: Parts, O: Opening>(
-    sites: &mut Vec<Site<P, O>>,
-    at: At,
-) -> Result<(), Refusal>
+pub fn grant<P: Parts, O: Opening>(sites: &mut Vec<Site<P, O>>, at: At) -> Result<(), Refusal>
     requires { AreInPlace sites.old.items }
     ensures placed { AreInPlace sites.new.items }
     ensures count { vec_len sites.new ≡ vec_len sites.old }
