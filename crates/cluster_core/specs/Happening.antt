@@ -7,7 +7,7 @@ use Rattle.repo_site.specs.Sited.{Sited}
 use Rattle.schedule.specs.declared.events.EventKind.TheVariants as event
 use Rattle.schedule.specs.declared.events.EventKind.{EventKind}
 use Rattle.std.specs.List.{slice_get, sum_by}
-use Rattle.std.specs.Prelude.{List, Some, length, suc, true, ℕ, ◌<◌, ◌≡◌, ◌⊎◌}
+use Rattle.std.specs.Prelude.{List, OnOk, Result, Some, length, suc, true, ℕ, ◌<◌, ◌≡◌, ◌⊎◌}
 
 -- where there is a repository at the place r, it was changed so
 abbrev pub HappenedAt : (Shown → Shown → Type 0) → ℕ → List Sited → List Sited → Type 0
@@ -36,13 +36,13 @@ HasEnded f = length (course_of f).ended ≡ (course_of f).count
 abbrev pub StepsAt : ℕ → List FrontEnd → List FrontEnd → Type 0
 StepsAt n old new = (f : FrontEnd) → slice_get old n ≡ Some f → (sum_by steps_left new < sum_by steps_left old) ⊎ HasEnded f
 
--- What the event has done to the clients, which are counted from 1: a step is a step of that client.
-abbrev pub Steps : EventKind → List FrontEnd → List FrontEnd → Type 0
-Steps (event.Step c) old new = (n : ℕ) → c ≡ suc n → StepsAt n old new
-Steps (event.Deliver c r) old new = Unit {0}
-Steps (event.Flush r) old new = Unit {0}
-Steps (event.Checkpoint r) old new = Unit {0}
-Steps (event.Stop r n) old new = Unit {0}
-Steps (event.Restart r p) old new = Unit {0}
-Steps (event.Settle r) old new = Unit {0}
-Steps event.Unknown old new = Unit {0}
+-- What the event has done to the clients, which are counted from 1: a step is a step of that client, where memory was there.
+abbrev pub Steps : {X E : Type 0} → EventKind → Result X E → List FrontEnd → List FrontEnd → Type 0
+Steps (event.Step c) result old new = OnOk result ((n : ℕ) → c ≡ suc n → StepsAt n old new)
+Steps (event.Deliver c r) result old new = Unit {0}
+Steps (event.Flush r) result old new = Unit {0}
+Steps (event.Checkpoint r) result old new = Unit {0}
+Steps (event.Stop r n) result old new = Unit {0}
+Steps (event.Restart r p) result old new = Unit {0}
+Steps (event.Settle r) result old new = Unit {0}
+Steps event.Unknown result old new = Unit {0}

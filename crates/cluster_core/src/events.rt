@@ -30,7 +30,7 @@ impl<P: Parts, O: Opening> Cluster<P, O> {
     pub fn event(&mut self, event: Event) -> Result<(), NoMemory>
         ensures parts { parts_of self.new ≡ parts_of self.old }
         ensures performs { Performs event.kind (sites_in self.old) (sites_in self.new) }
-        ensures steps { OnOk result (Steps event.kind (clients_of self.old) (clients_of self.new)) }
+        ensures steps { Steps event.kind result (clients_of self.old) (clients_of self.new) }
     {
         match event.kind {
             EventKind::Step { client } => self.client_step(client),

@@ -7,7 +7,7 @@ use Rattle.cluster_core.specs.declared.plan.Start.TheVariants as start
 use Rattle.cluster_core.specs.declared.plan.Start.{Start}
 use Rattle.disk_trait.specs.Disks.{Disks}
 use Rattle.repo_trace.specs.declared.trace.Trace.{Trace}
-use Rattle.std.proofs.Common.{Err, IfOk, List, Ok, Result, [], inl, inr, refl, subst, sym, ℕ, ◌∙◌, ◌≡◌}
+use Rattle.std.proofs.Common.{Err, IfErr, IfOk, List, Ok, Result, [], ap, inl, inr, refl, subst, sym, ℕ, ◌∙◌, ◌≡◌}
 use Rattle.std.specs.Prelude.{Some}
 use Rattle.store_opening.specs.Seated.{AreSeated}
 use Rattle.store_opening.specs.declared.closed.Closed.{Closed}
@@ -32,6 +32,11 @@ module _ {P : Type 0} (disks : P → Disks) (given : List P) (places : List (Clo
   pub of_played : {E : Type 0} (played : Result (Finished P) E) → AreTracesOf played traces → IfOk played (λ f. IfOk f.ran (λ r. AreRight (run_of places mob s) 0 r.traces)) → (s ≡ start.Stored → IfOk played (λ _. AreRecovered disks places)) → AreHistoriesIf disks given traces
   of_played (Err e) is right recovered = inl is
   of_played (Ok f) is right recovered = of_ran f.ran is right recovered
+
+-- as many parts come back
+pub many_of : {A B V : Type 0} (len : V → ℕ) (of_ok : A → V) (of_err : B → V) (played : Result A B) (parts : V) (n : ℕ) → IfOk played (λ f. len (of_ok f) ≡ n) → IfErr played (λ f. len (of_err f) ≡ n) → IfOk played (λ f. parts ≡ of_ok f) → IfErr played (λ f. parts ≡ of_err f) → len parts ≡ n
+many_of len of_ok of_err (Ok f) parts n ok err same_ok same_err = ap len same_ok ∙ ok
+many_of len of_ok of_err (Err f) parts n ok err same_ok same_err = ap len same_err ∙ err
 
 -- ---- what is replied
 

@@ -13,3 +13,6 @@ returns-in-Ok-clause-histories g c = c.run_in_turn.ensures.histories c.args.part
 
 pub returns-in-Err-clause-histories : goal.returns-in-Err-clause-histories
 returns-in-Err-clause-histories g c = inl c.untold.ensures.traces
+
+pub run_in_turn-requires : goal.run_in_turn-requires
+run_in_turn-requires g c = c.in-Ok.ensures.foretells.sorted

@@ -6,3 +6,6 @@ returns-in-Ok-clause-reply g c = told_says _ c.in-Ok.run.expected c.run_on_threa
 
 pub returns-in-Ok-clause-kept : goal.returns-in-Ok-clause-kept
 returns-in-Ok-clause-kept g c = λ writes. absurd (told_writes_not c.args.plan.now.command c.in-Ok.run.expected c.run_on_threads.result.reply c.in-Ok.ensures.played c.run_on_threads.ensures.reply writes)
+
+pub run_on_threads-requires : goal.run_on_threads-requires
+run_on_threads-requires g c = c.in-Ok.ensures.foretells.sorted
