@@ -401,7 +401,7 @@ module _ (schema : Schema) (repos : ℕ) (sound : (c : ℕ) (d : Class) → slic
 
     node_held : (x : Expr-F Expr) (m : Machine) → broken_at s (map-Expr Expr Judged (judged s) x) AsReceiver ≡ [] → MachineFits w s m → TidyAt schema repos E m
         → is_part schema.classes (node_kind x) ≡ true → (a : Value) → (value_at w v b x m).0 ≡ Ok a → (z : Oref) → a ≡ value.Ref z → Held schema repos E m (value_at w v b x m).1 z
-    node_held (Expr-F.Literal n line) m ok h tidy part a is z e = cc
+    node_held (Expr-F.Literal n line) m ok h tidy part a is z e = absurd (both_ways (is_part schema.classes (literal_type n)) (literal_free n) part)
     node_held (Expr-F.Null line) m ok h tidy part a is z e = cc
     node_held (Expr-F.This line) m ok h tidy part a is z e = this_held m m m.this refl z (ok_is (this_value m.this) a is ∙ e)
     node_held (Expr-F.Field name) m ok h tidy part a is z e =

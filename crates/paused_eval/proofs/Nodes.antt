@@ -1,5 +1,10 @@
 -- Each node of the syntax, opened.
-use Rattle.std.proofs.Common.{◌≡◌, ℕ, ℤ, List, Option, ap, sym, ◌∙◌}
+use Rattle.std.proofs.Common.{◌≡◌, ℕ, List, Option, Some, ap, sym, ◌∙◌}
+use Rattle.std.proofs.lemmas.Option.{same_Some}
+use Rattle.class_defs.specs.Steps.{World}
+use Rattle.lang_small_steps.specs.Resume.{start}
+use Rattle.lang_small_steps.specs.declared.frames.Frame.{Frame}
+use Rattle.paused_eval.specs.Does.{field_read}
 use Rattle.class_defs.specs.declared.expressions.At.{At}
 use Rattle.class_defs.specs.declared.expressions.Expr.{Expr, out-Expr}
 use Rattle.class_defs.specs.declared.expressions.Expr.TheOpen.{Expr-F}
@@ -13,6 +18,19 @@ use Rattle.class_defs.specs.declared.statements.Stmt.{Stmt, out-Stmt}
 use Rattle.class_defs.specs.declared.statements.Stmt.TheOpen.{Stmt-F}
 use Rattle.class_defs.specs.declared.statements.Stmt.TheVariants as y
 use Rattle.class_defs.specs.declared.statements.Stmt.TheViews.{out-roll-Stmt}
+
+-- a node that reads a field of this object begins as one with that name
+pub begins_field : (w : World) (n : ℕ) (o : Expr-F Expr) (fs : List Frame) (name : List ℕ) → field_read o ≡ Some name → start w n o fs ≡ start w 0 (Expr-F.Field (record { text = name; line = 0 })) fs
+begins_field w n (Expr-F.Field f) fs name e = ap (λ (t : List ℕ). start w 0 (Expr-F.Field (record { text = t; line = 0 })) fs) (same_Some f.text name e)
+begins_field w n (Expr-F.Literal v line) fs name e = absurd cc
+begins_field w n (Expr-F.Null line) fs name e = absurd cc
+begins_field w n (Expr-F.This line) fs name e = absurd cc
+begins_field w n (Expr-F.Variable v) fs name e = absurd cc
+begins_field w n (Expr-F.New class at) fs name e = absurd cc
+begins_field w n (Expr-F.Parens inner line) fs name e = absurd cc
+begins_field w n (Expr-F.Negate operand line) fs name e = absurd cc
+begins_field w n (Expr-F.Binary o l r line) fs name e = absurd cc
+begins_field w n (Expr-F.Call receiver method arguments) fs name e = absurd cc
 
 pub out_literal : (v : Literal) (l : ℕ) → out-Expr (x.Literal v l) ≡ Expr-F.Literal v l
 out_literal v l = ap out-Expr (sym (x.rolls-Literal v l)) ∙ out-roll-Expr (Expr-F.Literal v l)

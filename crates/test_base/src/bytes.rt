@@ -20,17 +20,17 @@ const LAST: Oref = Oref {
     slot: 11,
 };
 
-/// Values, each as it is spelled.
-const VALUES: &[(Value, &[u8])] = &[
-    (Value::Int(5), &[1, 0, 0, 0, 0, 0, 0, 0, 5]),
-    (Value::Int(-2), &[1, 255, 255, 255, 255, 255, 255, 255, 254]),
-    (
-        Value::Int(-9223372036854775808),
-        &[1, 128, 0, 0, 0, 0, 0, 0, 0],
-    ),
-    (Value::Ref(FIRST), &[2, 0, 0, 0, 0, 0, 0]),
-    (Value::Ref(LAST), &[2, 7, 0, 0, 255, 255, 11]),
-    (Value::Null, &[3]),
+/// Numbers, each as its value is spelled.
+const NUMBERS: &[(i64, &[u8])] = &[
+    (5, &[1, 0, 0, 0, 0, 0, 0, 0, 5]),
+    (-2, &[1, 255, 255, 255, 255, 255, 255, 255, 254]),
+    (-9223372036854775808, &[1, 128, 0, 0, 0, 0, 0, 0, 0]),
+];
+
+/// Names, each as the reference to it is spelled.
+const NAMES: &[(Oref, &[u8])] = &[
+    (FIRST, &[2, 0, 0, 0, 0, 0, 0]),
+    (LAST, &[2, 7, 0, 0, 255, 255, 11]),
 ];
 
 /// Texts, each as its value is spelled.
@@ -86,16 +86,26 @@ fn what_is_no_text_is_told(rt: HostRuntime) {
     }
 }
 
+/// Whether the value is read from its bytes with one more behind them, and from none of their beginnings.
+fn is_read(alloc: Global, value: Value, bytes: &[u8]) -> Result<bool, NoMemory> {
+    let mut longer = Text::from_slice(alloc, bytes)?;
+    longer.push(9)?;
+    let mut read = read_value(longer.as_slice()) == Ok((value, bytes.len()));
+    for len in 0..bytes.len() {
+        read = read && read_value(bytes.split_at(len).0) == Err(ReadFault::Short);
+    }
+    Ok(read)
+}
+
 #[test]
 fn values_are_read(rt: HostRuntime) -> Result<(), Fail> {
-    for (value, bytes) in VALUES {
-        let mut longer = Text::from_slice(rt.alloc(), bytes)?;
-        longer.push(9)?;
-        assert!(rt; read_value(longer.as_slice()) == Ok((*value, bytes.len())));
-        for len in 0..bytes.len() {
-            assert!(rt; read_value(bytes.split_at(len).0) == Err(ReadFault::Short));
-        }
+    for (number, bytes) in NUMBERS {
+        assert!(rt; is_read(rt.alloc(), Value::Int(*number), bytes)?);
     }
+    for (name, bytes) in NAMES {
+        assert!(rt; is_read(rt.alloc(), Value::Ref(*name), bytes)?);
+    }
+    assert!(rt; is_read(rt.alloc(), Value::Null, &[3])?);
     Ok(())
 }
 
