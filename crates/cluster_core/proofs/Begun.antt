@@ -30,9 +30,10 @@ module _ {P : Type 0} (mob : ℕ) (all : List (Closed P)) where
 
   from : (n : ℕ) (rest : List (Closed P)) → ((i : ℕ) → slice_get all (n + i) ≡ slice_get rest i) → (stored.based ≡ true → are_settled n rest ≡ true) → AreBegun stored (length all) n rest
   from n [] at settled = tt
-  from n (c ∷ cs) at settled =
-      (one n c (subst (λ (k : ℕ). slice_get all k ≡ Some c) (omega arith) (at 0)) (λ based. first_so (is_settled_at n c) (are_settled (suc n) cs) (settled based)),
-       from (suc n) cs (λ i. subst (λ (k : ℕ). slice_get all k ≡ slice_get cs i) (omega arith) (at (suc i))) (λ based. second_so (is_settled_at n c) (are_settled (suc n) cs) (settled based)))
+  from n (c ∷ cs) at settled = (
+    one n c (subst (λ (k : ℕ). slice_get all k ≡ Some c) (omega arith) (at 0)) (λ based. first_so (is_settled_at n c) (are_settled (suc n) cs) (settled based)),
+    from (suc n) cs (λ i. subst (λ (k : ℕ). slice_get all k ≡ slice_get cs i) (omega arith) (at (suc i))) (λ based. second_so (is_settled_at n c) (are_settled (suc n) cs) (settled based)),
+  )
 
   all_begun : AreBegun stored (length all) 0 all
   all_begun = from 0 all (λ i. ap (slice_get all) (omega arith)) (λ based. based)

@@ -61,11 +61,7 @@ impl<P: Parts> Emptied<P> {
     }
 
     /// Ends the run: repositories and clients come back, as many repositories at most as there were.
-    pub fn finish<O: Opening>(
-        self,
-        seats: Vec<Seat<P, O>>,
-        clients: Vec<FrontEnd>,
-    ) -> Finished<P>
+    pub fn finish<O: Opening>(self, seats: Vec<Seat<P, O>>, clients: Vec<FrontEnd>) -> Finished<P>
         requires { vec_len seats ≤ room_of self }
         ensures { vec_len result.parts ≡ vec_len seats }
     {

@@ -121,10 +121,7 @@ fn disarm<P: Parts, O: Opening>(sites: &mut Vec<Site<P, O>>, place: usize)
 }
 
 /// Restarts the repository at a place where it is down.
-fn bring_up<P: Parts, O: Opening>(
-    sites: &mut Vec<Site<P, O>>,
-    place: usize,
-) -> Result<(), NoMemory>
+fn bring_up<P: Parts, O: Opening>(sites: &mut Vec<Site<P, O>>, place: usize) -> Result<(), NoMemory>
     requires { AreInPlace sites.old.items }
     ensures placed { AreInPlace sites.new.items }
     ensures count { vec_len sites.new ≡ vec_len sites.old }

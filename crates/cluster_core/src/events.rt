@@ -149,10 +149,7 @@ fn restart<P: Parts, O: Opening>(
 }
 
 /// Settles the prepared transaction of another coordinator with the least timestamp.
-fn settle_next<P: Parts, O: Opening>(
-    sites: &mut Vec<Site<P, O>>,
-    repo: u32,
-) -> Result<(), NoMemory>
+fn settle_next<P: Parts, O: Opening>(sites: &mut Vec<Site<P, O>>, repo: u32) -> Result<(), NoMemory>
     requires { AreInPlace sites.old.items }
     ensures placed { AreInPlace sites.new.items }
     ensures count { vec_len sites.new ≡ vec_len sites.old }

@@ -343,10 +343,7 @@ fn open_known<P: Parts, O: Opening>(
     ensures recovered { IsRecovered (P.disks known.parts) known.recovered }
 {
     let (parts, recovered) = known.into_recovered();
-    Seat::of(
-        number,
-        Site::open(alloc, parts, recovered, number, repos),
-    )
+    Seat::of(number, Site::open(alloc, parts, recovered, number, repos))
 }
 
 /// Formats every repository of a store that was found fresh.
@@ -415,8 +412,7 @@ fn format_from<P: Parts, O: Opening>(
     for seat in seats {
         let place = done.len();
         let named = from <= place && place < to;
-        let (seat, next) =
-            format_behind(alloc, formatted, named, seat, place, repos, setup, mob);
+        let (seat, next) = format_behind(alloc, formatted, named, seat, place, repos, setup, mob);
         done.push_reserved(seat);
         formatted = next;
     }

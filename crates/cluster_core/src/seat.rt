@@ -113,10 +113,7 @@ pub(crate) fn sites_of<P: Parts, O: Opening>(
 }
 
 /// The repositories of seats that are all open.
-fn take_all<P: Parts, O: Opening>(
-    seats: Vec<Seat<P, O>>,
-    room: Vec<Site<P, O>>,
-) -> Vec<Site<P, O>>
+fn take_all<P: Parts, O: Opening>(seats: Vec<Seat<P, O>>, room: Vec<Site<P, O>>) -> Vec<Site<P, O>>
     requires empty { vec_len room ≡ 0 }
     requires room { vec_len seats ≤ vec_capacity room }
     requires seated { AreSeated 0 seats.items }

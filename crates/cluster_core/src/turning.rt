@@ -41,8 +41,7 @@ impl<P: Parts, O: Opening> Cluster<P, O> {
         match self.clients.get_mut(place) {
             Some(client) => {
                 let sites = mem::replace(&mut self.sites, Vec::new(self.alloc));
-                let (sites, answer) =
-                    lend::<P, O, Brand>(sites, place, client, &self.opened, turn);
+                let (sites, answer) = lend::<P, O, Brand>(sites, place, client, &self.opened, turn);
                 drop(mem::replace(&mut self.sites, sites));
                 answer
             }

@@ -100,7 +100,10 @@ pub(crate) fn lock_all<P: Parts>(seats: Vec<Seat<P, Brand>>, room: Vec<Locked<P>
 }
 
 /// Takes repositories out of their locks. There is room for them.
-pub(crate) fn unlock_all<P: Parts>(locks: Vec<Locked<P>>, room: Vec<Seat<P, Brand>>) -> Vec<Seat<P, Brand>>
+pub(crate) fn unlock_all<P: Parts>(
+    locks: Vec<Locked<P>>,
+    room: Vec<Seat<P, Brand>>,
+) -> Vec<Seat<P, Brand>>
     requires empty { vec_len room ≡ 0 }
     requires room { vec_len locks ≤ vec_capacity room }
     ensures { vec_len result ≡ vec_len locks }

@@ -22,6 +22,7 @@ use Rattle.thor_value.specs.declared.names.Ts.{Ts}
 use Rattle.two_phase.specs.Contents.{Contents, keeps, open_at, request_of}
 use Rattle.two_phase.specs.declared.transaction.Transaction.TheVariants as kept
 use Rattle.two_phase.specs.declared.transaction.Transaction.{Transaction}
+
 -- ---- what stands in a table
 
 first_so : (a b : Bool) → (a && b) ≡ true → a ≡ true

@@ -55,11 +55,7 @@ fn reported(
 
 /// What is replied of a run, with the parts. The program ends behind it: the script, the store and the outcomes are left to
 /// the system, not let go of piece by piece.
-fn told<P: Parts>(
-    alloc: Global,
-    expected: Expected,
-    finished: Finished<P>,
-) -> Answered<P>
+fn told<P: Parts>(alloc: Global, expected: Expected, finished: Finished<P>) -> Answered<P>
     requires { IsSorted expected.opened.store.objects }
     ensures reply { IfOk result.reply (IsReported expected.running expected.form expected.opened.schemas expected.opened.store expected.script) }
     ensures parts { result.parts ≡ finished.parts }

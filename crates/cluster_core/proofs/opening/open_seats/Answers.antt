@@ -13,4 +13,4 @@ pub format_found-seats-requires-clause-begins : goal.format_found-seats-requires
 format_found-seats-requires-clause-begins g c = λ n.
     begins_new g.O.Opening.run n (vec_len c.args.places) c.in-Setup.setup c.args.mob
     (λ based. let base = c.requires.begins.new c.in-Setup.setup c.in-Setup.is n based in
-        subst (λ (k : ℕ). g.O.Opening.run.base n ≡ new_base n k c.in-Setup.setup c.args.mob) (omega (arith, c.args.places.ok.0)) base)
+    subst (λ (k : ℕ). g.O.Opening.run.base n ≡ new_base n k c.in-Setup.setup c.args.mob) (omega (arith, c.args.places.ok.0)) base)
