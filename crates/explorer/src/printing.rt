@@ -9,7 +9,7 @@ use schedule::EventKind;
 use serial_model::Cause;
 use spec_trace::{KeptItem, Mark};
 use std::fmt::Write;
-use thor_value::{NoMemory, Oref, Ts};
+use thor_value::{Boxed, NoMemory, Oref, Ts};
 
 /// Prints an event as a schedule has it.
 pub(crate) fn print_event(out: &mut String, kind: EventKind) -> Result<(), NoMemory> {
@@ -102,13 +102,13 @@ fn print_refusal(out: &mut String, refusal: Refusal) -> Result<(), NoMemory> {
 fn print_refused(
     out: &mut String,
     session: u32,
-    request: &Option<Request>,
+    request: &Option<Boxed<Request>>,
     refusal: Refusal,
 ) -> Result<(), NoMemory> {
     print_in_session(out, "refused", session)?;
     print_refusal(out, refusal)?;
     match request {
-        Some(request) => print_asked(out, "by", request),
+        Some(request) => print_asked(out, "by", request.get()),
         None => Ok(()),
     }
 }
@@ -153,7 +153,7 @@ fn print_mark(out: &mut String, mark: &Mark) -> Result<(), NoMemory> {
             session,
             request,
             refusal,
-        } => print_refused(out, *session, request, *refusal),
+        } => print_refused(out, *session, request, *refusal.get()),
     }
 }
 
