@@ -1,6 +1,6 @@
 pub mod Begun
 mod Ending
-mod Happening
 mod Recovered
 mod Seating
+mod Stepping
 mod Steps

@@ -1,21 +1,13 @@
 -- What an event of a schedule does.
+use Rattle.cluster_port.specs.Happening.{HappenedAt, IsStopped}
 use Rattle.front_end.specs.Moving.{course_of, steps_left}
 use Rattle.front_end.specs.declared.front_end.FrontEnd.{FrontEnd}
-use Rattle.repo_core.specs.Shown.{Shown}
-use Rattle.repo_site.specs.Happening.{Flushes, GoesOn, Stops}
+use Rattle.repo_site.specs.Happening.{Flushes, GoesOn}
 use Rattle.repo_site.specs.Sited.{Sited}
 use Rattle.schedule.specs.declared.events.EventKind.TheVariants as event
 use Rattle.schedule.specs.declared.events.EventKind.{EventKind}
 use Rattle.std.specs.List.{slice_get, sum_by}
-use Rattle.std.specs.Prelude.{List, OnOk, Result, Some, length, suc, true, ℕ, ◌<◌, ◌≡◌, ◌⊎◌}
-
--- where there is a repository at the place r, it was changed so
-abbrev pub HappenedAt : (Shown → Shown → Type 0) → ℕ → List Sited → List Sited → Type 0
-HappenedAt Does r old new = (x : Sited) → slice_get old r ≡ Some x → (y : Sited) × (slice_get new r ≡ Some y) × Does x.shown y.shown
-
--- one that was up was stopped so
-abbrev pub IsStopped : ℕ → Shown → Shown → Type 0
-IsStopped calls x y = x.is_up ≡ true → Stops calls x y
+use Rattle.std.specs.Prelude.{List, OnOk, Result, Some, length, suc, ℕ, ◌<◌, ◌≡◌, ◌⊎◌}
 
 -- What the event has done to the repositories: a flush flushes, a stop stops, a restart restarts.
 abbrev pub Performs : EventKind → List Sited → List Sited → Type 0

@@ -8,6 +8,7 @@ ghost use Rattle.std.specs.Prelude.{◌≡◌, ◌<◌, Ok, true, vec_len};
 use crate::cluster::Cluster;
 use crate::events::unless_memory;
 use crate::turning::Turn;
+use cluster_port::events;
 use disk_trait::Parts;
 use front_end::Step;
 use repo_site::{Opening, Site};
@@ -92,7 +93,7 @@ fn disarm_all<P: Parts, O: Opening>(sites: &mut Vec<Site<P, O>>)
     ensures count { vec_len sites.new ≡ vec_len sites.old }
 {
     for place in 0..sites.len() {
-        disarm(sites, place);
+        events::disarm(sites, place);
     }
 }
 
@@ -103,41 +104,7 @@ fn bring_each_up<P: Parts, O: Opening>(sites: &mut Vec<Site<P, O>>) -> Result<()
     ensures count { vec_len sites.new ≡ vec_len sites.old }
 {
     for place in 0..sites.len() {
-        bring_up(sites, place)?;
+        unless_memory(events::bring_up(sites, place))?;
     }
     Ok(())
-}
-
-/// Takes back a stop that hasn't fallen, at a place.
-fn disarm<P: Parts, O: Opening>(sites: &mut Vec<Site<P, O>>, place: usize)
-    requires { AreInPlace sites.old.items }
-    ensures placed { AreInPlace sites.new.items }
-    ensures count { vec_len sites.new ≡ vec_len sites.old }
-{
-    match sites.get_mut(place) {
-        Some(site) => site.disarm(),
-        None => {}
-    }
-}
-
-/// Restarts the repository at a place where it is down.
-fn bring_up<P: Parts, O: Opening>(sites: &mut Vec<Site<P, O>>, place: usize) -> Result<(), NoMemory>
-    requires { AreInPlace sites.old.items }
-    ensures placed { AreInPlace sites.new.items }
-    ensures count { vec_len sites.new ≡ vec_len sites.old }
-{
-    match sites.get_mut(place) {
-        Some(site) => bring_site_up(site),
-        None => Ok(()),
-    }
-}
-
-/// Restarts a repository that is down.
-fn bring_site_up<P: Parts, O: Opening>(site: &mut Site<P, O>) -> Result<(), NoMemory>
-    ensures { site.new.number ≡ site.old.number }
-{
-    if site.is_up() {
-        return Ok(());
-    }
-    unless_memory(site.restart(0))
 }

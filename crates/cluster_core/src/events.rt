@@ -1,14 +1,14 @@
 //! The events of a schedule.
 
 ghost use Rattle.cluster_core.specs.Counts.{clients_of, parts_of, sites_in};
-ghost use Rattle.cluster_core.specs.Happening.{HappenedAt, IsStopped, Performs, Steps, StepsAt};
+ghost use Rattle.cluster_core.specs.Happening.{Performs, Steps, StepsAt};
 ghost use Rattle.cluster_port.specs.Lent.{AreInPlace};
-ghost use Rattle.repo_site.specs.Happening.{Flushes, GoesOn};
 ghost use Rattle.std.specs.Prelude.{OnOk, suc, vec_len, ℕ, ◌≡◌};
 
 use crate::cluster::Cluster;
 use crate::settling::{least, settle};
 use crate::turning::Turn;
+use cluster_port::events;
 use disk_trait::Parts;
 use repo_refusals::Refusal;
 use repo_site::{Opening, Site};
@@ -35,13 +35,20 @@ impl<P: Parts, O: Opening> Cluster<P, O> {
         match event.kind {
             EventKind::Step { client } => self.client_step(client),
             EventKind::Deliver { client, repo } => self.deliver(client, repo),
-            EventKind::Flush { repo } => flush(&mut self.sites, repo),
-            EventKind::Checkpoint { repo } => checkpoint(&mut self.sites, repo),
+            EventKind::Flush { repo } => {
+                unless_memory(events::flush(&mut self.sites, repo as usize))
+            }
+            EventKind::Checkpoint { repo } => {
+                unless_memory(events::checkpoint(&mut self.sites, repo as usize))
+            }
             EventKind::Stop { repo, calls } => {
-                stop(&mut self.sites, repo, calls);
+                events::stop(&mut self.sites, repo as usize, calls);
                 Ok(())
             }
-            EventKind::Restart { repo, pick } => restart(&mut self.sites, repo, pick),
+            EventKind::Restart { repo, pick } => {
+                let pick = u64::from(pick);
+                unless_memory(events::restart(&mut self.sites, repo as usize, pick))
+            }
             EventKind::Settle { repo } => settle_next(&mut self.sites, repo),
             EventKind::Unknown => Ok(()),
         }
@@ -80,71 +87,6 @@ impl<P: Parts, O: Opening> Cluster<P, O> {
             self.turn(place, Turn::Deliver { repo })?;
         }
         Ok(())
-    }
-}
-
-/// Flushes a page of the repository at a place.
-fn flush<P: Parts, O: Opening>(sites: &mut Vec<Site<P, O>>, repo: u32) -> Result<(), NoMemory>
-    requires { AreInPlace sites.old.items }
-    ensures placed { AreInPlace sites.new.items }
-    ensures count { vec_len sites.new ≡ vec_len sites.old }
-    ensures does { HappenedAt Flushes repo sites.old.items sites.new.items }
-{
-    match sites.get_mut(repo as usize) {
-        Some(site) => unless_memory(site.flush()),
-        None => Ok(()),
-    }
-}
-
-/// Makes a checkpoint of the repository at a place.
-fn checkpoint<P: Parts, O: Opening>(sites: &mut Vec<Site<P, O>>, repo: u32) -> Result<(), NoMemory>
-    requires { AreInPlace sites.old.items }
-    ensures placed { AreInPlace sites.new.items }
-    ensures count { vec_len sites.new ≡ vec_len sites.old }
-{
-    match sites.get_mut(repo as usize) {
-        Some(site) => unless_memory(site.checkpoint()),
-        None => Ok(()),
-    }
-}
-
-/// Stops the repository at a place.
-fn stop<P: Parts, O: Opening>(sites: &mut Vec<Site<P, O>>, repo: u32, calls: u32)
-    requires { AreInPlace sites.old.items }
-    ensures placed { AreInPlace sites.new.items }
-    ensures count { vec_len sites.new ≡ vec_len sites.old }
-    ensures does { HappenedAt (IsStopped calls) repo sites.old.items sites.new.items }
-{
-    match sites.get_mut(repo as usize) {
-        Some(site) => stop_site(site, calls),
-        None => {}
-    }
-}
-
-/// Stops a repository that is up.
-fn stop_site<P: Parts, O: Opening>(site: &mut Site<P, O>, calls: u32)
-    ensures number { site.new.number ≡ site.old.number }
-    ensures does { IsStopped calls site.old.shown site.new.shown }
-{
-    if site.is_up() {
-        site.stop_after(calls);
-    }
-}
-
-/// Restarts the repository at a place.
-fn restart<P: Parts, O: Opening>(
-    sites: &mut Vec<Site<P, O>>,
-    repo: u32,
-    pick: u32,
-) -> Result<(), NoMemory>
-    requires { AreInPlace sites.old.items }
-    ensures placed { AreInPlace sites.new.items }
-    ensures count { vec_len sites.new ≡ vec_len sites.old }
-    ensures does { HappenedAt GoesOn repo sites.old.items sites.new.items }
-{
-    match sites.get_mut(repo as usize) {
-        Some(site) => unless_memory(site.restart(u64::from(pick))),
-        None => Ok(()),
     }
 }
 

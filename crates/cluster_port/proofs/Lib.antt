@@ -1,2 +1,3 @@
+mod Happening
 pub mod Lending
 pub mod Placing

@@ -2,6 +2,7 @@
 #![tactic(auto)]
 
 pub mod calls;
+pub mod events;
 mod lent;
 
 pub use lent::{Count, LentSites};

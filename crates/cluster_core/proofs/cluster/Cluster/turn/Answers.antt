@@ -1,4 +1,4 @@
-use Rattle.cluster_core.proofs.Happening.{no_step, steps_at}
+use Rattle.cluster_core.proofs.Stepping.{no_step, steps_at}
 use Rattle.cluster_core.proofs.Steps.{as_many, one_less}
 use Rattle.front_end.specs.Moving.{steps_left}
 use Rattle.std.proofs.Common.{arith}
