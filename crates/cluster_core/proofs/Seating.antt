@@ -6,7 +6,7 @@ use Rattle.disk_trait.specs.Disks.{Disks}
 use Rattle.repo_site.specs.Run.{Run}
 use Rattle.repo_site.specs.Sited.{IsRightTrace, Sited}
 use Rattle.repo_trace.specs.declared.trace.Trace.{Trace}
-use Rattle.std.proofs.Common.{Err, List, None, Ok, OnOk, Result, Some, [], ap, append_assoc, arith, length, refl, subst, suc, sym, zero, ℕ, ◌++◌, ◌+◌, ◌∙◌, ◌∷◌, ◌≡◌}
+use Rattle.std.proofs.Common.{Err, IfOk, List, None, Ok, OnOk, Result, Some, [], ap, append_assoc, arith, length, refl, subst, suc, sym, zero, ℕ, ◌++◌, ◌+◌, ◌∙◌, ◌∷◌, ◌≡◌}
 use Rattle.std.proofs.lemmas.List.{append-nil}
 use Rattle.std.specs.List.{slice_get}
 use Rattle.std.specs.Prelude.{IsOk}
@@ -133,3 +133,10 @@ pub on_ok_of : {X Y E F : Type 0} (before : Result X E) (after : Result Y F) (Q 
 on_ok_of before (Err e) Q q was = tt
 on_ok_of (Err e) (Ok y) Q q was = absurd was
 on_ok_of (Ok x) (Ok y) Q q was = q
+
+pub at_ok : {X E : Type 0} (r : Result X E) (x : X) (Q : Type 0) → r ≡ Ok x → OnOk r Q → Q
+at_ok r x Q is q = subst (λ (s : Result _ _). OnOk s Q) is q
+
+pub always_ok : {X E : Type 0} (r : Result X E) (Q : Type 0) → Q → IfOk r (λ _. Q)
+always_ok (Ok x) Q q = q
+always_ok (Err e) Q q = tt

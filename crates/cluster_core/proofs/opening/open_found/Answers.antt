@@ -1,7 +1,8 @@
-use Rattle.cluster_core.proofs.Seating.{on_ok_of}
+use Rattle.cluster_core.proofs.Seating.{always_ok, at_ok, on_ok_of}
 use Rattle.cluster_core.specs.Counts.{parts_of}
 use Rattle.cluster_core.specs.Seated.{AreRecovered, Begins}
-use Rattle.std.proofs.Common.{IfErr, IfOk, List, OnOk, subst, sym, vec_len, ◌∙◌, ◌≡◌, ℕ}
+use Rattle.std.proofs.Common.{IfErr, IfOk, List, subst, sym, vec_len, ◌∙◌, ◌≡◌, ℕ}
+use Rattle.store_opening.specs.declared.closed.Closed.{Closed}
 use Rattle.cluster_core.proofs.opening.open_found.Goals as goal
 
 pub returns-in-Ok-clause-ok : goal.returns-in-Ok-clause-ok
@@ -9,3 +10,14 @@ returns-in-Ok-clause-ok g c = subst (λ (n : ℕ). IfOk c.seated.result (λ clus
 
 pub returns-in-Ok-clause-err : goal.returns-in-Ok-clause-err
 returns-in-Ok-clause-err g c = subst (λ (n : ℕ). IfErr c.seated.result (λ fault. vec_len fault.parts ≡ n)) (c.open_seats-seats.ensures.count ∙ c.into_repositories-places.ensures.count) c.seated.ensures.err
+
+pub open_seats-seats-requires-clause-begins : goal.open_seats-seats-requires-clause-begins
+open_seats-seats-requires-clause-begins g c =
+    subst (λ (m : ℕ). Begins g.O.Opening.run c.into_repositories-places.result.0.items m c.args.plan.start) (sym c.into_repositories-places.ensures.mob)
+    (subst (λ (places : List (Closed _)). Begins g.O.Opening.run places c.args.found.mob c.args.plan.start) (sym c.into_repositories-places.ensures.places) c.requires.begins)
+
+pub returns-in-Ok-clause-recovered : goal.returns-in-Ok-clause-recovered
+returns-in-Ok-clause-recovered g c = λ stored.
+    let told = on_ok_of c.open_seats-seats.result.1 c.told_to.result (AreRecovered g.P.Parts.disks c.into_repositories-places.result.0.items) (c.open_seats-seats.ensures.recovered stored) c.told_to.ensures.opened in
+    always_ok c.seated.result (AreRecovered g.P.Parts.disks c.args.found.places.items)
+    (subst (AreRecovered g.P.Parts.disks) c.into_repositories-places.ensures.places (at_ok c.told_to.result _ _ c.in-Ok.is told))
