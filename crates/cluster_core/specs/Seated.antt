@@ -111,5 +111,17 @@ abbrev pub AreRecovered : {P : Type 0} → (P → Disks) → List (closed.Closed
 AreRecovered disks [] = Unit {0}
 AreRecovered disks (c ∷ cs) = IsRecoveredAt disks c × AreRecovered disks cs
 
-abbrev pub AreRecoveredIn : {P : Type 0} → {g : _} → (P → Disks) → Found P g → Type 0
-AreRecoveredIn disks found = AreRecovered disks found.places.items
+-- the repository 0 wasn't stored, so the store is new
+abbrev pub IsNew : {P : Type 0} → List (closed.Closed P) → Type 0
+IsNew [] = Unit {0}
+IsNew (found.Parts p ∷ cs) = Unit {0}
+IsNew (found.Fresh p ∷ cs) = Unit {0}
+IsNew (found.Known k ∷ cs) = ⊥
+
+-- what was found is what lies on these disks, where it is opened so
+abbrev pub IsFound : {P : Type 0} → (P → Disks) → List (closed.Closed P) → Start → Type 0
+IsFound disks places (start.Setup setup) = IsNew places
+IsFound disks places start.Stored = AreRecovered disks places
+
+abbrev pub IsFoundIn : {P : Type 0} → {g : _} → (P → Disks) → Found P g → Start → Type 0
+IsFoundIn disks found s = IsFound disks found.places.items s

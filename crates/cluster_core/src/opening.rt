@@ -1,11 +1,10 @@
 //! A store is opened: formatted, or begun with a Life, and then settled.
 
 ghost use Rattle.cluster_core.specs.Counts.{parts_of, schemas_of};
-ghost use Rattle.cluster_core.specs.Seated.{AreBegun, AreRecovered, AreRecoveredIn, AreSeated, Begins, BeginsOver, IsBegun, IsBegunBy, IsRecoveredAt, IsSeatedAt};
-ghost use Rattle.cluster_core.specs.declared.plan.Start.TheVariants as starts;
+ghost use Rattle.cluster_core.specs.Seated.{AreBegun, AreRecovered, AreSeated, Begins, BeginsOver, IsBegun, IsBegunBy, IsFound, IsFoundIn, IsNew, IsRecoveredAt, IsSeatedAt};
 ghost use Rattle.repo_opening.specs.Recovered.{IsRecovered};
 ghost use Rattle.repo_site.specs.Sited.{BeginsNew};
-ghost use Rattle.std.specs.Prelude.{IfErr, IfOk, IsOk, OnOk, vec_capacity, vec_len, ℕ, ◌≡◌, ◌≤◌};
+ghost use Rattle.std.specs.Prelude.{IfErr, IfOk, IsOk, IsTrue, OnOk, vec_capacity, vec_len, ℕ, ◌≡◌, ◌≤◌};
 ghost use Rattle.store_opening.specs.Counts.{parts_in};
 
 use crate::cluster::Cluster;
@@ -38,7 +37,7 @@ impl<P: Parts, O: Opening> Cluster<P, O> {
         ensures ok { IfOk result (λ cluster. parts_of cluster ≡ parts_in found) }
         ensures schemas { IfOk result (λ cluster. schemas_of cluster ≡ plan.schemas) }
         ensures err { IfErr result (λ fault. vec_len fault.parts ≡ parts_in found) }
-        ensures recovered { plan.start ≡ starts.Stored → IfOk result (λ _. AreRecoveredIn P.disks found) }
+        ensures found { IfOk result (λ _. IsFoundIn P.disks found plan.start) }
     {
         let Ok(seats) = Vec::with_capacity(alloc, found.repos()) else {
             return Err(without_room(found, plan));
@@ -78,7 +77,7 @@ fn open_found<P: Parts, O: Opening>(
     ensures ok { IfOk result (λ cluster. parts_of cluster ≡ parts_in found) }
     ensures schemas { IfOk result (λ cluster. schemas_of cluster ≡ plan.schemas) }
     ensures err { IfErr result (λ fault. vec_len fault.parts ≡ parts_in found) }
-    ensures recovered { plan.start ≡ starts.Stored → IfOk result (λ _. AreRecoveredIn P.disks found) }
+    ensures found { IfOk result (λ _. IsFoundIn P.disks found plan.start) }
 {
     let (places, spare, mob, stored) = found.into_repositories();
     let Plan {
@@ -190,7 +189,7 @@ fn open_seats<P: Parts, O: Opening>(
     requires room { vec_len places ≤ vec_capacity room }
     ensures count { vec_len result.0 ≡ vec_len places }
     ensures seated { AreSeated 0 result.0.items }
-    ensures recovered { start ≡ starts.Stored → OnOk result.1 (AreRecovered P.disks places.items) }
+    ensures found { OnOk result.1 (IsFound P.disks places.items start) }
 {
     match start {
         Start::Stored => open_stored(alloc, places, room, stored),
@@ -360,14 +359,22 @@ fn format_found<P: Parts, O: Opening>(
     requires room { vec_len places ≤ vec_capacity room }
     ensures count { vec_len result.0 ≡ vec_len places }
     ensures seated { AreSeated 0 result.0.items }
+    ensures new { OnOk result.1 (IsNew places.items) }
 {
-    let seats = seat_closed(places, room);
-    match stored {
-        None => {
-            let (seats, formatted) = format_all(alloc, seats, setup, mob);
-            (seats, with(formatted, 0))
-        }
-        Some(_) => (seats, Err(Unopened::NoMemory)),
+    if stored.is_some() || !is_new(places.as_slice()) {
+        return (seat_closed(places, room), Err(Unopened::NoMemory));
+    }
+    let (seats, formatted) = format_all(alloc, seat_closed(places, room), setup, mob);
+    (seats, with(formatted, 0))
+}
+
+/// Whether the repository 0 isn't stored.
+fn is_new<P: Parts>(places: &[Closed<P>]) -> bool
+    ensures { IsTrue result → IsNew places.now }
+{
+    match places.split_first() {
+        Some((Closed::Known(_), _)) => false,
+        Some(_) | None => true,
     }
 }
 

@@ -1,8 +1,7 @@
 //! A store that was found is opened and played on.
 
 ghost use Rattle.cluster_core.specs.Counts.{parts_of};
-ghost use Rattle.cluster_core.specs.Seated.{AreRecoveredIn, AreRight, run_found};
-ghost use Rattle.cluster_core.specs.declared.plan.Start.TheVariants as starts;
+ghost use Rattle.cluster_core.specs.Seated.{AreRight, IsFoundIn, run_found};
 ghost use Rattle.std.specs.Prelude.{IfErr, IfOk, IsErr, vec_len, ◌≡◌};
 ghost use Rattle.store_opening.specs.Counts.{parts_in};
 
@@ -29,7 +28,7 @@ pub fn play<P: Parts>(
     ensures err { IfErr result (λ fault. vec_len fault.parts ≡ parts_in found) }
     // What was recorded at each repository is right by what was found there, where nothing has still to be settled.
     ensures right { IfOk result (λ finished. IfOk finished.ran (λ ran. AreRight (run_found found plan.start) 0 ran.traces)) }
-    ensures recovered { plan.start ≡ starts.Stored → IfOk result (λ _. AreRecoveredIn P.disks found) }
+    ensures found { IfOk result (λ _. IsFoundIn P.disks found plan.start) }
 {
     played::<P, Brand>(alloc, found, plan, events)
 }
@@ -45,7 +44,7 @@ fn played<P: Parts, O: Opening>(
     ensures parts { IfOk result (λ finished. vec_len finished.parts ≡ parts_in found) }
     ensures err { IfErr result (λ fault. vec_len fault.parts ≡ parts_in found) }
     ensures right { IfOk result (λ finished. IfOk finished.ran (λ ran. AreRight O.run 0 ran.traces)) }
-    ensures recovered { plan.start ≡ starts.Stored → IfOk result (λ _. AreRecoveredIn P.disks found) }
+    ensures found { IfOk result (λ _. IsFoundIn P.disks found plan.start) }
 {
     match Cluster::<P, O>::open(alloc, found, plan) {
         Ok(cluster) => Ok(run(cluster, events)),

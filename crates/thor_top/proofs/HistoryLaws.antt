@@ -1,9 +1,8 @@
 -- What is told of the repositories of a run, and what is replied of it.
 use Rattle.cluster_core.specs.Histories.{AreHistories, AreHistoriesIf}
-use Rattle.cluster_core.specs.Seated.{AreRecovered, AreRight, run_of}
+use Rattle.cluster_core.specs.Seated.{AreRight, IsFound, run_of}
 use Rattle.cluster_core.specs.declared.finishing.Finished.{Finished}
 use Rattle.cluster_core.specs.declared.finishing.Ran.{Ran}
-use Rattle.cluster_core.specs.declared.plan.Start.TheVariants as start
 use Rattle.cluster_core.specs.declared.plan.Start.{Start}
 use Rattle.disk_trait.specs.Disks.{Disks}
 use Rattle.repo_trace.specs.declared.trace.Trace.{Trace}
@@ -24,14 +23,14 @@ use Rattle.top_words.specs.declared.command.Command.TheVariants.{Run}
 use Rattle.top_words.specs.declared.command.Plan.{Plan}
 
 module _ {P : Type 0} (disks : P → Disks) (given : List P) (places : List (Closed P)) (mob : ℕ) (s : Start) (seated : AreSeated disks given places) (traces : List Trace) where
-  of_ran : {E : Type 0} (ran : Result Ran E) → TracesOf ran traces → IfOk ran (λ r. AreRight (run_of places mob s) 0 r.traces) → (s ≡ start.Stored → AreRecovered disks places) → AreHistoriesIf disks given traces
-  of_ran (Err e) is right recovered = inl is
-  of_ran (Ok r) is right recovered = inr (record { places = places; mob = mob; start = s; seated = seated; recovered = recovered; right = subst (AreRight (run_of places mob s) 0) (sym is) right })
+  of_ran : {E : Type 0} (ran : Result Ran E) → TracesOf ran traces → IfOk ran (λ r. AreRight (run_of places mob s) 0 r.traces) → IsFound disks places s → AreHistoriesIf disks given traces
+  of_ran (Err e) is right stands = inl is
+  of_ran (Ok r) is right stands = inr (record { places = places; mob = mob; start = s; seated = seated; found = stands; right = subst (AreRight (run_of places mob s) 0) (sym is) right })
 
   -- those of a run that was made on what was found
-  pub of_played : {E : Type 0} (played : Result (Finished P) E) → AreTracesOf played traces → IfOk played (λ f. IfOk f.ran (λ r. AreRight (run_of places mob s) 0 r.traces)) → (s ≡ start.Stored → IfOk played (λ _. AreRecovered disks places)) → AreHistoriesIf disks given traces
-  of_played (Err e) is right recovered = inl is
-  of_played (Ok f) is right recovered = of_ran f.ran is right recovered
+  pub of_played : {E : Type 0} (played : Result (Finished P) E) → AreTracesOf played traces → IfOk played (λ f. IfOk f.ran (λ r. AreRight (run_of places mob s) 0 r.traces)) → IfOk played (λ _. IsFound disks places s) → AreHistoriesIf disks given traces
+  of_played (Err e) is right stands = inl is
+  of_played (Ok f) is right stands = of_ran f.ran is right stands
 
 -- as many parts come back
 pub many_of : {A B V : Type 0} (len : V → ℕ) (of_ok : A → V) (of_err : B → V) (played : Result A B) (parts : V) (n : ℕ) → IfOk played (λ f. len (of_ok f) ≡ n) → IfErr played (λ f. len (of_err f) ≡ n) → IfOk played (λ f. parts ≡ of_ok f) → IfErr played (λ f. parts ≡ of_err f) → len parts ≡ n

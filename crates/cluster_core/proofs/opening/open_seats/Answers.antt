@@ -1,8 +1,8 @@
 use Rattle.repo_site.proofs.Begun.{begins_new}
 use Rattle.repo_site.specs.Begun.{new_base}
-use Rattle.cluster_core.specs.Seated.{AreBegun}
-use Rattle.cluster_core.specs.declared.plan.Start.TheVariants as starts
-use Rattle.std.proofs.Common.{arith, length, subst, sym, vec_len, ℕ, ◌∙◌, ◌≡◌}
+use Rattle.cluster_core.specs.Seated.{AreBegun, IsFound}
+use Rattle.cluster_core.specs.declared.plan.Start.{Start}
+use Rattle.std.proofs.Common.{OnOk, arith, length, subst, sym, vec_len, ℕ, ◌≡◌}
 use Rattle.cluster_core.proofs.opening.open_seats.Goals as goal
 
 pub open_stored-requires-clause-begun : goal.open_stored-requires-clause-begun
@@ -16,5 +16,8 @@ format_found-seats-requires-clause-begins g c = λ n.
     (λ based. let base = c.requires.begins.new c.in-Setup.setup c.in-Setup.is n based in
     subst (λ (k : ℕ). g.O.Opening.run.base n ≡ new_base n k c.in-Setup.setup c.args.mob) (omega (arith, c.args.places.ok.0)) base)
 
-pub returns-in-Setup-clause-recovered : goal.returns-in-Setup-clause-recovered
-returns-in-Setup-clause-recovered g c = λ is. absurd (let no : starts.Setup c.in-Setup.setup ≡ starts.Stored = sym c.in-Setup.is ∙ is in cc)
+pub returns-in-Stored-clause-found : goal.returns-in-Stored-clause-found
+returns-in-Stored-clause-found g c = subst (λ (s : Start). OnOk c.open_stored.result.1 (IsFound g.P.Parts.disks c.args.places.items s)) (sym c.in-Stored.is) c.open_stored.ensures.recovered
+
+pub returns-in-Setup-clause-found : goal.returns-in-Setup-clause-found
+returns-in-Setup-clause-found g c = subst (λ (s : Start). OnOk c.format_found-seats.result.1 (IsFound g.P.Parts.disks c.args.places.items s)) (sym c.in-Setup.is) c.format_found-seats.ensures.new
