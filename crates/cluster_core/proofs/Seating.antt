@@ -140,3 +140,7 @@ at_ok r x Q is q = subst (λ (s : Result _ _). OnOk s Q) is q
 pub always_ok : {X E : Type 0} (r : Result X E) (Q : Type 0) → Q → IfOk r (λ _. Q)
 always_ok (Ok x) Q q = q
 always_ok (Err e) Q q = tt
+
+pub on_always : {X E : Type 0} (r : Result X E) (Q : Type 0) → Q → OnOk r Q
+on_always (Ok x) Q q = q
+on_always (Err e) Q q = tt

@@ -346,6 +346,7 @@ fn open_known<P: Parts, O: Opening>(
 }
 
 /// Formats every repository of a store that was found fresh.
+#[tactic(auto, using(crate::proofs::Seating::on_always))]
 fn format_found<P: Parts, O: Opening>(
     alloc: Global,
     places: Vec<Closed<P>>,
@@ -361,17 +362,20 @@ fn format_found<P: Parts, O: Opening>(
     ensures seated { AreSeated 0 result.0.items }
     ensures new { OnOk result.1 (IsNew places.items) }
 {
-    if stored.is_some() || !is_new(places.as_slice()) {
+    if !is_new(stored, places.as_slice()) {
         return (seat_closed(places, room), Err(Unopened::NoMemory));
     }
     let (seats, formatted) = format_all(alloc, seat_closed(places, room), setup, mob);
     (seats, with(formatted, 0))
 }
 
-/// Whether the repository 0 isn't stored.
-fn is_new<P: Parts>(places: &[Closed<P>]) -> bool
+/// Whether a store is new that was found with so many upgrades or none: the repository 0 isn't stored.
+fn is_new<P: Parts>(stored: Option<usize>, places: &[Closed<P>]) -> bool
     ensures { IsTrue result → IsNew places.now }
 {
+    if stored.is_some() {
+        return false;
+    }
     match places.split_first() {
         Some((Closed::Known(_), _)) => false,
         Some(_) | None => true,
