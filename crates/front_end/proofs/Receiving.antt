@@ -24,9 +24,9 @@ use Rattle.client_port.specs.Views.{Calm, Halted, MayCome, Unsettled, View}
 use Rattle.client_port.specs.Works.{Answered, Does, IsOutage, ReceiveWork}
 use Rattle.base_reasons.specs.declared.reason.Reason.TheVariants as reasons
 use Rattle.base_reasons.specs.declared.reason.Reason.{Reason}
-use Rattle.std.proofs.Common.{Bool, List, ap, inl, inr, refl, subst, sym, true, ◌≡◌, ◌∙◌, ℕ}
+use Rattle.std.proofs.Common.{Bool, List, ap, arith, inl, inr, refl, subst, sym, true, ◌<◌, ◌≡◌, ◌∙◌, ℕ}
 use Rattle.std.specs.Option.{option_map}
-use Rattle.std.specs.Prelude.{Err, None, Ok, OnOk, Option, Result, Some, slice_get}
+use Rattle.std.specs.Prelude.{Err, None, Ok, OnOk, Option, Result, Some, slice_get, ◌^◌}
 use Rattle.thor_value.specs.FiniteMap.{empty}
 use Rattle.thor_value.specs.declared.values.Obj.{Obj}
 use Rattle.repo_refusals.specs.declared.refusal.Refusal.TheVariants as refused
@@ -64,9 +64,11 @@ empty_page bytes number fits spelled = record {
   brings = record { slots = λ s. refl; fits = λ s o h. cc };
 }
 
-pub grants_none : (repo number place : ℕ) (bytes : List ℕ) (c : page.Contents) (before after : Contents) → c ≡ record { number = number; objects = empty } → page.PageFits c → bytes ≡ page.page_bytes c
+pub grants_none : (repo number place : ℕ) (bytes : List ℕ) (c : page.Contents) (before after : Contents) → c ≡ record { number = number; objects = empty } → number < 2 ^ 32 → bytes ≡ page.page_bytes c
     → BringsPage repo number bytes before after → CopiesTaken repo (Grant number place) before after
-grants_none repo number place bytes c before after is fits spelled brings = brings no_objects (empty_page bytes number (subst (λ (d : page.Contents). page.PageFits d) is fits) (subst (λ (d : page.Contents). bytes ≡ page.page_bytes d) is spelled))
+grants_none repo number place bytes c before after is few spelled brings =
+    let fits : page.PageFits (record { number = number; objects = empty }) = record { number = few; objects = record { rising = tt; each = tt; count = omega arith; room = omega arith } } in
+    brings no_objects (empty_page bytes number fits (subst (λ (d : page.Contents). bytes ≡ page.page_bytes d) is spelled))
 
 -- ---- refusals
 

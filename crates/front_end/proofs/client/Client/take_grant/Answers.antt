@@ -6,7 +6,7 @@ use Rattle.front_end.proofs.client.Client.take_grant.Goals.{else-has_none_of, th
 use Rattle.std.proofs.Common.{ap, inr, refl}
 
 pub returns-clause-takes : goal.returns-clause-takes
-returns-clause-takes c = elim c.if-has_none_of.branch [ then-has_none_of+in_ok-grant w ↦ λ place. rw (w.self-is) (takes_so c.args.repo _ c.args.self.now.held _ (grants_none c.args.repo c.args.page place c.in_ok-bytes.bytes _ c.args.self.now.held.cache.cache c.place.new.self.cache.cache c.in_ok-empty.ensures.made c.in_ok-bytes.ensures.fits c.in_ok-bytes.ensures.text c.in_ok-place.ensures.kept) (ap (λ (h : Held). h.client) c.place.ensures.rest) (ap (λ (h : Held). h.links.items) c.place.ensures.rest)) | else-has_none_of w ↦ λ place. rw (w.self-is) (takes_so c.args.repo _ c.args.self.now.held _ (grants_none c.args.repo c.args.page place c.in_ok-bytes.bytes _ c.args.self.now.held.cache.cache c.place.new.self.cache.cache c.in_ok-empty.ensures.made c.in_ok-bytes.ensures.fits c.in_ok-bytes.ensures.text c.in_ok-place.ensures.kept) (ap (λ (h : Held). h.client) c.place.ensures.rest) (ap (λ (h : Held). h.links.items) c.place.ensures.rest)) ]
+returns-clause-takes c = elim c.if-has_none_of.branch [ then-has_none_of+in_ok-grant w ↦ λ place. rw (w.self-is) (takes_so c.args.repo _ c.args.self.now.held _ (grants_none c.args.repo c.args.page place _ _ c.args.self.now.held.cache.cache c.place.new.self.cache.cache c.in_ok-empty.ensures.made c.ranges.page.fits c.new-bytes.ensures c.in_ok-place.ensures.kept) (ap (λ (h : Held). h.client) c.place.ensures.rest) (ap (λ (h : Held). h.links.items) c.place.ensures.rest)) | else-has_none_of w ↦ λ place. rw (w.self-is) (takes_so c.args.repo _ c.args.self.now.held _ (grants_none c.args.repo c.args.page place _ _ c.args.self.now.held.cache.cache c.place.new.self.cache.cache c.in_ok-empty.ensures.made c.ranges.page.fits c.new-bytes.ensures c.in_ok-place.ensures.kept) (ap (λ (h : Held). h.client) c.place.ensures.rest) (ap (λ (h : Held). h.links.items) c.place.ensures.rest)) ]
 
 pub returns-clause-stays : goal.returns-clause-stays
 returns-clause-stays c = elim c.if-has_none_of.branch [ then-has_none_of+in_ok-grant w ↦ rw (w.self-is) (inr (refl, still_written c.args.self.now.held c.place.new.self (ap (λ (h : Held). h.links.items) c.place.ensures.rest) c.place.ensures.writes)) | else-has_none_of w ↦ rw (w.self-is) (inr (refl, still_written c.args.self.now.held c.place.new.self (ap (λ (h : Held). h.links.items) c.place.ensures.rest) c.place.ensures.writes)) ]
