@@ -175,3 +175,25 @@ installed_says_the_same pages s page side holds x = by (nat_eq x.page page) refl
 -- An entry's writes are said behind it, and everything else as before.
 pub entry_says_its_writes : (pages : Pages) (s : State) (e : Entry) (x : Oref) → value pages (after s (AnEntry e)) x ≡ option_or (written_last x (object_in s.mob x) (writes_of s e)) (on_page pages s.installed x)
 entry_says_its_writes pages s e x = ap (λ (o : Option Obj). option_or o (on_page pages (changed s e).installed x)) (behind_is s (AnEntry e) x) ∙ ap (λ (i : List (ℕ × ℕ)). option_or (written_last x (object_in s.mob x) (writes_of s e)) (on_page pages i x)) (same_sides s e)
+
+-- ---- migrations
+
+-- of a list in which no name stands twice the last write under a name is the one that is found
+last_is_first : (ws : List (Oref × Obj)) (x : Oref) (found : Option Obj) (seen : Set oref_cmp) → IsTrue (are_new seen ws) → written_last x found ws ≡ option_or (object_in ws x) found
+last_is_first [] x found seen new = refl
+last_is_first (w ∷ ws) x found seen new = by (same_oref x w.0) refl
+  where
+    rest : IsTrue (are_new (add seen w.0) ws)
+    rest = (and_parts (not (has seen w.0)) (are_new (add seen w.0) ws) new).1
+
+    by : (b : Bool) → same_oref x w.0 ≡ b → written_last x (cond b (Some w.1) found) ws ≡ option_or (cond b (Some w.1) (object_in ws x)) found
+    by false apart = last_is_first ws x found (add seen w.0) rest
+    by true same =
+        last_is_first ws x (Some w.1) (add seen w.0) rest
+        ∙ ap (λ (o : Option Obj). option_or o (Some w.1)) (seen_none ws x (add seen w.0) rest (ap (λ (k : Oref). has (add seen w.0) k) (same_name x w.0 same) ∙ has-add seen w.0))
+
+pub migrated_says_the_same : (pages : Pages) (paged : List (Oref × Obj)) (s : State) → StateFits s → HasPaged pages s.installed paged → (x : Oref) → value pages (migrated paged s) x ≡ value pages s x
+migrated_says_the_same pages paged s fits has x =
+    ap (λ (o : Option Obj). option_or o None) (object_in-writes s.mob paged x ∙ last_is_first s.mob x (object_in paged x) empty fits.mob_distinct)
+    ∙ or_none (option_or (object_in s.mob x) (object_in paged x))
+    ∙ ap (λ (o : Option Obj). option_or (object_in s.mob x) o) (sym (has x))

@@ -3,3 +3,4 @@ pub mod Replayed
 pub mod FoundLaws
 pub mod Lost
 pub mod Reopened
+pub mod Aside

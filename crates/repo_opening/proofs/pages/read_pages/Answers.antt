@@ -11,8 +11,8 @@ loop-page-preserved g c =
     let new = g.P.Parts.disks c.read_side.new.parts in (
       stays_then old mid new inv.0 c.read_side.ensures.stays,
       bytes_on mid new c.in_ok-size.size c.read_side.ensures.stays inv.1,
-      λ disk told. next_side c.args.repo disk c.args.installed.now c.as_slice-page-items.result.now c.loop-page.page-index _ c.args.objects.now c.loop-page.objects c.read_side.new.objects c.as_slice-page-items.ensures.value c.loop-page-test.true (inv.2 disk told) (c.in_ok-has_objects.ensures.side disk (inv.0.content ∙ told)),
+      λ disk told. next_side c.args.format c.args.repo disk c.args.installed.now c.as_slice-page-items.result.now c.loop-page.page-index _ c.args.objects.now c.loop-page.objects c.read_side.new.objects c.as_slice-page-items.ensures.value c.loop-page-test.true (inv.2 disk told) (c.in_ok-has_objects.ensures.side disk (inv.0.content ∙ told)),
     )
 
 pub returns-clause-paged : goal.returns-clause-paged
-returns-clause-paged g c = λ disk told. all_sides c.args.repo disk c.args.installed.now c.as_slice-page-items.result.now c.loop-page.page-index c.args.objects.now c.loop-page.objects c.as_slice-page-items.ensures.value c.loop-page-test.false (c.loop-page.invariant.2 disk told)
+returns-clause-paged g c = λ disk told. all_sides c.args.format c.args.repo disk c.args.installed.now c.as_slice-page-items.result.now c.loop-page.page-index c.args.objects.now c.loop-page.objects c.as_slice-page-items.ensures.value c.loop-page-test.false (c.loop-page.invariant.2 disk told)
