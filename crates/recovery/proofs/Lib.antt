@@ -4,3 +4,4 @@ pub mod FoundLaws
 pub mod Lost
 pub mod Reopened
 pub mod Aside
+pub mod Paging

@@ -46,6 +46,7 @@ pub fn read_objects<P: Parts>(
 }
 
 /// The objects of a page, slots rising.
+#[tactic(auto, using(crate::proofs::Paging::paged_more, crate::proofs::Paging::paged_all))]
 fn objects_of(alloc: Global, repo: u8, page: &Page) -> Result<Writes, NoMemory>
     requires { HasObjects page.now }
     ensures { IfOk result (AreOfPage repo page.now) }
@@ -58,6 +59,7 @@ fn objects_of(alloc: Global, repo: u8, page: &Page) -> Result<Writes, NoMemory>
 }
 
 /// The object at a rank of a page, under its name. The page has that many.
+#[tactic(auto, using(crate::proofs::Paging::paged_one))]
 fn object_at(alloc: Global, repo: u8, page: &Page, rank: u8) -> Result<(Oref, Obj), NoMemory>
     requires { HasObjects page.now }
     ensures { IfOk result (λ w. (q : ℕ × List ℕ) × (slice_get page.now.objects.pairs rank ≡ Some q) × IsPaged repo page.now.number q w) }
