@@ -35,6 +35,10 @@ after_aside : (f : StoreFormat) (s : State) (b : Body) → after (in_format f s)
 after_aside f s (AnEntry e) = ap (λ (u : State). record u { count = s.count + 1 }) (changed_aside f s e)
 after_aside f s (Installed page side) = refl
 
+-- a record leaves the format as it is
+pub format_stays : (s : State) (b : Body) → (after s b).format ≡ s.format
+format_stays s b = ap (λ (u : State). u.format) (after_aside s.format s b)
+
 follow_aside : (f : StoreFormat) (s : State) (b : Body) → can_follow (in_format f s) b ≡ can_follow s b
 follow_aside f s (AnEntry e) = refl
 follow_aside f s (Installed page side) = refl

@@ -9,7 +9,7 @@ use Rattle.std.proofs.lemmas.Grind.{flat_map-append}
 use Rattle.std.proofs.lemmas.List.Sums.{fold-append}
 use Rattle.std.proofs.lemmas.List.{append-nil, take_all}
 use Rattle.std.proofs.lemmas.Slice.Zip.{all_zipped_more}
-use Rattle.std.specs.List.{AllZip, flat_map}
+use Rattle.std.specs.List.{AllByRecursion, AllZip, flat_map}
 use Rattle.std.specs.Ordering.{is_eq}
 use Rattle.std.specs.declared.cmp.Ordering.{Ordering}
 use Rattle.thor_value.specs.FiniteMap.{insert, overwrite}
@@ -67,3 +67,17 @@ next_side format repo disk sides items i d old mid new same within puts side =
 
 pub all_sides : (format : StoreFormat) (repo : ℕ) (disk : List ℕ) (sides items : List (ℕ × ℕ)) (i : ℕ) (old new : Objects) → items ≡ sides → length items ≤ i → PutsPaged format repo disk (take i sides) old new → PutsPaged format repo disk sides old new
 all_sides format repo disk sides items i old new same whole puts = subst (λ (qs : List (ℕ × ℕ)). PutsPaged format repo disk qs old new) (take_all i sides (subst (λ (qs : List (ℕ × ℕ)). length qs ≤ i) same whole)) puts
+
+-- ---- room for all sides
+
+all_push : {X : Type 0} (P : X → Type 0) (xs : List X) (x : X) → AllByRecursion P xs → P x → AllByRecursion P (xs ++ x ∷ [])
+all_push P [] x all one = (one, tt)
+all_push P (y ∷ ys) x all one = (all.0, all_push P ys x all.1 one)
+
+pub sides_next : (P : ℕ × ℕ → Type 0) (sides items : List (ℕ × ℕ)) (i : ℕ) (d : ℕ × ℕ) → items ≡ sides → i < length items → AllByRecursion P (take i sides) → P (get_or items i d) → AllByRecursion P (take (i + 1) sides)
+sides_next P sides items i d same within all one =
+    let e : take (i + 1) items ≡ take i items ++ get_or items i d ∷ [] = next_first items i (get_or items i d) within (get_or-same items i d within) in
+    subst (AllByRecursion P) (sym (ap (λ qs. take (i + 1) qs) (sym same) ∙ e)) (all_push P (take i items) (get_or items i d) (subst (λ (qs : List (ℕ × ℕ)). AllByRecursion P (take i qs)) (sym same) all) one)
+
+pub sides_all : (P : ℕ × ℕ → Type 0) (sides items : List (ℕ × ℕ)) (i : ℕ) → items ≡ sides → length items ≤ i → AllByRecursion P (take i sides) → AllByRecursion P sides
+sides_all P sides items i same whole all = subst (AllByRecursion P) (take_all i sides (subst (λ (qs : List (ℕ × ℕ)). length qs ≤ i) same whole)) all

@@ -132,6 +132,7 @@ pub(crate) fn objects_of(
 
 /// The objects of a buffer that has older ones and then takes newer ones: each newer one stands in the place of the one under its
 /// name, or behind the last.
+#[tactic(auto, using(crate::proofs::Buffers::put_all_is))]
 pub fn merged(alloc: Global, repo: u8, older: Writes, newer: &Writes) -> Result<Writes, NoMemory>
     requires older { AreOf repo older }
     requires distinct { AreDistinct older }
