@@ -5,3 +5,4 @@ pub mod Lost
 pub mod Reopened
 pub mod Aside
 pub mod Paging
+pub mod Migrated

@@ -7,7 +7,6 @@ ghost use Rattle.disk_trait.specs.AllDisks.{GoesOn, LeavesAll, NoFault, ReadsAs,
 ghost use Rattle.disk_trait.specs.Disks.{Disks, NoNewImage, OnDisk, Rose, WhereTold};
 ghost use Rattle.log_codec.specs.Checkpoint.{StateFits};
 ghost use Rattle.log_codec.specs.declared.state.State.{State as AState};
-ghost use Rattle.log_entries.specs.RequestForm.{WriteFits};
 ghost use Rattle.mob_buffer.specs.Buffer.{AreDistinct, AreOf};
 ghost use Rattle.page_format.specs.declared.format.StoreFormat.TheVariants.{One, Two};
 ghost use Rattle.page_store.specs.Sides.{ReachesSides};
@@ -19,7 +18,6 @@ ghost use Rattle.recovery.specs.Paged.{ArePaged, HasSide, HasSides, IsOnSide};
 ghost use Rattle.recovery.specs.declared.fault.RecoverFault.TheVariants.{Damaged, Failed, NoMemory as OutOfMemory};
 ghost use Rattle.repo_state.specs.Keeps.{IsUnread, Keeps};
 ghost use Rattle.repo_state.specs.Said.{said};
-ghost use Rattle.std.specs.List.{AllByRecursion};
 ghost use Rattle.std.specs.Prelude.{IfOk, IsErrOf, IsTrue, List, OnOk, [], ◌+◌, ◌<◌, ◌^◌, ◌≡◌, ℕ};
 ghost use Rattle.thor_value.specs.declared.names.Oref.{Oref as AnOref};
 ghost use Rattle.thor_value.specs.declared.values.Obj.{Obj as AnObj};
@@ -144,8 +142,7 @@ fn read_paged<P: Parts>(
     ensures content { (P.disks parts.new).content 2 ≡ (P.disks parts.old).content 2 }
     ensures crash { NoNewImage (P.disks parts.old) (P.disks parts.new) 2 }
     ensures paged { IfOk result (λ objects. WhereTold (P.disks parts.old) 2 (λ disk. ArePaged One repo disk installed.now objects)) }
-    ensures fit { repo < 8 → IfOk result (AllByRecursion WriteFits) }
-    ensures of { IfOk result (AreOf repo) }
+    ensures of { repo < 8 → IfOk result (AreOf repo) }
     ensures distinct { IfOk result AreDistinct }
     ensures damaged { (d place : ℕ) → IsErrOf result (Damaged d place) → WhereTold (P.disks parts.old) 2 (λ disk. (objects : List (AnOref × AnObj)) → ArePaged One repo disk installed.now objects → ⊥) }
     ensures failed { (d : ℕ) → IsErrOf result (Failed d) → (d ≡ 2) × Rose ((P.disks parts.old).faults 2) ((P.disks parts.new).faults 2) }
@@ -191,8 +188,12 @@ fn read_page<P: Parts>(
 fn with_objects(alloc: Global, state: State, paged: Writes) -> Result<State, NoMemory>
     requires paged { AreOf state.repo paged }
     requires distinct { AreDistinct paged }
+    requires buffer { AreOf state.repo state.mob }
+    requires fits { StateFits state }
     requires whole { IsTrue (is_whole state) }
-    ensures { IfOk result (λ moved. moved ≡ migrated paged state) }
+    ensures moved { IfOk result (λ moved. moved ≡ migrated paged state) }
+    ensures fits { IfOk result StateFits }
+    ensures whole { IfOk result (λ moved. IsTrue (is_whole moved)) }
 {
     let objects = merged(alloc, state.repo, paged, &state.mob);
     let (state, objects) = both(state, objects)?;
