@@ -197,7 +197,7 @@ pub fn touch(
         return fault(Fault::Large);
     }
     let class = class_found(seen_class(world, machine, oref), oref, owners)?;
-    machine.reads.insert(oref, ())?;
+    machine.reads.insert(oref)?;
     Ok(class)
 }
 

@@ -147,7 +147,7 @@ fn touched(
         return fault(Fault::Large);
     }
     use_page(program, cache, machine, oref);
-    machine.reads.insert(oref, ())?;
+    machine.reads.insert(oref)?;
     Ok(class)
 }
 

@@ -34,7 +34,7 @@ use std::marker::Brand;
 use std::mem;
 use std::sync::ledger::{Blank, Ledger};
 use thor_value::{
-    Answer, Ints, NoMemory, Oref, OrefMap, Orefs, Sequence, StepCount, TryCopy, Writes,
+    Answer, Ints, NoMemory, Oref, OrefMap, OrefSet, Orefs, Sequence, StepCount, TryCopy, Writes,
 };
 
 /// A transaction's evaluation, as far as it has come.
@@ -109,7 +109,7 @@ fn begun(alloc: Global) -> Machine
         depth: 0,
         this: None,
         locals: Sequence::new(alloc),
-        reads: OrefMap::new(alloc),
+        reads: OrefSet::new(alloc),
         writes: OrefMap::new(alloc),
         created: Orefs::new(alloc),
         printed: Ints::new(alloc),
