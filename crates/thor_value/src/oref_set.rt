@@ -6,7 +6,7 @@ ghost use Rattle.thor_value.specs.FiniteMap.{add, empty, has, keys, len as name_
 use crate::lists::Orefs;
 use crate::memory::NoMemory;
 use crate::names::Oref;
-use crate::rising::{comes_last, place_of};
+use crate::searching::{comes_last, place_of};
 use crate::sequence::Sequence;
 use std::alloc::Global;
 use std::marker::Model;
