@@ -9,7 +9,9 @@ use method_eval::{Names, View};
 use session_outbox::At;
 use std::alloc::Global;
 use std::mem;
-use thor_value::{Answer, NoMemory, Obj, Oref, OrefMap, OrefSet, Orefs, Sequence, TryCopy, Ts, Who};
+use thor_value::{
+    Answer, NoMemory, Obj, Oref, OrefMap, OrefSet, Orefs, Sequence, TryCopy, Ts, Who,
+};
 
 /// A due object, and what its transform functions have looked at so far.
 #[derive(Drop)]
