@@ -2,7 +2,7 @@
 use Rattle.client_port.specs.Growing.{Called, Grew}
 use Rattle.client_port.specs.Views.{Calm, Halted, MayCome, Opened, Unsettled, View}
 use Rattle.client_port.specs.Works.{Answered, Does, IsDown}
-use Rattle.cluster_port.specs.Lent.{AreInPlace, trace_at, unsettled_at, view_of}
+use Rattle.cluster_port.specs.Lent.{AreInPlace, Lent, trace_at, unsettled_at, view_of}
 use Rattle.cluster_port.proofs.Placing.{past, placed_with, set_here, set_length, set_there}
 use Rattle.law_client_views.proofs.Grown.{none_grew}
 use Rattle.law_client_views.proofs.Stopping.{does_down}
@@ -136,3 +136,12 @@ lent_at run c sites r i n old new a happens place count within found result work
 -- none at a place
 pub none_at : {X : Type 0} (run : Run) (c : ℕ) (sites : List Sited) (r i n : ℕ) → i ≡ r → n ≡ length sites → (i < n → false ≡ true) → (result : Result X Refusal) (work : Base → List Item → List Item → Unsettled → Type 0) → IsDown r result → Does (view_of run c sites) (view_of run c sites) r result work
 none_at run c sites r i n place count out result work d = none_there run c sites r result work (ap (slice_get sites) (sym place) ∙ past sites i n count out) d
+
+-- ---- what is lent
+
+abbrev lent_to : ℕ → List Sited → Lent
+lent_to c sites = record { client = c; sites = sites }
+
+-- the same, as what is lent is seen
+pub as_lent : {X : Type 0} (run : Run) (c : ℕ) (sites : List Sited) (l : Lent) (now : View) (r : ℕ) (result : Result X Refusal) (work : Base → List Item → List Item → Unsettled → Type 0) → lent_to c sites ≡ l → Does (view_of run c sites) now r result work → Does (view_of run l.client l.sites) now r result work
+as_lent run c sites l now r result work is does = subst (λ (k : Lent). Does (view_of run k.client k.sites) now r result work) is does
