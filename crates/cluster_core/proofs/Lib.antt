@@ -1,3 +1,6 @@
+pub mod Begun
+mod Ending
 mod Recovered
-pub mod Restarts
+mod Seating
+mod Stepping
 mod Steps

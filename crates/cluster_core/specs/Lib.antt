@@ -1,2 +1,5 @@
 pub mod Counts
+pub mod Happening
+pub mod Histories
 pub mod Restarting
+pub mod Seated

@@ -1,30 +1,45 @@
 //! The repositories and clients of an open store, apart from each other.
 
 ghost use Rattle.cluster_core.specs.Counts.{parts_of, room_of};
-ghost use Rattle.cluster_core.specs.Restarting.{GoesOn, IsStartedAgain};
-ghost use Rattle.std.specs.Prelude.{vec_capacity, vec_len, ◌≡◌, ◌≤◌};
+ghost use Rattle.cluster_core.specs.Restarting.{IsStartedAgain};
+ghost use Rattle.std.specs.Prelude.{IfErr, IfOk, vec_capacity, vec_len, ◌≡◌, ◌≤◌};
 
 use crate::cluster::Cluster;
 use crate::emptied::Emptied;
 use crate::events::unless_memory;
-use crate::seat::Seat;
+use crate::finishing::{Finished, close_seats};
+use crate::seat::{Seat, seat_all};
 use disk_trait::Parts;
 use front_end::{FrontEnd, Opened};
 use mob_flusher::Flushed;
-use repo_core::Repo;
 use repo_refusals::Refusal;
+use repo_site::Opening;
 use std::alloc::Global;
 use thor_value::NoMemory;
 
-impl<P: Parts> Cluster<P> {
-    /// Takes out the repositories, in their order, and the clients 1, 2, ..
-    pub fn emptied(self) -> (Emptied<P>, Vec<Seat<P>>, Vec<FrontEnd>)
+impl<P: Parts, O: Opening> Cluster<P, O> {
+    /// Takes out the repositories, in their order, and the clients 1, 2, .. The store as it is, where memory isn't there.
+    pub fn emptied(self) -> Result<(Emptied<P>, Vec<Seat<P, O>>, Vec<FrontEnd>), Cluster<P, O>>
+        ensures count { IfOk result (λ apart. vec_len apart.1 ≡ parts_of self) }
+        ensures room { IfOk result (λ apart. parts_of self ≤ room_of apart.0) }
+        ensures err { IfErr result (λ cluster. parts_of cluster ≡ parts_of self) }
+    {
+        match Vec::with_capacity(self.alloc, self.sites.len()) {
+            Ok(room) => Ok(self.emptied_into(room)),
+            Err(_) => Err(self),
+        }
+    }
+
+    /// The same, where there is room for the repositories.
+    fn emptied_into(self, room: Vec<Seat<P, O>>) -> (Emptied<P>, Vec<Seat<P, O>>, Vec<FrontEnd>)
+        requires empty { vec_len room ≡ 0 }
+        requires room { parts_of self ≤ vec_capacity room }
         ensures count { vec_len result.1 ≡ parts_of self }
         ensures room { parts_of self ≤ room_of result.0 }
     {
         let Cluster {
             alloc,
-            seats,
+            sites,
             clients,
             opened,
             spare,
@@ -35,7 +50,7 @@ impl<P: Parts> Cluster<P> {
             opened,
             spare,
         };
-        (emptied, seats, clients)
+        (emptied, seat_all(sites, room), clients)
     }
 }
 
@@ -45,10 +60,10 @@ impl<P: Parts> Emptied<P> {
         &self.opened
     }
 
-    /// Puts repositories and clients back, as many repositories at most as there were.
-    pub fn filled(self, seats: Vec<Seat<P>>, clients: Vec<FrontEnd>) -> Cluster<P>
+    /// Ends the run: repositories and clients come back, as many repositories at most as there were.
+    pub fn finish<O: Opening>(self, seats: Vec<Seat<P, O>>, clients: Vec<FrontEnd>) -> Finished<P>
         requires { vec_len seats ≤ room_of self }
-        ensures { parts_of result ≡ vec_len seats }
+        ensures { vec_len result.parts ≡ vec_len seats }
     {
         let Emptied {
             alloc,
@@ -56,24 +71,19 @@ impl<P: Parts> Emptied<P> {
             spare,
             ..
         } = self;
-        Cluster {
-            alloc,
-            seats,
-            clients,
-            opened,
-            spare,
-        }
+        drop(opened);
+        close_seats(alloc, seats, clients, spare)
     }
 }
 
-impl<P: Parts> Seat<P> {
+impl<P: Parts, O: Opening> Seat<P, O> {
     /// Stops the repository where it is up, and starts it again from what its log stands for. A refusal is no
     /// concern of a schedule, but for want of memory.
     pub fn restart(&mut self, pick: u64) -> Result<(), NoMemory>
         ensures { IsStartedAgain self.old self.new }
     {
         match self {
-            Seat::Open(found) => restart(found, pick),
+            Seat::Open(site) => unless_memory(site.restart(pick)),
             Seat::Closed(_) => Ok(()),
         }
     }
@@ -81,7 +91,7 @@ impl<P: Parts> Seat<P> {
     /// Flushes the page of the oldest buffered object.
     pub fn flush(&mut self, repo: u8) -> Result<Flushed, Refusal> {
         match self {
-            Seat::Open(found) => found.flush(),
+            Seat::Open(site) => site.flush(),
             _ => Err(Refusal::Down { repo }),
         }
     }
@@ -89,16 +99,8 @@ impl<P: Parts> Seat<P> {
     /// How many bytes the buffered objects have.
     pub fn mob_bytes(&self) -> u32 {
         match self {
-            Seat::Open(found) => found.mob_bytes(),
+            Seat::Open(site) => site.repo().mob_bytes(),
             _ => 0,
         }
     }
-}
-
-/// Starts a repository again.
-#[tactic(auto, using(crate::proofs::Restarts::goes_on))]
-fn restart<P: Parts>(repo: &mut Repo<P>, pick: u64) -> Result<(), NoMemory>
-    ensures { GoesOn repo.old repo.new }
-{
-    unless_memory(repo.restart(pick))
 }

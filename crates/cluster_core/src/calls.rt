@@ -1,18 +1,18 @@
-//! The calls of clients on a repository in its seat. One that isn't open is taken as one that is down. What a
-//! repository asks of a request is tested before the call.
+//! The calls of clients on a repository in its seat. One that isn't open is taken as one that is down.
 
 use crate::seat::Seat;
 use disk_trait::Parts;
 use log_entries::Request;
 use repo_refusals::Refusal;
+use repo_site::Opening;
 use session_outbox::{Asked, At, Message, Verdict, Welcome};
 use thor_value::Ts;
 
-impl<P: Parts> Seat<P> {
+impl<P: Parts, O: Opening> Seat<P, O> {
     /// Begins a session of the client.
     pub fn connect(&mut self, repo: u8, client: u8) -> Result<Welcome, Refusal> {
         match self {
-            Seat::Open(found) => found.connect(client),
+            Seat::Open(site) => site.connect(client),
             _ => Err(Refusal::Down { repo }),
         }
     }
@@ -20,7 +20,7 @@ impl<P: Parts> Seat<P> {
     /// Asks for a page.
     pub fn fetch(&mut self, at: At, page: u32, upto: u64) -> Result<(), Refusal> {
         match self {
-            Seat::Open(found) => found.fetch(at.session, page, upto),
+            Seat::Open(site) => site.fetch(at.session, page, upto),
             _ => Err(Refusal::Down { repo: at.repo }),
         }
     }
@@ -28,7 +28,7 @@ impl<P: Parts> Seat<P> {
     /// Asks for a page of names.
     pub fn grant(&mut self, at: At) -> Result<(), Refusal> {
         match self {
-            Seat::Open(found) => found.grant(at.session),
+            Seat::Open(site) => site.grant(at.session),
             _ => Err(Refusal::Down { repo: at.repo }),
         }
     }
@@ -36,7 +36,7 @@ impl<P: Parts> Seat<P> {
     /// Takes the oldest message of a session.
     pub fn receive(&mut self, at: At) -> Result<Option<Message>, Refusal> {
         match self {
-            Seat::Open(found) => found.receive(at.session),
+            Seat::Open(site) => site.receive(at.session),
             _ => Err(Refusal::Down { repo: at.repo }),
         }
     }
@@ -44,7 +44,7 @@ impl<P: Parts> Seat<P> {
     /// Draws a timestamp above the floor.
     pub fn draw(&mut self, at: At, floor: u64) -> Result<Ts, Refusal> {
         match self {
-            Seat::Open(found) => found.draw(at.session, floor),
+            Seat::Open(site) => site.draw(at.session, floor),
             _ => Err(Refusal::Down { repo: at.repo }),
         }
     }
@@ -52,13 +52,7 @@ impl<P: Parts> Seat<P> {
     /// Prepares a transaction.
     pub fn prepare(&mut self, at: At, request: Request) -> Result<u64, Refusal> {
         match self {
-            Seat::Open(found) => {
-                if !found.may_request(&request, false) {
-                    drop(request);
-                    return Err(Refusal::NoMemory);
-                }
-                found.prepare(at.session, request)
-            }
+            Seat::Open(site) => site.prepare(at.session, request),
             _ => {
                 drop(request);
                 Err(Refusal::Down { repo: at.repo })
@@ -69,13 +63,7 @@ impl<P: Parts> Seat<P> {
     /// Commits a transaction that has this one participant.
     pub fn commit_one(&mut self, at: At, request: Request) -> Result<u64, Refusal> {
         match self {
-            Seat::Open(found) => {
-                if !found.may_request(&request, true) {
-                    drop(request);
-                    return Err(Refusal::NoMemory);
-                }
-                found.commit_one(at.session, request)
-            }
+            Seat::Open(site) => site.commit_one(at.session, request),
             _ => {
                 drop(request);
                 Err(Refusal::Down { repo: at.repo })
@@ -86,7 +74,7 @@ impl<P: Parts> Seat<P> {
     /// Decides a transaction that it coordinates.
     pub fn decide(&mut self, at: At, tx: Ts, commit: bool) -> Result<Verdict, Refusal> {
         match self {
-            Seat::Open(found) => found.decide(at.session, tx, commit),
+            Seat::Open(site) => site.decide(at.session, tx, commit),
             _ => Err(Refusal::Down { repo: at.repo }),
         }
     }
@@ -94,7 +82,7 @@ impl<P: Parts> Seat<P> {
     /// Takes a verdict.
     pub fn finish(&mut self, repo: u8, verdict: &Verdict) -> Result<Option<u64>, Refusal> {
         match self {
-            Seat::Open(found) => found.finish(verdict),
+            Seat::Open(site) => site.finish(verdict),
             _ => Err(Refusal::Down { repo }),
         }
     }
@@ -102,7 +90,7 @@ impl<P: Parts> Seat<P> {
     /// Forgets a decision.
     pub fn forget(&mut self, repo: u8, tx: Ts) -> Result<(), Refusal> {
         match self {
-            Seat::Open(found) => found.forget(tx),
+            Seat::Open(site) => site.forget(tx),
             _ => Err(Refusal::Down { repo }),
         }
     }
@@ -110,7 +98,7 @@ impl<P: Parts> Seat<P> {
     /// Tells its verdict.
     pub fn ask(&mut self, repo: u8, tx: Ts) -> Result<Asked, Refusal> {
         match self {
-            Seat::Open(found) => found.ask(tx),
+            Seat::Open(site) => site.ask(tx),
             _ => Err(Refusal::Down { repo }),
         }
     }

@@ -1,18 +1,20 @@
 //! What comes behind the last event.
 
 ghost use Rattle.cluster_core.specs.Counts.{parts_of, steps_of};
+ghost use Rattle.cluster_port.specs.Lent.{AreInPlace};
 ghost use Rattle.front_end.specs.declared.front_end.Step.TheVariants as step;
-ghost use Rattle.std.specs.Prelude.{◌≡◌, ◌<◌, Ok, true};
+ghost use Rattle.std.specs.Prelude.{◌≡◌, ◌<◌, Ok, true, vec_len};
 
 use crate::cluster::Cluster;
 use crate::events::unless_memory;
-use crate::lent::Turn;
-use crate::seat::Seat;
+use crate::turning::Turn;
+use cluster_port::events;
 use disk_trait::Parts;
 use front_end::Step;
+use repo_site::{Opening, Site};
 use thor_value::NoMemory;
 
-impl<P: Parts> Cluster<P> {
+impl<P: Parts, O: Opening> Cluster<P, O> {
     /// Has every item end: stops that haven't fallen are taken back, each repository that is down is restarted
     /// once, and the clients take steps in turn until no item is left. Then each Unknown item is asked for once.
     pub fn drain(&mut self) -> Result<(), NoMemory>
@@ -30,7 +32,7 @@ impl<P: Parts> Cluster<P> {
     pub fn bring_repositories_up(&mut self) -> Result<(), NoMemory>
         ensures { parts_of self.new ≡ parts_of self.old }
     {
-        bring_all_up(self.seats.as_mut_slice())
+        bring_all_up(&mut self.sites)
     }
 
     /// Has the client at a place take a step, as `drain` does in rounds; one that isn't there has nothing to do.
@@ -75,37 +77,34 @@ impl<P: Parts> Cluster<P> {
 }
 
 /// Takes back stops that haven't fallen, and restarts each repository that is down.
-fn bring_all_up<P: Parts>(seats: &mut [Seat<P>]) -> Result<(), NoMemory> {
-    disarm_all(seats);
-    bring_each_up(seats)
+fn bring_all_up<P: Parts, O: Opening>(sites: &mut Vec<Site<P, O>>) -> Result<(), NoMemory>
+    requires { AreInPlace sites.old.items }
+    ensures placed { AreInPlace sites.new.items }
+    ensures count { vec_len sites.new ≡ vec_len sites.old }
+{
+    disarm_all(sites);
+    bring_each_up(sites)
 }
 
 /// Takes back stops that haven't fallen.
-fn disarm_all<P: Parts>(seats: &mut [Seat<P>]) {
-    for seat in seats {
-        disarm(seat);
+fn disarm_all<P: Parts, O: Opening>(sites: &mut Vec<Site<P, O>>)
+    requires { AreInPlace sites.old.items }
+    ensures placed { AreInPlace sites.new.items }
+    ensures count { vec_len sites.new ≡ vec_len sites.old }
+{
+    for place in 0..sites.len() {
+        events::disarm(sites, place);
     }
 }
 
 /// Restarts each repository that is down.
-fn bring_each_up<P: Parts>(seats: &mut [Seat<P>]) -> Result<(), NoMemory> {
-    for seat in seats {
-        bring_up(seat)?;
+fn bring_each_up<P: Parts, O: Opening>(sites: &mut Vec<Site<P, O>>) -> Result<(), NoMemory>
+    requires { AreInPlace sites.old.items }
+    ensures placed { AreInPlace sites.new.items }
+    ensures count { vec_len sites.new ≡ vec_len sites.old }
+{
+    for place in 0..sites.len() {
+        unless_memory(events::bring_up(sites, place))?;
     }
     Ok(())
-}
-
-/// Takes back a stop that hasn't fallen.
-fn disarm<P: Parts>(seat: &mut Seat<P>) {
-    if let Seat::Open(repo) = seat {
-        repo.disarm();
-    }
-}
-
-/// Restarts a repository that is down.
-fn bring_up<P: Parts>(seat: &mut Seat<P>) -> Result<(), NoMemory> {
-    match seat {
-        Seat::Open(repo) if !repo.is_up() => unless_memory(repo.restart(0)),
-        _ => Ok(()),
-    }
 }

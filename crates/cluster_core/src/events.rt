@@ -1,14 +1,17 @@
 //! The events of a schedule.
 
-ghost use Rattle.cluster_core.specs.Counts.{parts_of};
-ghost use Rattle.std.specs.Prelude.{◌≡◌};
+ghost use Rattle.cluster_core.specs.Counts.{clients_of, parts_of, sites_in};
+ghost use Rattle.cluster_core.specs.Happening.{Performs, Steps, StepsAt};
+ghost use Rattle.cluster_port.specs.Lent.{AreInPlace};
+ghost use Rattle.std.specs.Prelude.{OnOk, suc, vec_len, ℕ, ◌≡◌};
 
 use crate::cluster::Cluster;
-use crate::lent::Turn;
-use crate::seat::Seat;
 use crate::settling::{least, settle};
+use crate::turning::Turn;
+use cluster_port::events;
 use disk_trait::Parts;
 use repo_refusals::Refusal;
+use repo_site::{Opening, Site};
 use schedule::{Event, EventKind};
 use thor_value::NoMemory;
 
@@ -20,91 +23,84 @@ pub(crate) fn unless_memory<T: Drop>(answer: Result<T, Refusal>) -> Result<(), N
     }
 }
 
-impl<P: Parts> Cluster<P> {
+impl<P: Parts, O: Opening> Cluster<P, O> {
     /// Performs one event. One that names a client or a repository which isn't there does nothing.
     ///
     /// After `NoMemory` each repository stands as after its events, the last of which may have had none.
     pub fn event(&mut self, event: Event) -> Result<(), NoMemory>
-        ensures { parts_of self.new ≡ parts_of self.old }
+        ensures parts { parts_of self.new ≡ parts_of self.old }
+        ensures performs { Performs event.kind (sites_in self.old) (sites_in self.new) }
+        ensures steps { Steps event.kind result (clients_of self.old) (clients_of self.new) }
     {
         match event.kind {
-            EventKind::Step { client } => self.client_turn(client, Turn::Step),
+            EventKind::Step { client } => self.client_step(client),
             EventKind::Deliver { client, repo } => self.deliver(client, repo),
-            kind => happen(self.seats.as_mut_slice(), kind),
+            EventKind::Flush { repo } => {
+                unless_memory(events::flush(&mut self.sites, repo as usize))
+            }
+            EventKind::Checkpoint { repo } => {
+                unless_memory(events::checkpoint(&mut self.sites, repo as usize))
+            }
+            EventKind::Stop { repo, calls } => {
+                events::stop(&mut self.sites, repo as usize, calls);
+                Ok(())
+            }
+            EventKind::Restart { repo, pick } => {
+                let pick = u64::from(pick);
+                unless_memory(events::restart(&mut self.sites, repo as usize, pick))
+            }
+            EventKind::Settle { repo } => settle_next(&mut self.sites, repo),
+            EventKind::Unknown => Ok(()),
         }
     }
 
-    /// A turn of a client, which are counted from 1.
-    fn client_turn(&mut self, client: u32, turn: Turn) -> Result<(), NoMemory>
-        ensures { parts_of self.new ≡ parts_of self.old }
+    /// A step of a client, which are counted from 1.
+    fn client_step(&mut self, client: u32) -> Result<(), NoMemory>
+        ensures parts { parts_of self.new ≡ parts_of self.old }
+        ensures steps { OnOk result ((n : ℕ) → client ≡ suc n → StepsAt n (clients_of self.old) (clients_of self.new)) }
     {
-        if let Some(place) = (client as usize).checked_sub(1) {
-            self.turn(place, turn)?;
+        match (client as usize).checked_sub(1) {
+            Some(place) => self.step_at(place),
+            None => Ok(()),
         }
-        Ok(())
     }
 
+    /// A step of the client at a place.
+    fn step_at(&mut self, place: usize) -> Result<(), NoMemory>
+        ensures parts { parts_of self.new ≡ parts_of self.old }
+        ensures steps { OnOk result (StepsAt place (clients_of self.old) (clients_of self.new)) }
+    {
+        match self.turn(place, Turn::Step) {
+            Ok(_) => Ok(()),
+            Err(NoMemory) => Err(NoMemory),
+        }
+    }
+
+    /// A client, which are counted from 1, takes a message of a repository.
     fn deliver(&mut self, client: u32, repo: u32) -> Result<(), NoMemory>
         ensures { parts_of self.new ≡ parts_of self.old }
     {
-        match u8::try_from(repo) {
-            Ok(repo) => self.client_turn(client, Turn::Deliver { repo }),
-            Err(_) => Ok(()),
+        let Ok(repo) = u8::try_from(repo) else {
+            return Ok(());
+        };
+        if let Some(place) = (client as usize).checked_sub(1) {
+            self.turn(place, Turn::Deliver { repo })?;
         }
-    }
-}
-
-/// Performs an event of a repository; any other does nothing.
-fn happen<P: Parts>(seats: &mut [Seat<P>], kind: EventKind) -> Result<(), NoMemory> {
-    match kind {
-        EventKind::Flush { repo } => flush(seats, repo),
-        EventKind::Checkpoint { repo } => checkpoint(seats, repo),
-        EventKind::Stop { repo, calls } => {
-            stop(seats, repo, calls);
-            Ok(())
-        }
-        EventKind::Restart { repo, pick } => restart(seats, repo, pick),
-        EventKind::Settle { repo } => settle_next(seats, repo),
-        EventKind::Step { .. } | EventKind::Deliver { .. } | EventKind::Unknown => Ok(()),
-    }
-}
-
-fn flush<P: Parts>(seats: &mut [Seat<P>], repo: u32) -> Result<(), NoMemory> {
-    match seats.get_mut(repo as usize) {
-        Some(Seat::Open(found)) => unless_memory(found.flush()),
-        Some(_) | None => Ok(()),
-    }
-}
-
-fn checkpoint<P: Parts>(seats: &mut [Seat<P>], repo: u32) -> Result<(), NoMemory> {
-    match seats.get_mut(repo as usize) {
-        Some(Seat::Open(found)) => unless_memory(found.checkpoint()),
-        Some(_) | None => Ok(()),
-    }
-}
-
-fn stop<P: Parts>(seats: &mut [Seat<P>], repo: u32, calls: u32) {
-    if let Some(Seat::Open(found)) = seats.get_mut(repo as usize) {
-        if found.is_up() {
-            found.stop_after(calls);
-        }
-    }
-}
-
-fn restart<P: Parts>(seats: &mut [Seat<P>], repo: u32, pick: u32) -> Result<(), NoMemory> {
-    match seats.get_mut(repo as usize) {
-        Some(seat) => seat.restart(u64::from(pick)),
-        None => Ok(()),
+        Ok(())
     }
 }
 
 /// Settles the prepared transaction of another coordinator with the least timestamp.
-fn settle_next<P: Parts>(seats: &mut [Seat<P>], repo: u32) -> Result<(), NoMemory> {
+fn settle_next<P: Parts, O: Opening>(sites: &mut Vec<Site<P, O>>, repo: u32) -> Result<(), NoMemory>
+    requires { AreInPlace sites.old.items }
+    ensures placed { AreInPlace sites.new.items }
+    ensures count { vec_len sites.new ≡ vec_len sites.old }
+{
     let Ok(repo) = u8::try_from(repo) else {
         return Ok(());
     };
-    match least(seats, repo) {
-        Some(tx) => unless_memory(settle(seats, repo, tx)),
+    match least(sites.as_slice(), repo) {
+        Some(tx) => unless_memory(settle(sites, repo, tx)),
         None => Ok(()),
     }
 }

@@ -1,7 +1,9 @@
 //! A run ends.
 
 ghost use Rattle.cluster_core.specs.Counts.{parts_of};
-ghost use Rattle.std.specs.Prelude.{vec_capacity, vec_len, ◌≡◌, ◌≤◌};
+ghost use Rattle.cluster_core.specs.Seated.{AreRight};
+ghost use Rattle.cluster_port.specs.Lent.{AreInPlace};
+ghost use Rattle.std.specs.Prelude.{IfOk, IsOkAnd, [], vec_capacity, vec_len, ◌++◌, ◌∷◌, ◌≡◌, ◌≤◌};
 
 use crate::cluster::Cluster;
 use crate::history::history_of;
@@ -9,6 +11,7 @@ use crate::seat::Seat;
 use disk_trait::Parts;
 use front_end::FrontEnd;
 use repo_core::{Entries, Marks, Trace, Traces};
+use repo_site::{Opening, Site};
 use serial_model::Ends;
 use std::alloc::Global;
 use thor_value::{NoMemory, both};
@@ -32,36 +35,75 @@ pub struct Finished<P> {
     pub ran: Result<Ran, NoMemory>,
 }
 
-impl<P: Parts> Cluster<P> {
+impl<P: Parts, O: Opening> Cluster<P, O> {
     /// Ends the run.
+    #[tactic(auto, using(crate::proofs::Ending::ran_right))]
     pub fn finish(self) -> Finished<P>
-        ensures { vec_len result.parts ≡ parts_of self }
+        ensures parts { vec_len result.parts ≡ parts_of self }
+        // What was recorded at each repository is right by the base with which it began.
+        ensures right { IfOk result.ran (λ ran. AreRight O.run 0 ran.traces) }
     {
         let Cluster {
             alloc,
-            seats,
+            sites,
             clients,
             opened,
             spare,
             ..
         } = self;
         drop(opened);
-        let (parts, traces) = close_all(alloc, seats, spare);
-        let ran = match traces {
-            Ok(traces) => gather(alloc, clients, traces),
-            Err(NoMemory) => {
-                drop(clients);
-                Err(NoMemory)
-            }
-        };
-        Finished { parts, ran }
+        let (parts, traces) = close_all(alloc, sites, spare);
+        Finished {
+            parts,
+            ran: gathered(alloc, clients, traces),
+        }
     }
 }
 
 /// The parts of all repositories, in a vector that is empty and has room for them, and their traces.
-fn close_all<P: Parts>(
+fn close_all<P: Parts, O: Opening>(
     alloc: Global,
-    seats: Vec<Seat<P>>,
+    sites: Vec<Site<P, O>>,
+    spare: Vec<P>,
+) -> (Vec<P>, Result<Traces, NoMemory>)
+    requires empty { vec_len spare ≡ 0 }
+    requires room { vec_len sites ≤ vec_capacity spare }
+    requires placed { AreInPlace sites.items }
+    ensures count { vec_len result.0 ≡ vec_len sites }
+    ensures right { IfOk result.1 (AreRight O.run 0) }
+{
+    let mut parts = spare;
+    let mut traces = Ok(Traces::new(alloc));
+    for site in sites {
+        let (part, trace) = site.close();
+        parts.push_reserved(part);
+        traces = with_trace(traces, trace);
+    }
+    (parts, traces)
+}
+
+/// What a run was whose repositories were apart from their store, with the parts, in a vector that is empty and has room for them.
+pub(crate) fn close_seats<P: Parts, O: Opening>(
+    alloc: Global,
+    seats: Vec<Seat<P, O>>,
+    clients: Vec<FrontEnd>,
+    spare: Vec<P>,
+) -> Finished<P>
+    requires empty { vec_len spare ≡ 0 }
+    requires room { vec_len seats ≤ vec_capacity spare }
+    ensures { vec_len result.parts ≡ vec_len seats }
+{
+    let (parts, traces) = close_each(alloc, seats, spare);
+    Finished {
+        parts,
+        ran: gathered(alloc, clients, traces),
+    }
+}
+
+/// The parts of all repositories, in a vector that is empty and has room for them, and their traces.
+fn close_each<P: Parts, O: Opening>(
+    alloc: Global,
+    seats: Vec<Seat<P, O>>,
     spare: Vec<P>,
 ) -> (Vec<P>, Result<Traces, NoMemory>)
     requires empty { vec_len spare ≡ 0 }
@@ -79,9 +121,9 @@ fn close_all<P: Parts>(
 }
 
 /// The parts of a repository, and its trace; that of one that isn't open is empty.
-fn close<P: Parts>(alloc: Global, seat: Seat<P>) -> (P, Trace) {
+fn close<P: Parts, O: Opening>(alloc: Global, seat: Seat<P, O>) -> (P, Trace) {
     match seat {
-        Seat::Open(repo) => repo.close(),
+        Seat::Open(site) => site.close(),
         other => (other.into_parts(), no_trace(alloc)),
     }
 }
@@ -94,11 +136,30 @@ fn no_trace(alloc: Global) -> Trace {
     }
 }
 
-fn with_trace(traces: Result<Traces, NoMemory>, trace: Trace) -> Result<Traces, NoMemory> {
-    let (trace, mut traces) = both(trace, traces)?;
-    let pushed = traces.push(trace);
-    let (traces, _) = both(traces, pushed)?;
-    Ok(traces)
+/// The traces with one more.
+fn with_trace(traces: Result<Traces, NoMemory>, trace: Trace) -> Result<Traces, NoMemory>
+    ensures { IfOk result (λ more. IsOkAnd traces (λ before. more ≡ before ++ trace ∷ [])) }
+{
+    match traces {
+        Ok(traces) => push_trace(traces, trace),
+        Err(NoMemory) => {
+            drop(trace);
+            Err(NoMemory)
+        }
+    }
+}
+
+fn push_trace(traces: Traces, trace: Trace) -> Result<Traces, NoMemory>
+    ensures { IfOk result (λ more. more ≡ traces ++ trace ∷ []) }
+{
+    let mut traces = traces;
+    match traces.push(trace) {
+        Ok(()) => Ok(traces),
+        Err(NoMemory) => {
+            drop(traces);
+            Err(NoMemory)
+        }
+    }
 }
 
 /// How the items of all clients ended.
@@ -118,8 +179,27 @@ fn with_closed(closed: Result<Ends, NoMemory>, client: FrontEnd) -> Result<Ends,
     Ok(ends)
 }
 
+/// What a run was, from its clients and traces, where there are any.
+fn gathered(
+    alloc: Global,
+    clients: Vec<FrontEnd>,
+    traces: Result<Traces, NoMemory>,
+) -> Result<Ran, NoMemory>
+    ensures { IfOk result (λ ran. IsOkAnd traces (λ told. ran.traces ≡ told)) }
+{
+    match traces {
+        Ok(traces) => gather(alloc, clients, traces),
+        Err(NoMemory) => {
+            drop(clients);
+            Err(NoMemory)
+        }
+    }
+}
+
 /// What a run was, from its clients and traces.
-fn gather(alloc: Global, clients: Vec<FrontEnd>, traces: Traces) -> Result<Ran, NoMemory> {
+fn gather(alloc: Global, clients: Vec<FrontEnd>, traces: Traces) -> Result<Ran, NoMemory>
+    ensures { IfOk result (λ ran. ran.traces ≡ traces) }
+{
     let (traces, ends) = both(traces, close_clients(alloc, clients))?;
     let lines = history_of(alloc, traces.as_slice());
     let ((traces, ends), lines) = both((traces, ends), lines)?;

@@ -1,59 +1,83 @@
 //! A store is opened: formatted, or begun with a Life, and then settled.
 
 ghost use Rattle.cluster_core.specs.Counts.{parts_of, schemas_of};
-ghost use Rattle.std.specs.Prelude.{IfErr, IfOk, vec_capacity, vec_len, ◌≡◌, ◌≤◌};
+ghost use Rattle.cluster_core.specs.Seated.{AreBegun, AreRecovered, AreSeated, Begins, BeginsOver, IsBegun, IsBegunBy, IsFound, IsFoundIn, IsNew, IsRecoveredAt, IsSeatedAt};
+ghost use Rattle.repo_opening.specs.Recovered.{IsRecovered};
+ghost use Rattle.repo_site.specs.Sited.{BeginsNew};
+ghost use Rattle.std.specs.Prelude.{IfErr, IfOk, IsOk, IsTrue, OnOk, vec_capacity, vec_len, ℕ, ◌≡◌, ◌≤◌};
 ghost use Rattle.store_opening.specs.Counts.{parts_in};
 
 use crate::cluster::Cluster;
 use crate::plan::{Plan, Start};
-use crate::seat::{Seat, give_back, seat_all};
+use crate::seat::{Seat, give_back, sites_of};
 use crate::settling::settle_all;
 use class_defs::{Schemas, Setup};
 use disk_trait::Parts;
 use front_end::{FrontEnd, Items, Opened};
-use repo_core::Repo;
-use repo_opening::{Unopened, number_at};
+use repo_opening::{Known, Unopened, number_at};
+use repo_site::{Opening, Site};
 use std::alloc::Global;
 use store_opening::{Closed, ClusterFault, Found};
 use thor_value::{NoMemory, both};
 
-impl<P: Parts> Cluster<P> {
+impl<P: Parts, O: Opening> Cluster<P, O> {
     /// Opens what was found, with the clients of a plan.
     ///
     /// A fresh store is formatted, repositories 1 and up first; otherwise each repository begins a life, and then
     /// each transaction that was left prepared is settled by its coordinator. Before all repositories were read
     /// and checked nothing is written. Want of memory, too, where the plan's start isn't that of the store, or a
     /// number of the plan isn't in its range.
-    pub fn open(alloc: Global, found: Found<P>, plan: Plan) -> Result<Cluster<P>, ClusterFault<P>>
+    pub fn open(
+        alloc: Global,
+        found: Found<P>,
+        plan: Plan,
+    ) -> Result<Cluster<P, O>, ClusterFault<P>>
+        // The run is what was found.
+        requires { BeginsOver O.run found plan.start }
         ensures ok { IfOk result (λ cluster. parts_of cluster ≡ parts_in found) }
         ensures schemas { IfOk result (λ cluster. schemas_of cluster ≡ plan.schemas) }
         ensures err { IfErr result (λ fault. vec_len fault.parts ≡ parts_in found) }
+        ensures found { IfOk result (λ _. IsFoundIn P.disks found plan.start) }
     {
-        match Vec::with_capacity(alloc, found.repos()) {
-            Ok(room) => open_found(alloc, found, plan, room),
-            Err(_) => {
-                drop(plan);
-                Err(ClusterFault {
-                    parts: found.into_parts(),
-                    why: Unopened::NoMemory,
-                })
-            }
-        }
+        let Ok(seats) = Vec::with_capacity(alloc, found.repos()) else {
+            return Err(without_room(found, plan));
+        };
+        let Ok(sites) = Vec::with_capacity(alloc, found.repos()) else {
+            drop(seats);
+            return Err(without_room(found, plan));
+        };
+        open_found(alloc, found, plan, seats, sites)
     }
 }
 
-/// Opens what was found, with seats for its repositories.
-fn open_found<P: Parts>(
+/// What was found isn't opened, since there is no memory for it.
+fn without_room<P: Parts>(found: Found<P>, plan: Plan) -> ClusterFault<P>
+    ensures { vec_len result.parts ≡ parts_in found }
+{
+    drop(plan);
+    ClusterFault {
+        parts: found.into_parts(),
+        why: Unopened::NoMemory,
+    }
+}
+
+/// Opens what was found, with room for its repositories.
+fn open_found<P: Parts, O: Opening>(
     alloc: Global,
     found: Found<P>,
     plan: Plan,
-    room: Vec<Seat<P>>,
-) -> Result<Cluster<P>, ClusterFault<P>>
-    requires empty { vec_len room ≡ 0 }
-    requires room { parts_in found ≤ vec_capacity room }
+    seats: Vec<Seat<P, O>>,
+    sites: Vec<Site<P, O>>,
+) -> Result<Cluster<P, O>, ClusterFault<P>>
+    requires begins { BeginsOver O.run found plan.start }
+    requires empty { vec_len seats ≡ 0 }
+    requires room { parts_in found ≤ vec_capacity seats }
+    requires none { vec_len sites ≡ 0 }
+    requires space { parts_in found ≤ vec_capacity sites }
     ensures ok { IfOk result (λ cluster. parts_of cluster ≡ parts_in found) }
     ensures schemas { IfOk result (λ cluster. schemas_of cluster ≡ plan.schemas) }
     ensures err { IfErr result (λ fault. vec_len fault.parts ≡ parts_in found) }
+    ensures found { IfOk result (λ _. IsFoundIn P.disks found plan.start) }
 {
     let (places, spare, mob, stored) = found.into_repositories();
     let Plan {
@@ -63,16 +87,9 @@ fn open_found<P: Parts>(
         schemas,
         clients,
     } = plan;
-    let seats = seat_all(places, room);
-    let (seats, opened) = open_seats(alloc, seats, stored, start, mob);
+    let (seats, opened) = open_seats(alloc, places, seats, stored, start, mob);
     match told_to(alloc, seats.len(), opened, schemas, clients, tries, cache) {
-        Ok((opened, clients)) => settled(Cluster {
-            alloc,
-            seats,
-            clients,
-            opened,
-            spare,
-        }),
+        Ok((opened, clients)) => seated(alloc, seats, sites, clients, opened, spare),
         Err(why) => Err(ClusterFault {
             parts: give_back(seats, spare),
             why,
@@ -80,14 +97,51 @@ fn open_found<P: Parts>(
     }
 }
 
+/// A store whose repositories were opened, with its clients, and with room for repositories and for their parts.
+fn seated<P: Parts, O: Opening>(
+    alloc: Global,
+    seats: Vec<Seat<P, O>>,
+    room: Vec<Site<P, O>>,
+    clients: Vec<FrontEnd>,
+    opened: Opened,
+    spare: Vec<P>,
+) -> Result<Cluster<P, O>, ClusterFault<P>>
+    requires seated { AreSeated 0 seats.items }
+    requires none { vec_len room ≡ 0 }
+    requires space { vec_len seats ≤ vec_capacity room }
+    requires empty { vec_len spare ≡ 0 }
+    requires parts { vec_len seats ≤ vec_capacity spare }
+    ensures ok { IfOk result (λ cluster. parts_of cluster ≡ vec_len seats) }
+    ensures schemas { IfOk result (λ cluster. schemas_of cluster ≡ opened.schemas) }
+    ensures err { IfErr result (λ fault. vec_len fault.parts ≡ vec_len seats) }
+{
+    match sites_of(seats, room) {
+        Ok(sites) => settled(Cluster {
+            alloc,
+            sites,
+            clients,
+            opened,
+            spare,
+        }),
+        Err(seats) => {
+            drop(clients);
+            drop(opened);
+            Err(ClusterFault {
+                parts: give_back(seats, spare),
+                why: Unopened::NoMemory,
+            })
+        }
+    }
+}
+
 /// A store whose prepared transactions are settled.
-fn settled<P: Parts>(cluster: Cluster<P>) -> Result<Cluster<P>, ClusterFault<P>>
+fn settled<P: Parts, O: Opening>(cluster: Cluster<P, O>) -> Result<Cluster<P, O>, ClusterFault<P>>
     ensures ok { IfOk result (λ settled. parts_of settled ≡ parts_of cluster) }
     ensures schemas { IfOk result (λ settled. schemas_of settled ≡ schemas_of cluster) }
     ensures err { IfErr result (λ fault. vec_len fault.parts ≡ parts_of cluster) }
 {
     let mut cluster = cluster;
-    match settle_all(cluster.seats.as_mut_slice()) {
+    match settle_all(&mut cluster.sites) {
         Ok(()) => Ok(cluster),
         Err(why) => Err(cluster.give_back(why)),
     }
@@ -103,7 +157,8 @@ fn told_to(
     tries: u32,
     cache: u32,
 ) -> Result<(Opened, Vec<FrontEnd>), Unopened>
-    ensures { IfOk result (λ told. told.0.schemas ≡ schemas) }
+    ensures schemas { IfOk result (λ told. told.0.schemas ≡ schemas) }
+    ensures opened { OnOk result (IsOk opened) }
 {
     let (held, epochs) = both((clients, schemas), opened)?;
     let ((clients, schemas), (repos, epoch)) = both(held, numbers_of(repos, epochs))?;
@@ -119,83 +174,225 @@ fn numbers_of(repos: usize, epochs: usize) -> Result<(u8, u32), NoMemory> {
     }
 }
 
-/// Opens every repository: as it is stored, where the store was found with so many upgrades, else by formatting it. The
-/// answer is how many upgrades the store has installed.
-fn open_seats<P: Parts>(
+/// Opens every repository, into seats for which there is room: as it is stored, where the store was found with so many upgrades,
+/// else by formatting it. The answer is how many upgrades the store has installed.
+fn open_seats<P: Parts, O: Opening>(
     alloc: Global,
-    seats: Vec<Seat<P>>,
+    places: Vec<Closed<P>>,
+    room: Vec<Seat<P, O>>,
     stored: Option<usize>,
     start: Start,
     mob: u32,
-) -> (Vec<Seat<P>>, Result<usize, Unopened>)
-    ensures { vec_len result.0 ≡ vec_len seats }
+) -> (Vec<Seat<P, O>>, Result<usize, Unopened>)
+    requires begins { Begins O.run places.items mob start }
+    requires empty { vec_len room ≡ 0 }
+    requires room { vec_len places ≤ vec_capacity room }
+    ensures count { vec_len result.0 ≡ vec_len places }
+    ensures seated { AreSeated 0 result.0.items }
+    ensures found { OnOk result.1 (IsFound P.disks places.items start) }
 {
-    match (stored, start) {
-        (Some(epochs), Start::Stored) => {
-            let (seats, opened) = open_all(alloc, seats);
+    match start {
+        Start::Stored => open_stored(alloc, places, room, stored),
+        Start::Setup(setup) => {
+            let (seats, formatted) = format_found(alloc, places, room, stored, &setup, mob);
+            drop(setup);
+            (seats, formatted)
+        }
+    }
+}
+
+/// Opens every repository as it is stored.
+fn open_stored<P: Parts, O: Opening>(
+    alloc: Global,
+    places: Vec<Closed<P>>,
+    room: Vec<Seat<P, O>>,
+    stored: Option<usize>,
+) -> (Vec<Seat<P, O>>, Result<usize, Unopened>)
+    requires begun { AreBegun O.run (vec_len places) 0 places.items }
+    requires empty { vec_len room ≡ 0 }
+    requires room { vec_len places ≤ vec_capacity room }
+    ensures count { vec_len result.0 ≡ vec_len places }
+    ensures seated { AreSeated 0 result.0.items }
+    ensures recovered { OnOk result.1 (AreRecovered P.disks places.items) }
+{
+    match stored {
+        Some(epochs) => {
+            let (seats, opened) = open_all(alloc, places, room);
             (seats, with(opened, epochs))
         }
-        (None, Start::Setup(setup)) => {
-            let (seats, formatted) = format_all(alloc, seats, &setup, mob);
-            drop(setup);
-            (seats, with(formatted, 0))
-        }
-        (_, start) => {
-            drop(start);
-            (seats, Err(Unopened::NoMemory))
-        }
+        None => (seat_closed(places, room), Err(Unopened::NoMemory)),
     }
 }
 
 /// How many upgrades a store has installed whose repositories were opened.
-fn with(opened: Result<(), Unopened>, epochs: usize) -> Result<usize, Unopened> {
-    opened?;
-    Ok(epochs)
+fn with(opened: Result<(), Unopened>, epochs: usize) -> Result<usize, Unopened>
+    ensures { OnOk result (IsOk opened) }
+{
+    match opened {
+        Ok(()) => Ok(epochs),
+        Err(why) => Err(why),
+    }
+}
+
+/// What was found, in seats for which there is room.
+fn seat_closed<P: Parts, O: Opening>(
+    places: Vec<Closed<P>>,
+    room: Vec<Seat<P, O>>,
+) -> Vec<Seat<P, O>>
+    requires empty { vec_len room ≡ 0 }
+    requires room { vec_len places ≤ vec_capacity room }
+    ensures count { vec_len result ≡ vec_len places }
+    ensures seated { AreSeated 0 result.items }
+{
+    let mut seats = room;
+    for closed in places {
+        seats.push_reserved(Seat::Closed(closed));
+    }
+    seats
 }
 
 /// Opens every repository of a store, rising. Behind one that can't be opened the others aren't.
-fn open_all<P: Parts>(alloc: Global, seats: Vec<Seat<P>>) -> (Vec<Seat<P>>, Result<(), Unopened>)
-    ensures { vec_len result.0 ≡ vec_len seats }
+fn open_all<P: Parts, O: Opening>(
+    alloc: Global,
+    places: Vec<Closed<P>>,
+    room: Vec<Seat<P, O>>,
+) -> (Vec<Seat<P, O>>, Result<(), Unopened>)
+    requires begun { AreBegun O.run (vec_len places) 0 places.items }
+    requires empty { vec_len room ≡ 0 }
+    requires room { vec_len places ≤ vec_capacity room }
+    ensures count { vec_len result.0 ≡ vec_len places }
+    ensures seated { AreSeated 0 result.0.items }
+    ensures recovered { OnOk result.1 (AreRecovered P.disks places.items) }
 {
-    let Ok(mut done) = Vec::with_capacity(alloc, seats.len()) else {
-        return (seats, Err(Unopened::NoMemory));
-    };
+    let repos = places.len();
+    let mut done = room;
     let mut opened = Ok(());
-    for seat in seats {
-        let next = match opened {
-            Ok(()) => open_next(alloc, seat, done.len()),
-            Err(why) => (seat, Err(why)),
-        };
-        done.push_reserved(next.0);
-        opened = next.1;
+    for closed in places {
+        let place = done.len();
+        let (seat, next) = open_behind(alloc, opened, closed, place, repos);
+        done.push_reserved(seat);
+        opened = next;
     }
     (done, opened)
 }
 
-/// Opens the repository at a place.
-#[tactic(auto, using(crate::proofs::Recovered::recovered_says))]
-fn open_next<P: Parts>(
+/// Opens the repository at a place, of so many, where those before it were opened.
+fn open_behind<P: Parts, O: Opening>(
     alloc: Global,
-    seat: Seat<P>,
+    before: Result<(), Unopened>,
+    closed: Closed<P>,
     place: usize,
-) -> (Seat<P>, Result<(), Unopened>) {
-    match (seat, number_at(place)) {
-        (Seat::Closed(Closed::Known(known)), Ok(repo)) => {
-            let (parts, recovered) = known.into_recovered();
-            Seat::of(repo, Repo::open(alloc, parts, recovered))
-        }
-        (seat, _) => (seat, Err(Unopened::NoMemory)),
+    repos: usize,
+) -> (Seat<P, O>, Result<(), Unopened>)
+    requires { IsBegun O.run repos place closed }
+    ensures seated { IsSeatedAt place result.0 }
+    ensures before { OnOk result.1 (IsOk before) }
+    ensures recovered { OnOk result.1 (IsRecoveredAt P.disks closed) }
+{
+    match before {
+        Ok(()) => open_next(alloc, closed, place, repos),
+        Err(why) => (Seat::Closed(closed), Err(why)),
+    }
+}
+
+/// Opens the repository at a place, of so many.
+fn open_next<P: Parts, O: Opening>(
+    alloc: Global,
+    closed: Closed<P>,
+    place: usize,
+    repos: usize,
+) -> (Seat<P, O>, Result<(), Unopened>)
+    requires { IsBegun O.run repos place closed }
+    ensures seated { IsSeatedAt place result.0 }
+    ensures recovered { OnOk result.1 (IsRecoveredAt P.disks closed) }
+{
+    match (number_at(place), number_at(repos)) {
+        (Ok(number), Ok(count)) => open_numbered(alloc, closed, number, count),
+        _ => (Seat::Closed(closed), Err(Unopened::NoMemory)),
+    }
+}
+
+/// Opens the repository of a number, of so many.
+fn open_numbered<P: Parts, O: Opening>(
+    alloc: Global,
+    closed: Closed<P>,
+    number: u8,
+    repos: u8,
+) -> (Seat<P, O>, Result<(), Unopened>)
+    requires { IsBegun O.run repos number closed }
+    ensures seated { IsSeatedAt number result.0 }
+    ensures recovered { OnOk result.1 (IsRecoveredAt P.disks closed) }
+{
+    match closed {
+        Closed::Known(known) => open_known(alloc, known, number, repos),
+        closed => (Seat::Closed(closed), Err(Unopened::NoMemory)),
+    }
+}
+
+/// Opens the repository of a number, of so many, that was recovered.
+#[tactic(auto, using(crate::proofs::Recovered::recovered_says))]
+fn open_known<P: Parts, O: Opening>(
+    alloc: Global,
+    known: Known<P>,
+    number: u8,
+    repos: u8,
+) -> (Seat<P, O>, Result<(), Unopened>)
+    requires { IsBegunBy O.run repos number known.recovered.state }
+    ensures seated { IsSeatedAt number result.0 }
+    ensures recovered { IsRecovered (P.disks known.parts) known.recovered }
+{
+    let (parts, recovered) = known.into_recovered();
+    Seat::of(number, Site::open(alloc, parts, recovered, number, repos))
+}
+
+/// Formats every repository of a store that was found fresh.
+#[tactic(auto, using(crate::proofs::Seating::on_always))]
+fn format_found<P: Parts, O: Opening>(
+    alloc: Global,
+    places: Vec<Closed<P>>,
+    room: Vec<Seat<P, O>>,
+    stored: Option<usize>,
+    setup: &Setup,
+    mob: u32,
+) -> (Vec<Seat<P, O>>, Result<usize, Unopened>)
+    requires begins { (n : ℕ) → BeginsNew O.run n (vec_len places) setup.now mob }
+    requires empty { vec_len room ≡ 0 }
+    requires room { vec_len places ≤ vec_capacity room }
+    ensures count { vec_len result.0 ≡ vec_len places }
+    ensures seated { AreSeated 0 result.0.items }
+    ensures new { OnOk result.1 (IsNew places.items) }
+{
+    if !is_new(stored, places.as_slice()) {
+        return (seat_closed(places, room), Err(Unopened::NoMemory));
+    }
+    let (seats, formatted) = format_all(alloc, seat_closed(places, room), setup, mob);
+    (seats, with(formatted, 0))
+}
+
+/// Whether a store is new that was found with so many upgrades or none: the repository 0 isn't stored.
+fn is_new<P: Parts>(stored: Option<usize>, places: &[Closed<P>]) -> bool
+    ensures { IsTrue result → IsNew places.now }
+{
+    if stored.is_some() {
+        return false;
+    }
+    match places.split_first() {
+        Some((Closed::Known(_), _)) => false,
+        Some(_) | None => true,
     }
 }
 
 /// Formats every repository of a store, rising, 0 last.
-fn format_all<P: Parts>(
+fn format_all<P: Parts, O: Opening>(
     alloc: Global,
-    seats: Vec<Seat<P>>,
+    seats: Vec<Seat<P, O>>,
     setup: &Setup,
     mob: u32,
-) -> (Vec<Seat<P>>, Result<(), Unopened>)
-    ensures { vec_len result.0 ≡ vec_len seats }
+) -> (Vec<Seat<P, O>>, Result<(), Unopened>)
+    requires begins { (n : ℕ) → BeginsNew O.run n (vec_len seats) setup.now mob }
+    requires seated { AreSeated 0 seats.items }
+    ensures count { vec_len result.0 ≡ vec_len seats }
+    ensures seated { AreSeated 0 result.0.items }
 {
     let count = seats.len();
     match format_from(alloc, seats, 1, count, setup, mob) {
@@ -205,15 +402,18 @@ fn format_all<P: Parts>(
 }
 
 /// Formats the repositories from one place up to another. Behind one that can't be formatted the others aren't.
-fn format_from<P: Parts>(
+fn format_from<P: Parts, O: Opening>(
     alloc: Global,
-    seats: Vec<Seat<P>>,
+    seats: Vec<Seat<P, O>>,
     from: usize,
     to: usize,
     setup: &Setup,
     mob: u32,
-) -> (Vec<Seat<P>>, Result<(), Unopened>)
-    ensures { vec_len result.0 ≡ vec_len seats }
+) -> (Vec<Seat<P, O>>, Result<(), Unopened>)
+    requires begins { (n : ℕ) → BeginsNew O.run n (vec_len seats) setup.now mob }
+    requires seated { AreSeated 0 seats.items }
+    ensures count { vec_len result.0 ≡ vec_len seats }
+    ensures seated { AreSeated 0 result.0.items }
 {
     let repos = seats.len();
     let Ok(mut done) = Vec::with_capacity(alloc, repos) else {
@@ -222,38 +422,90 @@ fn format_from<P: Parts>(
     let mut formatted = Ok(());
     for seat in seats {
         let place = done.len();
-        let next = match formatted {
-            Ok(()) if from <= place && place < to => {
-                format_next(alloc, seat, place, repos, setup, mob)
-            }
-            before => (seat, before),
-        };
-        done.push_reserved(next.0);
-        formatted = next.1;
+        let named = from <= place && place < to;
+        let (seat, next) = format_behind(alloc, formatted, named, seat, place, repos, setup, mob);
+        done.push_reserved(seat);
+        formatted = next;
     }
     (done, formatted)
 }
 
-/// Formats the repository at a place.
-fn format_next<P: Parts>(
+/// Formats the repository at a place where it is to be formatted, and those before it were.
+fn format_behind<P: Parts, O: Opening>(
     alloc: Global,
-    seat: Seat<P>,
+    before: Result<(), Unopened>,
+    named: bool,
+    seat: Seat<P, O>,
     place: usize,
     repos: usize,
     setup: &Setup,
     mob: u32,
-) -> (Seat<P>, Result<(), Unopened>) {
-    let (Ok(repo), Ok(repos)) = (number_at(place), number_at(repos)) else {
-        return (seat, Err(Unopened::NoMemory));
-    };
-    let Seat::Closed(closed) = seat else {
-        return (seat, Err(Unopened::NoMemory));
-    };
+) -> (Seat<P, O>, Result<(), Unopened>)
+    requires begins { BeginsNew O.run place repos setup.now mob }
+    requires seated { IsSeatedAt place seat }
+    ensures { IsSeatedAt place result.0 }
+{
+    match before {
+        Ok(()) if named => format_next(alloc, seat, place, repos, setup, mob),
+        before => (seat, before),
+    }
+}
+
+/// Formats the repository at a place, of so many.
+fn format_next<P: Parts, O: Opening>(
+    alloc: Global,
+    seat: Seat<P, O>,
+    place: usize,
+    repos: usize,
+    setup: &Setup,
+    mob: u32,
+) -> (Seat<P, O>, Result<(), Unopened>)
+    requires begins { BeginsNew O.run place repos setup.now mob }
+    requires seated { IsSeatedAt place seat }
+    ensures { IsSeatedAt place result.0 }
+{
+    match (number_at(place), number_at(repos)) {
+        (Ok(number), Ok(count)) => format_numbered(alloc, seat, number, count, setup, mob),
+        _ => (seat, Err(Unopened::NoMemory)),
+    }
+}
+
+/// Formats the repository of a number, of so many.
+fn format_numbered<P: Parts, O: Opening>(
+    alloc: Global,
+    seat: Seat<P, O>,
+    number: u8,
+    repos: u8,
+    setup: &Setup,
+    mob: u32,
+) -> (Seat<P, O>, Result<(), Unopened>)
+    requires begins { BeginsNew O.run number repos setup.now mob }
+    requires seated { IsSeatedAt number seat }
+    ensures { IsSeatedAt number result.0 }
+{
+    match seat {
+        Seat::Closed(closed) => format_closed(alloc, closed, number, repos, setup, mob),
+        open => (open, Err(Unopened::NoMemory)),
+    }
+}
+
+/// Formats the disks of the repository of a number, of so many.
+fn format_closed<P: Parts, O: Opening>(
+    alloc: Global,
+    closed: Closed<P>,
+    number: u8,
+    repos: u8,
+    setup: &Setup,
+    mob: u32,
+) -> (Seat<P, O>, Result<(), Unopened>)
+    requires { BeginsNew O.run number repos setup.now mob }
+    ensures { IsSeatedAt number result.0 }
+{
     match closed.into_settled() {
-        Ok(settled) => {
-            let formatted = Repo::format(alloc, settled.into_parts(), repo, repos, setup, mob);
-            Seat::of(repo, formatted)
-        }
+        Ok(settled) => Seat::of(
+            number,
+            Site::format(alloc, settled.into_parts(), number, repos, setup, mob),
+        ),
         Err(closed) => (Seat::Closed(closed), Err(Unopened::NoMemory)),
     }
 }

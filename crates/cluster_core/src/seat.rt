@@ -1,44 +1,61 @@
 //! A repository's place in a store.
 
-ghost use Rattle.std.specs.Prelude.{vec_capacity, vec_len, ◌≡◌, ◌≤◌};
+ghost use Rattle.cluster_core.specs.Seated.{AreOpen, AreSeated, IsOpen, IsSeatedAt};
+ghost use Rattle.cluster_port.specs.Lent.{AreInPlace};
+ghost use Rattle.repo_site.specs.Sited.{Sited};
+ghost use Rattle.std.specs.Prelude.{IfErr, IfOk, IsTrue, vec_capacity, vec_len, ℕ, ◌≡◌, ◌≤◌};
 
 use disk_trait::Parts;
-use repo_core::{OpenCause, OpenFault, Repo};
+use repo_core::{OpenCause, OpenFault};
 use repo_opening::Unopened;
+use repo_site::{Opening, Site};
 use store_opening::Closed;
 
-/// What stands at a repository's place, while a store is opened and while it is open.
+/// What stands at a repository's place, while a store is opened and while its repositories are apart from it.
 #[derive(Drop)]
-pub enum Seat<P: Parts> {
+pub enum Seat<P: Parts, O: Opening> {
     /// What was found of it, or its parts as they came back from an opening that failed.
     Closed(Closed<P>),
     /// The repository, opened.
-    Open(Repo<P>),
+    Open(Site<P, O>),
 }
 
-impl<P: Parts> Seat<P> {
+impl<P: Parts, O: Opening> Seat<P, O> {
     /// The parts.
     pub(crate) fn into_parts(self) -> P {
         match self {
             Seat::Closed(closed) => closed.into_parts(),
-            Seat::Open(repo) => {
-                let (parts, trace) = repo.close();
+            Seat::Open(site) => {
+                let (parts, trace) = site.close();
                 drop(trace);
                 parts
             }
         }
     }
 
-    /// A repository that was opened, or the parts over which it wasn't.
+    /// A repository of this number that was opened, or the parts over which it wasn't.
     pub(crate) fn of(
         repo: u8,
-        opened: Result<Repo<P>, OpenFault<P>>,
-    ) -> (Seat<P>, Result<(), Unopened>) {
+        opened: Result<Site<P, O>, OpenFault<P>>,
+    ) -> (Seat<P, O>, Result<(), Unopened>)
+        requires { IfOk opened (λ site. site.number ≡ repo) }
+        ensures { IsSeatedAt repo result.0 }
+    {
         match opened {
-            Ok(repo) => (Seat::Open(repo), Ok(())),
+            Ok(site) => (Seat::Open(site), Ok(())),
             Err(OpenFault { parts, cause }) => {
                 (Seat::Closed(Closed::Parts(parts)), Err(why(repo, cause)))
             }
+        }
+    }
+
+    /// Whether it is open.
+    fn is_open(&self) -> bool
+        ensures { IsTrue result → IsOpen self.now }
+    {
+        match self {
+            Seat::Open(_) => true,
+            Seat::Closed(_) => false,
         }
     }
 }
@@ -50,21 +67,8 @@ fn why(repo: u8, cause: OpenCause) -> Unopened {
     }
 }
 
-/// Seats for what was found of repositories, in a vector that is empty and has room for them.
-pub(crate) fn seat_all<P: Parts>(found: Vec<Closed<P>>, room: Vec<Seat<P>>) -> Vec<Seat<P>>
-    requires empty { vec_len room ≡ 0 }
-    requires room { vec_len found ≤ vec_capacity room }
-    ensures { vec_len result ≡ vec_len found }
-{
-    let mut seats = room;
-    for closed in found {
-        seats.push_reserved(Seat::Closed(closed));
-    }
-    seats
-}
-
 /// The parts of all repositories, put into a vector that is empty and has room for them.
-pub(crate) fn give_back<P: Parts>(seats: Vec<Seat<P>>, spare: Vec<P>) -> Vec<P>
+pub(crate) fn give_back<P: Parts, O: Opening>(seats: Vec<Seat<P, O>>, spare: Vec<P>) -> Vec<P>
     requires empty { vec_len spare ≡ 0 }
     requires room { vec_len seats ≤ vec_capacity spare }
     ensures { vec_len result ≡ vec_len seats }
@@ -74,4 +78,82 @@ pub(crate) fn give_back<P: Parts>(seats: Vec<Seat<P>>, spare: Vec<P>) -> Vec<P>
         parts.push_reserved(seat.into_parts());
     }
     parts
+}
+
+/// Whether all are open.
+fn are_open<P: Parts, O: Opening>(seats: &[Seat<P, O>]) -> bool
+    ensures { IsTrue result → AreOpen seats.now }
+{
+    for seat in seats {
+        if !seat.is_open() {
+            return false;
+        }
+    }
+    true
+}
+
+/// The repositories of seats that are all open, put into a vector that is empty and has room for them; else the seats.
+pub(crate) fn sites_of<P: Parts, O: Opening>(
+    seats: Vec<Seat<P, O>>,
+    room: Vec<Site<P, O>>,
+) -> Result<Vec<Site<P, O>>, Vec<Seat<P, O>>>
+    requires empty { vec_len room ≡ 0 }
+    requires room { vec_len seats ≤ vec_capacity room }
+    requires seated { AreSeated 0 seats.items }
+    ensures count { IfOk result (λ sites. vec_len sites ≡ vec_len seats) }
+    ensures placed { IfOk result (λ sites. AreInPlace sites.items) }
+    ensures err { IfErr result (λ left. vec_len left ≡ vec_len seats) }
+{
+    if are_open(seats.as_slice()) {
+        Ok(take_all(seats, room))
+    } else {
+        drop(room);
+        Err(seats)
+    }
+}
+
+/// The repositories of seats that are all open.
+fn take_all<P: Parts, O: Opening>(seats: Vec<Seat<P, O>>, room: Vec<Site<P, O>>) -> Vec<Site<P, O>>
+    requires empty { vec_len room ≡ 0 }
+    requires room { vec_len seats ≤ vec_capacity room }
+    requires seated { AreSeated 0 seats.items }
+    requires open { AreOpen seats.items }
+    ensures count { vec_len result ≡ vec_len seats }
+    ensures placed { AreInPlace result.items }
+{
+    let mut sites = room;
+    for seat in seats {
+        let place = sites.len();
+        sites.push_reserved(take(seat, place));
+    }
+    sites
+}
+
+/// The repository of a seat that is open, at its place.
+fn take<P: Parts, O: Opening>(seat: Seat<P, O>, place: usize) -> Site<P, O>
+    requires seated { IsSeatedAt place seat }
+    requires open { IsOpen seat }
+    ensures { result.number ≡ place }
+{
+    let _ = place;
+    match seat {
+        Seat::Open(site) => site,
+        Seat::Closed(_) => unreachable!(),
+    }
+}
+
+/// Seats of repositories that are open, in a vector that is empty and has room for them.
+pub(crate) fn seat_all<P: Parts, O: Opening>(
+    sites: Vec<Site<P, O>>,
+    room: Vec<Seat<P, O>>,
+) -> Vec<Seat<P, O>>
+    requires empty { vec_len room ≡ 0 }
+    requires room { vec_len sites ≤ vec_capacity room }
+    ensures { vec_len result ≡ vec_len sites }
+{
+    let mut seats = room;
+    for site in sites {
+        seats.push_reserved(Seat::Open(site));
+    }
+    seats
 }

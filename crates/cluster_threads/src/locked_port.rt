@@ -10,6 +10,7 @@ use log_entries::Request;
 use outside::Gate;
 use repo_refusals::Refusal;
 use session_outbox::{Asked, At, Message, Verdict, Welcome};
+use std::marker::Brand;
 use std::sync::{MutexGuard, Wait};
 use std::thread;
 use thor_value::Ts;
@@ -33,7 +34,7 @@ pub(crate) struct LockedPort<'a, R: Wait, P: Parts, G: Gate> {
 
 impl<'a, R: Wait, P: Parts, G: Gate> LockedPort<'a, R, P, G> {
     /// Takes the lock of a repository for a call.
-    fn begin(&self, repo: u8) -> Result<MutexGuard<'a, Seat<P>>, Refusal> {
+    fn begin(&self, repo: u8) -> Result<MutexGuard<'a, Seat<P, Brand>>, Refusal> {
         self.locks.gate.pass(2 * u32::from(self.client));
         match self.locks.enter(repo) {
             Some(seat) => Ok(seat),
@@ -46,7 +47,7 @@ impl<'a, R: Wait, P: Parts, G: Gate> LockedPort<'a, R, P, G> {
 
     /// Gives the lock back behind a call. Where the buffer is over half full then, it is prompted to be flushed. A
     /// prompt that can't be sent is left out.
-    fn end(&self, repo: u8, seat: MutexGuard<'a, Seat<P>>) {
+    fn end(&self, repo: u8, seat: MutexGuard<'a, Seat<P, Brand>>) {
         let is_full = self.locks.half < seat.mob_bytes();
         drop(seat);
         if is_full {

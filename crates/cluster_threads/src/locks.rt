@@ -5,6 +5,7 @@ ghost use Rattle.std.specs.Prelude.{vec_capacity, vec_len, ◌≡◌, ◌≤◌}
 use cluster_core::Seat;
 use disk_trait::Parts;
 use outside::Gate;
+use std::marker::Brand;
 use std::sync::{Condvar, Mutex, MutexGuard, Wait};
 use std::time::Duration;
 
@@ -17,7 +18,7 @@ const LONGEST_SLEEP: u64 = 1_000;
 /// A repository behind its lock, with what tells that a transaction was decided there.
 #[derive(Drop)]
 pub(crate) struct Locked<P: Parts> {
-    seat: Mutex<Seat<P>>,
+    seat: Mutex<Seat<P, Brand>>,
     decided: Condvar,
 }
 
@@ -38,7 +39,7 @@ pub(crate) struct Locks<'a, R: Wait, P: Parts, G: Gate> {
 
 impl<'a, R: Wait, P: Parts, G: Gate> Locks<'a, R, P, G> {
     /// Takes the lock of a repository; nothing where there is no such repository.
-    pub(crate) fn lock(&self, repo: u8) -> Option<MutexGuard<'a, Seat<P>>> {
+    pub(crate) fn lock(&self, repo: u8) -> Option<MutexGuard<'a, Seat<P, Brand>>> {
         let locked = self.seats.get(usize::from(repo))?;
         Some(locked.seat.lock(self.rt))
     }
@@ -49,7 +50,7 @@ impl<'a, R: Wait, P: Parts, G: Gate> Locks<'a, R, P, G> {
     }
 
     /// Takes the lock of a repository for an event; nothing where there is no such repository.
-    pub(crate) fn enter(&self, repo: u8) -> Option<MutexGuard<'a, Seat<P>>> {
+    pub(crate) fn enter(&self, repo: u8) -> Option<MutexGuard<'a, Seat<P, Brand>>> {
         let seat = self.lock(repo)?;
         self.pass(repo);
         Some(seat)
@@ -83,7 +84,7 @@ impl<'a, R: Wait, P: Parts, G: Gate> Locks<'a, R, P, G> {
 }
 
 /// Puts repositories behind locks, one each. There is room for them.
-pub(crate) fn lock_all<P: Parts>(seats: Vec<Seat<P>>, room: Vec<Locked<P>>) -> Vec<Locked<P>>
+pub(crate) fn lock_all<P: Parts>(seats: Vec<Seat<P, Brand>>, room: Vec<Locked<P>>) -> Vec<Locked<P>>
     requires empty { vec_len room ≡ 0 }
     requires room { vec_len seats ≤ vec_capacity room }
     ensures { vec_len result ≡ vec_len seats }
@@ -99,7 +100,10 @@ pub(crate) fn lock_all<P: Parts>(seats: Vec<Seat<P>>, room: Vec<Locked<P>>) -> V
 }
 
 /// Takes repositories out of their locks. There is room for them.
-pub(crate) fn unlock_all<P: Parts>(locks: Vec<Locked<P>>, room: Vec<Seat<P>>) -> Vec<Seat<P>>
+pub(crate) fn unlock_all<P: Parts>(
+    locks: Vec<Locked<P>>,
+    room: Vec<Seat<P, Brand>>,
+) -> Vec<Seat<P, Brand>>
     requires empty { vec_len room ≡ 0 }
     requires room { vec_len locks ≤ vec_capacity room }
     ensures { vec_len result ≡ vec_len locks }

@@ -9,13 +9,14 @@ use crate::flushing::Flusher;
 use crate::locked_port::{LockedPort, MOST_WAITS};
 use crate::locks::{Locks, lock_all, unlock_all};
 use crate::prompts::{Channels, Prompt, make_channels, others};
-use cluster_core::{Cluster, Emptied, Finished, Seat};
+use cluster_core::{Cluster, Emptied, Finished, Seat, without_run};
 use crossbeam_channel::{Receiver, Sender};
 use disk_trait::Parts;
 use front_end::FrontEnd;
 use outside::Gate;
 use schedule::Event;
 use std::alloc::Global;
+use std::marker::Brand;
 use std::sync::Wait;
 use std::thread::Threads;
 use thor_value::NoMemory;
@@ -29,14 +30,35 @@ use thor_value::NoMemory;
 pub fn run_clients<R: Threads + Wait + Sync, P: Parts + Send, G: Gate + Sync>(
     rt: &R,
     alloc: Global,
-    cluster: Cluster<P>,
+    cluster: Cluster<P, Brand>,
     events: &[Event],
     mob: u32,
     gate: &G,
 ) -> Finished<P>
     ensures { vec_len result.parts ≡ parts_of cluster }
 {
-    let (emptied, seats, clients) = cluster.emptied();
+    match cluster.emptied() {
+        Ok((emptied, seats, clients)) => {
+            run_apart(rt, alloc, emptied, seats, clients, events, mob, gate)
+        }
+        Err(cluster) => without_run(cluster.finish()),
+    }
+}
+
+/// Runs the clients on repositories that were taken out of their store.
+fn run_apart<R: Threads + Wait + Sync, P: Parts + Send, G: Gate + Sync>(
+    rt: &R,
+    alloc: Global,
+    emptied: Emptied<P>,
+    seats: Vec<Seat<P, Brand>>,
+    clients: Vec<FrontEnd>,
+    events: &[Event],
+    mob: u32,
+    gate: &G,
+) -> Finished<P>
+    requires { vec_len seats ≤ room_of emptied }
+    ensures { vec_len result.parts ≡ vec_len seats }
+{
     let (seats, ran) = run_locked(
         rt,
         alloc,
@@ -53,21 +75,15 @@ pub fn run_clients<R: Threads + Wait + Sync, P: Parts + Send, G: Gate + Sync>(
 fn ended<P: Parts>(
     alloc: Global,
     emptied: Emptied<P>,
-    seats: Vec<Seat<P>>,
+    seats: Vec<Seat<P, Brand>>,
     ran: Result<Vec<FrontEnd>, NoMemory>,
 ) -> Finished<P>
     requires { vec_len seats ≤ room_of emptied }
     ensures { vec_len result.parts ≡ vec_len seats }
 {
     match ran {
-        Ok(clients) => emptied.filled(seats, clients).finish(),
-        Err(NoMemory) => {
-            let Finished { parts, .. } = emptied.filled(seats, Vec::new(alloc)).finish();
-            Finished {
-                parts,
-                ran: Err(NoMemory),
-            }
-        }
+        Ok(clients) => emptied.finish(seats, clients),
+        Err(NoMemory) => without_run(emptied.finish(seats, Vec::new(alloc))),
     }
 }
 
@@ -81,13 +97,13 @@ fn run_locked<
 >(
     rt: &R,
     alloc: Global,
-    seats: Vec<Seat<P>>,
+    seats: Vec<Seat<P, Brand>>,
     opened: &S,
     clients: Vec<C>,
     events: &[Event],
     mob: u32,
     gate: &G,
-) -> (Vec<Seat<P>>, Result<Vec<C>, NoMemory>)
+) -> (Vec<Seat<P, Brand>>, Result<Vec<C>, NoMemory>)
     ensures { vec_len result.0 ≡ vec_len seats }
 {
     let Ok(room) = Vec::with_capacity(alloc, seats.len()) else {

@@ -1,7 +1,6 @@
 //! What is seen of repositories and clients while events happen.
 
 use crate::printing::{print_event, print_kept};
-use cluster_core::Seat;
 use disk_trait::Parts;
 use front_end::FrontEnd;
 use repo_core::Repo;
@@ -197,10 +196,8 @@ impl Watch {
     /// Ends the line of what happened, and tells what is new at repositories and clients.
     fn look(&mut self, store: &Store) -> Result<(), NoMemory> {
         self.out.push_str("\n")?;
-        for (place, seat) in store.seats().iter().enumerate() {
-            if let Seat::Open(repo) = seat {
-                self.look_at_repository(place, repo)?;
-            }
+        for (place, site) in store.sites().iter().enumerate() {
+            self.look_at_repository(place, site.repo())?;
         }
         for (place, client) in store.clients().iter().enumerate() {
             self.look_at_client(place, client)?;

@@ -22,6 +22,11 @@ pub record IsRecovered (disks : Disks) (r : Recovered) : Type 0 where
   pub keeps : Keeps r.state
   pub pages : AgreesWhere r.state.objects.pages
 
+-- what contracts see of a repository that was recovered: its parts, and what its log stands for
+pub record Kept (P : Type 0) : Type 0 where
+  pub parts : P
+  pub recovered : Recovered
+
 -- what a reading of a repository finds: nothing where it is fresh, and its disks are settled
 abbrev pub Finds : {X : Type 0} → Disks → Option (Recovered × X) → Type 0
 Finds disks None = AllSettled disks

@@ -18,11 +18,11 @@ pub struct Known<P: Parts> {
 }
 
 impl<P: Parts> Model for Known<P> {
-    ghost use Rattle.repo_opening.specs.Recovered.{IsRecovered};
+    ghost use Rattle.repo_opening.specs.Recovered.{IsRecovered, Kept};
 
-    ghost Value = { P };
+    ghost Value = { Kept P };
 
-    ghost view = { λ k. k.parts };
+    ghost view = { λ k. record { parts = k.parts; recovered = k.recovered } };
 
     ghost invariant = { λ k. IsRecovered (P.disks k.parts) k.recovered };
 }
@@ -43,7 +43,8 @@ impl<P: Parts> Known<P> {
     /// What was recovered from these parts.
     pub fn new(parts: P, recovered: Recovered, behind: u32) -> Known<P>
         requires { IsRecovered (P.disks parts) recovered }
-        ensures { result ≡ parts }
+        ensures parts { result.parts ≡ parts }
+        ensures recovered { result.recovered ≡ recovered }
     {
         Known {
             parts,
@@ -54,14 +55,14 @@ impl<P: Parts> Known<P> {
 
     /// What was recovered.
     pub fn recovered(&self) -> &Recovered
-        ensures { IsRecovered (P.disks self.now) result.now }
+        ensures { IsRecovered (P.disks self.now.parts) result.now }
     {
         &self.recovered
     }
 
     /// What was read.
     pub fn read(&self) -> Read<'_>
-        ensures { IsRecovered (P.disks self.now) result.recovered.now }
+        ensures { IsRecovered (P.disks self.now.parts) result.recovered.now }
     {
         Read {
             recovered: &self.recovered,
@@ -71,7 +72,7 @@ impl<P: Parts> Known<P> {
 
     /// The parts.
     pub fn into_parts(self) -> P
-        ensures { result ≡ self }
+        ensures { result ≡ self.parts }
     {
         let Known {
             parts,
@@ -95,7 +96,8 @@ impl<P: Parts> Known<P> {
 
     /// The parts, with what was recovered from them.
     pub fn into_recovered(self) -> (P, Recovered)
-        ensures parts { result.0 ≡ self }
+        ensures parts { result.0 ≡ self.parts }
+        ensures same { result.1 ≡ self.recovered }
         ensures recovered { IsRecovered (P.disks result.0) result.1 }
     {
         let Known {

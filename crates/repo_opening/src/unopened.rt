@@ -1,5 +1,7 @@
 //! Why a store wasn't opened.
 
+ghost use Rattle.std.specs.Prelude.{IfOk, ◌≡◌};
+
 use disk_trait::Outage;
 use recovery::RecoverFault;
 use thor_value::NoMemory;
@@ -39,7 +41,9 @@ pub(crate) fn outage_of(repo: u8, outage: Outage) -> Unopened {
 }
 
 /// The number of the repository at a place. There is no memory for more than a number can name.
-pub fn number_at(place: usize) -> Result<u8, NoMemory> {
+pub fn number_at(place: usize) -> Result<u8, NoMemory>
+    ensures { IfOk result (λ number. number ≡ place) }
+{
     match u8::try_from(place) {
         Ok(number) => Ok(number),
         Err(_) => Err(NoMemory),

@@ -1,3 +1,4 @@
+pub mod Begun
 pub mod Counting
 pub mod Failing
 pub mod Finding
@@ -5,6 +6,7 @@ pub mod Growing
 pub mod Leaving
 pub mod Opened
 pub mod RequestWorks
+pub mod Restarts
 pub mod Sending
 pub mod SessionWorks
 pub mod Sites

@@ -9,13 +9,15 @@ use Rattle.log_entries.specs.declared.entry.Entry.{Entry}
 use Rattle.repo_core.specs.Shown.{Shown}
 use Rattle.repo_site.proofs.Writing.{first_so}
 use Rattle.repo_site.specs.Run.{Run}
-use Rattle.repo_site.specs.Sited.{Happens, StandsIn}
+use Rattle.repo_site.specs.Sited.{Happens, IsRightTrace, StandsIn}
+use Rattle.repo_trace.specs.declared.trace.Trace.{Trace}
 use Rattle.spec_history.specs.History.{Base, state}
 use Rattle.spec_history.specs.Sound.{sound}
 use Rattle.spec_trace.proofs.Traces.{entries-items}
 use Rattle.spec_trace.specs.Calls.{is_forgotten}
 use Rattle.spec_trace.specs.Exact.{exact}
-use Rattle.spec_trace.specs.Trace.{entries}
+use Rattle.spec_trace.specs.Trace.{entries, items}
+use Rattle.spec_trace.specs.declared.kept_item.KeptItem.{KeptItem}
 use Rattle.std.proofs.Common.{List, arith, refl, subst, sym, true, ℕ, ◌+◌, ◌<◌, ◌∙◌, ◌≡◌, ◌≤◌}
 use Rattle.std.specs.Prelude.{not, ◌≢◌}
 use Rattle.thor_value.specs.FiniteMap.{get, has}
@@ -34,6 +36,15 @@ is_sound run number repos x k based = (k.right based).right.recorded.sound
 
 pub is_exact : (run : Run) (number repos : ℕ) (x : Shown) → StandsIn run number repos x → run.based ≡ true → exact (run.base number) (trace_of x.trace)
 is_exact run number repos x k based = (k.right based).right.recorded.exact
+
+-- what is left of it when it ends
+pub closed : (run : Run) (number repos : ℕ) (x : Shown) (t : Trace) → StandsIn run number repos x → t.history ≡ x.trace.history → t.marks ≡ x.trace.marks → IsRightTrace run number t
+closed run number repos x t k history marks = record {
+  sound = λ based. subst (λ (H : List Entry). sound (run.base number) H) (sym history) (is_sound run number repos x k based);
+  exact = λ based.
+      subst (λ (H : List Entry). exact (run.base number) (items H t.marks)) (sym history)
+      (subst (λ (m : List KeptItem). exact (run.base number) (items x.trace.history m)) (sym marks) (is_exact run number repos x k based));
+}
 
 pub same_number : (b : Base) (x : Shown) → StandsRight b x → x.is_up ≡ true → x.held.repo ≡ b.repo
 same_number b x k up = (agreement b x k up).held.repo

@@ -1,3 +1,5 @@
+pub mod Begun
+pub mod Happening
 pub mod Run
 pub mod Sited
 pub mod Testing

@@ -5,7 +5,11 @@ use Rattle.law_repo_calls.specs.Vouching.{IsBase, IsNewBase}
 use Rattle.repo_core.specs.Shown.{Shown}
 use Rattle.repo_site.specs.Run.{Run}
 use Rattle.repo_state.specs.declared.held.Held.{Held}
+use Rattle.repo_trace.specs.declared.trace.Trace.{Trace}
 use Rattle.spec_history.specs.History.{Base}
+use Rattle.spec_history.specs.Sound.{sound as is_sound}
+use Rattle.spec_trace.specs.Exact.{exact as is_exact}
+use Rattle.spec_trace.specs.Trace.{items}
 use Rattle.std.specs.Prelude.{None, true, ℕ, ◌≡◌}
 use Rattle.thor_value.specs.FiniteMap.{get}
 use Rattle.thor_value.specs.declared.names.Ts.{Ts}
@@ -41,3 +45,9 @@ pub record BeginsNew (run : Run) (number repos : ℕ) (setup : Setup) (mob : ℕ
 pub record Happens (run : Run) (old new : Sited) : Type 0 where
   pub number : new.number ≡ old.number
   pub does : run.based ≡ true → IsRun (run.base old.number) old.shown new.shown
+
+-- What was recorded at the repository of this number is right by the base with which it began, where each has one: its history is
+-- sound, and each item of its trace is exact.
+pub record IsRightTrace (run : Run) (number : ℕ) (t : Trace) : Type 0 where
+  pub sound : run.based ≡ true → is_sound (run.base number) t.history
+  pub exact : run.based ≡ true → is_exact (run.base number) (items t.history t.marks)

@@ -1,5 +1,6 @@
 //! The events of a repository of a run that are no client's.
 
+ghost use Rattle.repo_site.specs.Happening.{Flushes, GoesOn, Stops};
 ghost use Rattle.repo_site.specs.Sited.{Happens};
 ghost use Rattle.repo_site.specs.Working.{SiteGrows};
 ghost use Rattle.std.specs.Prelude.{ℕ};
@@ -17,6 +18,7 @@ impl<P: Parts, O: Opening> Site<P, O> {
     pub fn flush(&mut self) -> Result<Flushed, Refusal>
         ensures happens { Happens O.run self.old self.new }
         ensures grows { (c : ℕ) → SiteGrows O.run c self.old self.new }
+        ensures does { Flushes self.old.shown self.new.shown }
     {
         happening::flush(&mut self.repo)
     }
@@ -35,6 +37,7 @@ impl<P: Parts, O: Opening> Site<P, O> {
     pub fn stop_after(&mut self, calls: u32)
         ensures happens { Happens O.run self.old self.new }
         ensures grows { (c : ℕ) → SiteGrows O.run c self.old self.new }
+        ensures does { Stops calls self.old.shown self.new.shown }
     {
         happening::stop_after(&mut self.repo, calls);
     }
@@ -53,6 +56,7 @@ impl<P: Parts, O: Opening> Site<P, O> {
     pub fn restart(&mut self, pick: u64) -> Result<(), Refusal>
         ensures happens { Happens O.run self.old self.new }
         ensures grows { (c : ℕ) → SiteGrows O.run c self.old self.new }
+        ensures does { GoesOn self.old.shown self.new.shown }
     {
         happening::restart(&mut self.repo, pick)
     }

@@ -1,6 +1,7 @@
 //! Events that are no client's: each is a run of events of `law_repo_runs`, and growth for
 //! each client.
 
+ghost use Rattle.repo_site.specs.Happening.{Flushes, GoesOn, Stops};
 ghost use Rattle.repo_site.specs.Working.{AnyBase, GrowsBy, RunsBy};
 
 use disk_trait::Parts;
@@ -12,6 +13,7 @@ use repo_refusals::Refusal;
 pub(crate) fn flush<P: Parts>(repo: &mut Repo<P>) -> Result<Flushed, Refusal>
     ensures runs { RunsBy AnyBase repo.old repo.new }
     ensures grows { GrowsBy repo.old repo.new }
+    ensures does { Flushes repo.old repo.new }
 {
     repo.flush()
 }
@@ -28,6 +30,7 @@ pub(crate) fn checkpoint<P: Parts>(repo: &mut Repo<P>) -> Result<(), Refusal>
 pub(crate) fn stop_after<P: Parts>(repo: &mut Repo<P>, calls: u32)
     ensures runs { RunsBy AnyBase repo.old repo.new }
     ensures grows { GrowsBy repo.old repo.new }
+    ensures does { Stops calls repo.old repo.new }
 {
     repo.stop_after(calls);
 }
@@ -41,9 +44,11 @@ pub(crate) fn disarm<P: Parts>(repo: &mut Repo<P>)
 }
 
 /// It is restarted, and comes up or stays down.
+#[tactic(auto, using(crate::proofs::Restarts::goes_on))]
 pub(crate) fn restart<P: Parts>(repo: &mut Repo<P>, pick: u64) -> Result<(), Refusal>
     ensures runs { RunsBy AnyBase repo.old repo.new }
     ensures grows { GrowsBy repo.old repo.new }
+    ensures does { GoesOn repo.old repo.new }
 {
     repo.restart(pick)
 }

@@ -1,7 +1,7 @@
 //! A repository of a run.
 
 ghost use Rattle.repo_core.specs.Shown.{Shown};
-ghost use Rattle.repo_site.specs.Sited.{Happens, StandsIn};
+ghost use Rattle.repo_site.specs.Sited.{Happens, IsRightTrace, StandsIn};
 ghost use Rattle.std.specs.Prelude.{OnErr, OnOk, ◌≡◌, false, true};
 ghost use Rattle.repo_refusals.specs.declared.refusal.Refusal.TheVariants.{Down as IsDown, NoMemory as IsNoMemory};
 ghost use Rattle.std.specs.Prelude.{IfErr};
@@ -60,11 +60,27 @@ impl<P: Parts, O: Opening> Site<P, O> {
         repo
     }
 
+    /// Ends it. Its parts come back with its trace.
+    #[tactic(auto, using(crate::proofs::Standing::closed))]
+    pub fn close(self) -> (P, Trace)
+        ensures { IsRightTrace O.run self.number result.1 }
+    {
+        let Site { repo, .. } = self;
+        repo.close()
+    }
+
     /// The repository.
     pub fn repo(&self) -> &Repo<P>
         ensures { result.now ≡ self.now.shown }
     {
         &self.repo
+    }
+
+    /// Whether it is up.
+    pub fn is_up(&self) -> bool
+        ensures { result ≡ self.now.shown.is_up }
+    {
+        self.repo.is_up()
     }
 
     /// Refuses a call on a repository that is down.

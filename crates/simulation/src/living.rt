@@ -4,8 +4,10 @@ use crate::beginning::Play;
 use crate::counts::{Size, is_bounded};
 use crate::faults::{Fault, Wrong};
 use crate::watching::Watch;
-use cluster_core::{Finished, Ran, Seat, Start};
+use cluster_core::{Finished, Ran, Start};
 use disk_trait::{MemParts, TickClock};
+use repo_core::Repo;
+use repo_site::Site;
 use repo_trace::Traces;
 use schedule::{Event, EventKind};
 use serial_model::Ends;
@@ -13,6 +15,7 @@ use simulation_events::Coverage;
 use simulation_scripts::{Ending, Options};
 use simulation_setup::{Disks, Store, open_store, plan_of};
 use std::alloc::Global;
+use std::marker::Brand;
 use store_opening::Found;
 use thor_value::{NoMemory, both};
 use top_history_check::Lines;
@@ -44,9 +47,8 @@ fn begin_watch(alloc: Global, store: Store, play: &Play<'_>) -> Result<(Store, W
     let clients = play.begun.script.clients.len();
     let watch = Watch::new(alloc, usize::from(play.options.repos), clients);
     let (store, mut watch) = both(store, watch)?;
-    let (emptied, seats, clients) = store.emptied();
-    watch.begin(&seats);
-    Ok((emptied.filled(seats, clients), watch))
+    watch.begin(store.sites());
+    Ok((store, watch))
 }
 
 /// Looks at the repositories behind an event.
@@ -56,9 +58,8 @@ fn look(
     kind: EventKind,
     coverage: &mut Coverage,
 ) -> Result<Store, NoMemory> {
-    let (emptied, seats, clients) = store.emptied();
-    let looked = watch.behind(kind, &seats, coverage);
-    let (store, _) = both(emptied.filled(seats, clients), looked)?;
+    let looked = watch.behind(kind, store.sites(), coverage);
+    let (store, _) = both(store, looked)?;
     Ok(store)
 }
 
@@ -144,28 +145,23 @@ fn end(
 }
 
 /// What is wrong with a repository at the end: it is down, or it keeps more than it may.
-fn wrong_at(seat: &Seat<MemParts<TickClock>>, repo: u8, mob: u32, size: Size) -> Option<Wrong> {
-    match seat {
-        Seat::Open(found) => {
-            if !found.is_up() {
-                return Some(Wrong::Down { repo });
-            }
-            if found.mob_bytes() > mob {
-                return Some(Wrong::Buffer { repo });
-            }
-            if !is_bounded(found, size) {
-                return Some(Wrong::Counts { repo });
-            }
-            None
-        }
-        _ => Some(Wrong::Down { repo }),
+fn wrong_at(found: &Repo<MemParts<TickClock>>, repo: u8, mob: u32, size: Size) -> Option<Wrong> {
+    if !found.is_up() {
+        return Some(Wrong::Down { repo });
     }
+    if found.mob_bytes() > mob {
+        return Some(Wrong::Buffer { repo });
+    }
+    if !is_bounded(found, size) {
+        return Some(Wrong::Counts { repo });
+    }
+    None
 }
 
-fn wrong_in(seats: &[Seat<MemParts<TickClock>>], mob: u32, size: Size) -> Option<Wrong> {
+fn wrong_in(sites: &[Site<MemParts<TickClock>, Brand>], mob: u32, size: Size) -> Option<Wrong> {
     let mut repo = 0u8;
-    for seat in seats {
-        if let Some(wrong) = wrong_at(seat, repo, mob, size) {
+    for site in sites {
+        if let Some(wrong) = wrong_at(site.repo(), repo, mob, size) {
             return Some(wrong);
         }
         repo = repo.saturating_add(1);
@@ -192,9 +188,8 @@ fn lived_in(finished: Finished<MemParts<TickClock>>) -> Result<Lived, NoMemory> 
 
 /// Ends a life. What is wrong with its repositories stands beside it.
 fn close(store: Store, mob: u32, size: Size) -> (Option<Wrong>, Finished<MemParts<TickClock>>) {
-    let (emptied, seats, clients) = store.emptied();
-    let wrong = wrong_in(&seats, mob, size);
-    (wrong, emptied.filled(seats, clients).finish())
+    let wrong = wrong_in(store.sites(), mob, size);
+    (wrong, store.finish())
 }
 
 /// Ends a life whose repositories are as they should be.

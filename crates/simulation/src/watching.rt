@@ -1,8 +1,8 @@
 //! What is seen of repositories and clients while events happen.
 
-use cluster_core::Seat;
 use disk_trait::Parts;
 use repo_core::Repo;
+use repo_site::{Opening, Site};
 use schedule::EventKind;
 use simulation_events::{Coverage, Deed, deed_of_item, event_number};
 use std::alloc::Global;
@@ -75,17 +75,15 @@ impl Watch {
     }
 
     /// Counts what an event has come to.
-    pub(crate) fn behind<P: Parts>(
+    pub(crate) fn behind<P: Parts, O: Opening>(
         &mut self,
         kind: EventKind,
-        seats: &[Seat<P>],
+        sites: &[Site<P, O>],
         coverage: &mut Coverage,
     ) -> Result<(), NoMemory> {
         let mut last = Deed::Nothing;
-        for (place, seat) in seats.iter().enumerate() {
-            if let Seat::Open(repo) = seat {
-                last = self.look(place, repo, kind, last, coverage)?;
-            }
+        for (place, site) in sites.iter().enumerate() {
+            last = self.look(place, site.repo(), kind, last, coverage)?;
         }
         if let Deed::Nothing = last {
             coverage.take_deed(event_number(kind), last);
@@ -99,12 +97,10 @@ impl Watch {
     }
 
     /// Looks at the repositories as they begin, and counts nothing.
-    pub(crate) fn begin<P: Parts>(&mut self, seats: &[Seat<P>]) {
-        for (seen, seat) in self.seen.iter_mut().zip(seats.iter()) {
-            if let Seat::Open(repo) = seat {
-                seen.marks = repo.marks().len();
-                seen.is_up = repo.is_up();
-            }
+    pub(crate) fn begin<P: Parts, O: Opening>(&mut self, sites: &[Site<P, O>]) {
+        for (seen, site) in self.seen.iter_mut().zip(sites.iter()) {
+            seen.marks = site.repo().marks().len();
+            seen.is_up = site.repo().is_up();
         }
     }
 

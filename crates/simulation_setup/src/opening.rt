@@ -8,6 +8,7 @@ use disk_trait::{MemParts, TickClock};
 use repo_opening::Unopened;
 use script_check::roots_of;
 use std::alloc::Global;
+use std::marker::Brand;
 use store_opening::{ClusterFault, Found};
 use thor_value::{NoMemory, TryCopy, both};
 
@@ -15,7 +16,7 @@ use thor_value::{NoMemory, TryCopy, both};
 pub type Disks = Vec<MemParts<TickClock>>;
 
 /// Repositories in memory, with their clients.
-pub type Store = Cluster<MemParts<TickClock>>;
+pub type Store = Cluster<MemParts<TickClock>, Brand>;
 
 /// Disks of so many repositories, all of them empty.
 pub fn empty_disks(alloc: Global, repos: u8) -> Result<Disks, NoMemory> {
@@ -77,7 +78,7 @@ pub fn open_store(
     found: Found<MemParts<TickClock>>,
     plan: Plan,
 ) -> Result<Store, Unopened> {
-    match Cluster::open(alloc, found, plan) {
+    match Cluster::<MemParts<TickClock>, Brand>::open(alloc, found, plan) {
         Ok(store) => Ok(store),
         Err(ClusterFault { parts, why }) => {
             drop(parts);

@@ -21,7 +21,7 @@ FindsFresh disks (Some x) = Unit {0}
 abbrev pub IsSeated : {P : Type 0} → (P → Disks) → P → Closed P → Type 0
 IsSeated disks part (Parts p) = Same (disks part) (disks p)
 IsSeated disks part (Fresh p) = Same (disks part) (disks p) × IsFreshOn (disks part)
-IsSeated disks part (Known p) = Same (disks part) (disks p)
+IsSeated disks part (Known k) = Same (disks part) (disks k.parts)
 
 abbrev pub AreSeated : {P : Type 0} → (P → Disks) → List P → List (Closed P) → Type 0
 AreSeated disks parts places = AllZip (IsSeated disks) parts places

@@ -170,6 +170,8 @@ impl<P: Parts> Found<P> {
     /// bytes a buffer may have; and how many upgrades the store has installed, nothing where it is fresh.
     pub fn into_repositories(self) -> (Vec<Closed<P>>, Vec<P>, u32, Option<usize>)
         ensures count { vec_len result.0 ≡ parts_in self }
+        ensures places { result.0.items ≡ self.places.items }
+        ensures mob { result.2 ≡ self.mob }
         ensures empty { vec_len result.1 ≡ 0 }
         ensures room { vec_len result.0 ≤ vec_capacity result.1 }
     {
@@ -238,7 +240,7 @@ fn has_count_above<P: Parts>(place: &Closed<P>, limit: u64) -> bool
 
 /// Whether the log that was recovered has a greater sequence than this, or the history more entries.
 fn counts_above<P: Parts>(known: &Known<P>, limit: u64) -> bool
-    ensures { result ≡ true → (part : P) (images : ℕ → List ℕ) → Same (P.disks part) (P.disks known.now) → ReadsAs (P.disks part) images → HasCountAbove limit images }
+    ensures { result ≡ true → (part : P) (images : ℕ → List ℕ) → Same (P.disks part) (P.disks known.now.parts) → ReadsAs (P.disks part) images → HasCountAbove limit images }
 {
     let recovered = known.recovered();
     limit < recovered.log.sequence() || limit < recovered.state.count()

@@ -1,8 +1,12 @@
 -- A run that is to be made, and what is replied of it (this project's).
+use Rattle.cluster_core.specs.declared.finishing.Finished.{Finished}
+use Rattle.cluster_core.specs.declared.finishing.Ran.{Ran}
+use Rattle.repo_trace.specs.declared.trace.Trace.{Trace}
 use Rattle.script_parse.specs.declared.script.Script.{Script}
-use Rattle.std.specs.Prelude.{◌≡◌, ℕ, Bool, List, Some}
+use Rattle.std.specs.Prelude.{◌≡◌, ◌⊎◌, ℕ, Bool, Err, List, Ok, Result, Some, []}
 use Rattle.thor_top.specs.declared.expected.Expected.{Expected}
 use Rattle.thor_value.specs.FiniteMap.{IsSorted}
+use Rattle.top_judging.specs.Stages.{RepliesUnsettled}
 use Rattle.top_reply.specs.Replies.{run_reply}
 use Rattle.top_reply.specs.Reports.{IsReported}
 use Rattle.top_reply.specs.declared.form.Form.{Form}
@@ -18,6 +22,20 @@ use Rattle.top_words.specs.declared.command.Command.TheVariants.{Audit, Check, G
 pub record Foretells (Says : Reply → Type 0) (e : Expected) : Type 0 where
   pub sorted : IsSorted e.opened.store.objects
   pub says : (r : Reply) → IsReported e.running e.form e.opened.schemas e.opened.store e.script r → Says r
+
+-- What is replied of a run of which this is expected: its report, or that the store couldn't be opened.
+abbrev pub IsToldOf : Expected → Reply → Type 0
+IsToldOf e r = IsReported e.running e.form e.opened.schemas e.opened.store e.script r ⊎ RepliesUnsettled r
+
+-- the traces of a run; none where memory wasn't there
+abbrev pub TracesOf : {E : Type 0} → Result Ran E → List Trace → Type 0
+TracesOf (Ok ran) traces = traces ≡ ran.traces
+TracesOf (Err e) traces = traces ≡ []
+
+-- the same of a store that may not have been opened
+abbrev pub AreTracesOf : {P E : Type 0} → Result (Finished P) E → List Trace → Type 0
+AreTracesOf (Ok finished) traces = TracesOf finished.ran traces
+AreTracesOf (Err e) traces = traces ≡ []
 
 -- the reply tells, in this form, a run of an accepted script
 abbrev pub RepliesRun : DiskBytes → Running → Form → ℕ → Script → Reply → Type 0

@@ -1,8 +1,10 @@
 //! The answer to a plan, on one thread or on several, and to words.
 
+ghost use Rattle.cluster_core.specs.Histories.{AreHistoriesIf};
 ghost use Rattle.repo_opening.specs.Same.{AreSame};
-ghost use Rattle.std.specs.Prelude.{IfOk, Some, vec_len, ◌≡◌};
+ghost use Rattle.std.specs.Prelude.{IfOk, Some, [], vec_len, ◌≡◌};
 ghost use Rattle.store_opening.specs.Reading.{ReadAll};
+ghost use Rattle.thor_top.specs.Stages.{IsInTurn};
 ghost use Rattle.top_statement.specs.Kept.{RefusesBy, WritesNothing};
 ghost use Rattle.top_statement.specs.Top.{IsForOthers, IsHanded, IsNoPlan, IsPlan, Says, told_by};
 ghost use Rattle.top_words.specs.Words.{plan_of};
@@ -10,12 +12,10 @@ ghost use Rattle.top_words.specs.declared.command.Command.TheVariants.{Audit, Ch
 ghost use Rattle.top_words.specs.declared.command.Plan.{Plan};
 
 use crate::beginning::begin;
-use crate::in_turn::run_in_turn;
-use crate::opening::OpenRun;
-use crate::telling::told;
-use cluster_threads::run_clients;
+use crate::running::{Runtime, run_in_turn, run_on_threads};
 use disk_trait::Parts;
 use outside::{Gate, Source};
+use repo_trace::Traces;
 use std::alloc::Global;
 use std::sync::Wait;
 use std::thread::Threads;
@@ -23,13 +23,6 @@ use thor_value::{NoMemory, Text};
 use top_reply::Reply;
 use top_statement::{Answered, untouched};
 use top_words::{Command, Plan, WordsFault, read_words};
-
-/// What a run on threads goes by: what starts them, and the gate that their events pass.
-#[derive(Drop)]
-pub struct Runtime<'a, R: Wait, G: Gate> {
-    pub rt: &'a R,
-    pub gate: &'a G,
-}
 
 /// Answers a plan. A run performs its events one after the other.
 pub(crate) fn answer_in_turn<S: Source, P: Parts>(
@@ -41,14 +34,30 @@ pub(crate) fn answer_in_turn<S: Source, P: Parts>(
     ensures reply { IfOk result.reply (Says (ReadAll P.disks parts.items) (IsHanded plan.now (vec_len parts)) (IsForOthers plan.now (vec_len parts)) (told_by S.left S.faults source.old) (told_by S.left S.faults source.new)) }
     ensures parts { vec_len result.parts ≡ vec_len parts }
     ensures kept { WritesNothing plan.now.command result.reply → AreSame P.disks parts.items result.parts.items }
+    ensures histories { AreHistoriesIf P.disks parts.items result.traces }
 {
     match begin(alloc, plan, source, parts) {
-        Ok(run) => {
-            let OpenRun { cluster, expected } = run;
-            let finished = run_in_turn(cluster, expected.script.events.as_slice());
-            told(alloc, expected, finished)
-        }
-        Err(answered) => answered,
+        Ok(run) => run_in_turn(alloc, run),
+        Err(answered) => untold(alloc, answered),
+    }
+}
+
+/// An answer where no run was made: nothing is told of repositories.
+fn untold<P: Parts>(alloc: Global, answered: Answered<P>) -> Answered<P>
+    ensures reply { result.reply ≡ answered.reply }
+    ensures parts { result.parts ≡ answered.parts }
+    ensures traces { result.traces ≡ [] }
+{
+    let Answered {
+        reply,
+        parts,
+        traces,
+    } = answered;
+    drop(traces);
+    Answered {
+        reply,
+        parts,
+        traces: Traces::new(alloc),
     }
 }
 
@@ -65,12 +74,7 @@ fn answer_on_threads<R: Threads + Wait + Sync, S: Source, P: Parts + Send, G: Ga
     ensures kept { WritesNothing plan.now.command result.reply → AreSame P.disks parts.items result.parts.items }
 {
     match begin(alloc, plan, source, parts) {
-        Ok(run) => {
-            let OpenRun { cluster, expected } = run;
-            let events = expected.script.events.as_slice();
-            let finished = run_clients(runtime.rt, alloc, cluster, events, plan.mob, runtime.gate);
-            told(alloc, expected, finished)
-        }
+        Ok(run) => run_on_threads(alloc, runtime, run, plan.mob),
         Err(answered) => answered,
     }
 }
@@ -86,6 +90,7 @@ fn answer_plan<R: Threads + Wait + Sync, S: Source, P: Parts + Send, G: Gate + S
     ensures reply { IfOk result.reply (Says (ReadAll P.disks parts.items) (IsHanded plan.now (vec_len parts)) (IsForOthers plan.now (vec_len parts)) (told_by S.left S.faults source.old) (told_by S.left S.faults source.new)) }
     ensures parts { vec_len result.parts ≡ vec_len parts }
     ensures kept { WritesNothing plan.now.command result.reply → AreSame P.disks parts.items result.parts.items }
+    ensures histories { IsInTurn plan.now.command → AreHistoriesIf P.disks parts.items result.traces }
 {
     match plan.command {
         Command::Run => answer_on_threads(alloc, runtime, plan, source, parts),
@@ -108,6 +113,7 @@ pub(crate) fn answer<R: Threads + Wait + Sync, S: Source, P: Parts + Send, G: Ga
     ensures kept { RefusesBy result.reply → AreSame P.disks parts.items result.parts.items }
     ensures checked { (plan : Plan) → plan_of words.now ≡ Some plan → plan.command ≡ Check → AreSame P.disks parts.items result.parts.items }
     ensures audited { (plan : Plan) → plan_of words.now ≡ Some plan → plan.command ≡ Audit → AreSame P.disks parts.items result.parts.items }
+    ensures histories { (plan : Plan) → plan_of words.now ≡ Some plan → IsInTurn plan.command → AreHistoriesIf P.disks parts.items result.traces }
 {
     match read_words(alloc, words) {
         Ok(plan) => answer_plan(alloc, runtime, &plan, source, parts),

@@ -1,18 +1,18 @@
-//! What a plan asks for is begun: its script is read, its store is opened. No run is made here.
+//! What a plan asks for is begun: its script and its store are read. No run is made here.
 
-ghost use Rattle.cluster_core.specs.Counts.{parts_of};
 ghost use Rattle.repo_opening.specs.Same.{AreSame};
 ghost use Rattle.script_parse.specs.Script.{HasFew};
 ghost use Rattle.std.specs.Prelude.{IfErr, IfOk, List, length, vec_len, ◌≡◌, ◌≤◌};
 ghost use Rattle.store_opening.specs.Counts.{HasParts, parts_in};
 ghost use Rattle.store_opening.specs.Reading.{ReadAll};
 ghost use Rattle.thor_top.specs.Stages.{Foretells, IsForStore, IsPlayed};
-ghost use Rattle.top_judging.specs.Stages.{IsJudged};
+ghost use Rattle.top_judging.specs.Stages.{IsJudged, RepliesUnsettled};
+ghost use Rattle.top_reply.specs.declared.reply.Reply.{Reply as AReply};
 ghost use Rattle.top_statement.specs.Opening.{IsStoredBy};
 ghost use Rattle.top_statement.specs.Kept.{WritesNothing};
 ghost use Rattle.top_statement.specs.Top.{IsForOthers, IsHanded, RepliesTo, Says, form_of, told_by};
 
-use crate::opening::{OpenRun, open_run};
+use crate::opening::{FoundRun, run_on};
 use disk_trait::Parts;
 use outside::Source;
 use script_parse::Script;
@@ -48,24 +48,24 @@ fn checked<P: Parts>(alloc: Global, plan: &Plan, script: &Script, judged: Judged
     unplayed(alloc, Ok(Reply::Accepted), found.into_parts())
 }
 
-/// Opens the store for the run that a command asks for. Else the reply, with the parts.
+/// The run that a command asks for, on the store that was found. Else the reply, with the parts.
 fn begin_judged<P: Parts>(
     alloc: Global,
     plan: &Plan,
     script: Script,
     judged: Judged<P>,
-) -> Result<OpenRun<P>, Answered<P>>
+) -> Result<FoundRun<P>, Answered<P>>
     requires judged { IsJudged plan.now script judged.found.store judged.base }
     requires store { IsForStore plan.now.command }
     ensures foretells { (given : List P) → IsStoredBy (ReadAll P.disks given) judged.found.store → IfOk result (λ run. Foretells (RepliesTo (ReadAll P.disks given) plan.now script) run.expected) }
     ensures played { IfOk result (λ run. IsPlayed plan.now.command) }
-    ensures count { IfOk result (λ run. parts_of run.cluster ≡ parts_in judged.found) }
+    ensures found { IfOk result (λ run. run.found ≡ judged.found) }
     ensures reply { (given : List P) → IsStoredBy (ReadAll P.disks given) judged.found.store → IfErr result (λ a. IfOk a.reply (RepliesTo (ReadAll P.disks given) plan.now script)) }
     ensures parts { IfErr result (λ a. vec_len a.parts ≡ parts_in judged.found) }
     ensures kept { (given : List P) → HasParts P.disks given judged.found → IfErr result (λ a. WritesNothing plan.now.command a.reply → AreSame P.disks given a.parts.items) }
 {
     match form_of(plan.command) {
-        Some(form) => open_run(alloc, plan, form, script, judged),
+        Some(form) => run_on(alloc, plan, form, script, judged),
         None => {
             let answered = checked(alloc, plan, &script, judged);
             drop(script);
@@ -80,14 +80,15 @@ fn begin_script<P: Parts>(
     plan: &Plan,
     script: Script,
     parts: Vec<P>,
-) -> Result<OpenRun<P>, Answered<P>>
+) -> Result<FoundRun<P>, Answered<P>>
     requires store { IsForStore plan.now.command }
     requires few { HasFew script.setup }
     requires clients { length script.clients ≤ 64 }
     requires events { length script.events ≤ 1000000 }
     ensures foretells { IfOk result (λ run. Foretells (RepliesTo (ReadAll P.disks parts.items) plan.now script) run.expected) }
     ensures played { IfOk result (λ run. IsPlayed plan.now.command) }
-    ensures count { IfOk result (λ run. parts_of run.cluster ≡ vec_len parts) }
+    ensures count { IfOk result (λ run. parts_in run.found ≡ vec_len parts) }
+    ensures found { IfOk result (λ run. HasParts P.disks parts.items run.found) }
     ensures reply { IfErr result (λ a. IfOk a.reply (RepliesTo (ReadAll P.disks parts.items) plan.now script)) }
     ensures parts { IfErr result (λ a. vec_len a.parts ≡ vec_len parts) }
     ensures kept { IfErr result (λ a. WritesNothing plan.now.command a.reply → AreSame P.disks parts.items a.parts.items) }
@@ -101,17 +102,19 @@ fn begin_script<P: Parts>(
     }
 }
 
-/// Begins what a plan asks for, on the parts: the store is open for the script's run. Else the reply, with the parts:
+/// Begins what a plan asks for, on the parts: the store was found for the script's run. Else the reply, with the parts:
 /// where words, script or store are refused, and behind a check or an audit, their disks are as they were.
 pub(crate) fn begin<S: Source, P: Parts>(
     alloc: Global,
     plan: &Plan,
     source: &mut S,
     parts: Vec<P>,
-) -> Result<OpenRun<P>, Answered<P>>
+) -> Result<FoundRun<P>, Answered<P>>
     ensures foretells { IfOk result (λ run. Foretells (Says (ReadAll P.disks parts.items) (IsHanded plan.now (vec_len parts)) (IsForOthers plan.now (vec_len parts)) (told_by S.left S.faults source.old) (told_by S.left S.faults source.new)) run.expected) }
+    ensures fails { IfOk result (λ run. (r : AReply) → RepliesUnsettled r → Says (ReadAll P.disks parts.items) (IsHanded plan.now (vec_len parts)) (IsForOthers plan.now (vec_len parts)) (told_by S.left S.faults source.old) (told_by S.left S.faults source.new) r) }
     ensures played { IfOk result (λ run. IsPlayed plan.now.command) }
-    ensures count { IfOk result (λ run. parts_of run.cluster ≡ vec_len parts) }
+    ensures count { IfOk result (λ run. parts_in run.found ≡ vec_len parts) }
+    ensures found { IfOk result (λ run. HasParts P.disks parts.items run.found) }
     ensures reply { IfErr result (λ a. IfOk a.reply (Says (ReadAll P.disks parts.items) (IsHanded plan.now (vec_len parts)) (IsForOthers plan.now (vec_len parts)) (told_by S.left S.faults source.old) (told_by S.left S.faults source.new))) }
     ensures parts { IfErr result (λ a. vec_len a.parts ≡ vec_len parts) }
     ensures kept { IfErr result (λ a. WritesNothing plan.now.command a.reply → AreSame P.disks parts.items a.parts.items) }

@@ -4,9 +4,9 @@
 mod answering;
 mod beginning;
 mod expected;
-mod in_turn;
 mod opening;
 mod performing;
+mod running;
 mod telling;
 mod top;
 

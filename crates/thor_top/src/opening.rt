@@ -1,6 +1,5 @@
-//! The store that was found is opened for a script's run.
+//! What is asked for a script's run on the store that was found.
 
-ghost use Rattle.cluster_core.specs.Counts.{parts_of, schemas_of};
 ghost use Rattle.script_check.specs.Upgrading.{extended, upgrades_of};
 ghost use Rattle.serial_model.specs.Replays.{AreMade};
 ghost use Rattle.std.specs.Prelude.{IfErr, IfOk, List, vec_len, ◌≡◌, ℕ};
@@ -14,21 +13,23 @@ ghost use Rattle.top_statement.specs.Top.{running_of};
 
 use crate::expected::Expected;
 use class_defs::{Schemas, Setup};
-use cluster_core::{Cluster, Plan as Run, Start};
+use cluster_core::{Plan as Run, Start};
 use disk_trait::Parts;
 use script_check::roots_of;
 use script_parse::Script;
 use std::alloc::Global;
-use store_opening::{ClusterFault, Found};
+use store_opening::Found;
 use thor_value::{NoMemory, TryCopy, both};
-use top_judging::{Judged, OpenedStore, opened_of, unsettled};
+use top_judging::{Judged, OpenedStore, opened_of};
 use top_reply::{Form, Running};
 use top_statement::{Answered, unplayed};
 use top_words::{Command, Plan};
 
-/// A store that is open for a script's run.
-pub struct OpenRun<P: Parts> {
-    pub cluster: Cluster<P>,
+/// A store that was found for a script's run.
+pub struct FoundRun<P: Parts> {
+    pub found: Found<P>,
+    /// What the run is asked for.
+    pub run: Run,
     /// What the run is compared with before it is told.
     pub expected: Expected,
 }
@@ -103,42 +104,18 @@ fn prepared<P: Parts>(
     }
 }
 
-/// Opens the store that was found. Else the reply, with the parts.
-fn open<P: Parts>(
-    alloc: Global,
-    run: Run,
-    expected: Expected,
-    found: Found<P>,
-) -> Result<OpenRun<P>, Answered<P>>
-    requires { run.schemas ≡ expected.opened.schemas }
-    ensures same { IfOk result (λ run. schemas_of run.cluster ≡ run.expected.opened.schemas) }
-    ensures expected { IfOk result (λ run. run.expected ≡ expected) }
-    ensures count { IfOk result (λ run. parts_of run.cluster ≡ parts_in found) }
-    ensures reply { IfErr result (λ a. IfOk a.reply RepliesUnsettled) }
-    ensures parts { IfErr result (λ a. vec_len a.parts ≡ parts_in found) }
-{
-    match Cluster::open(alloc, found, run) {
-        Ok(cluster) => Ok(OpenRun { cluster, expected }),
-        Err(ClusterFault { parts, why }) => {
-            drop(expected);
-            Err(unplayed(alloc, unsettled(why), parts))
-        }
-    }
-}
-
-/// Opens the store that was found for the run of a script that breaks no rule on it, to be told in a form. Else the
+/// What is asked for the run of a script that breaks no rule on the store that was found, to be told in a form. Else the
 /// reply, with the parts.
-pub(crate) fn open_run<P: Parts>(
+pub(crate) fn run_on<P: Parts>(
     alloc: Global,
     plan: &Plan,
     form: Form,
     script: Script,
     judged: Judged<P>,
-) -> Result<OpenRun<P>, Answered<P>>
+) -> Result<FoundRun<P>, Answered<P>>
     requires { IsJudged plan.now script judged.found.store judged.base }
     ensures foretells { (given : List P) → IsStoredBy (ReadAll P.disks given) judged.found.store → IfOk result (λ run. Foretells (RepliesRun (ReadAll P.disks given) (running_of plan.now.command) form plan.now.repos script) run.expected) }
-    ensures same { IfOk result (λ run. schemas_of run.cluster ≡ run.expected.opened.schemas) }
-    ensures count { IfOk result (λ run. parts_of run.cluster ≡ parts_in judged.found) }
+    ensures found { IfOk result (λ run. run.found ≡ judged.found) }
     ensures reply { IfErr result (λ a. IfOk a.reply RepliesUnsettled) }
     ensures parts { IfErr result (λ a. vec_len a.parts ≡ parts_in judged.found) }
 {
@@ -146,15 +123,16 @@ pub(crate) fn open_run<P: Parts>(
     let prepared = prepared(alloc, plan, &script, &base, &found);
     drop(base);
     match prepared {
-        Ok((opened, run)) => {
-            let expected = Expected {
+        Ok((opened, run)) => Ok(FoundRun {
+            found,
+            run,
+            expected: Expected {
                 running: running_of(plan.command),
                 form,
                 script,
                 opened,
-            };
-            open(alloc, run, expected, found)
-        }
+            },
+        }),
         Err(NoMemory) => {
             drop(script);
             Err(unplayed(alloc, Err(NoMemory), found.into_parts()))

@@ -1,5 +1,6 @@
 //! A plan is performed, and the reply written.
 
+ghost use Rattle.cluster_core.specs.Histories.{AreHistoriesIf};
 ghost use Rattle.outside.specs.Faults.{Rose};
 ghost use Rattle.repo_opening.specs.Same.{AreSame};
 ghost use Rattle.std.specs.Prelude.{IfOk, vec_len, ◌≡◌};
@@ -45,6 +46,9 @@ pub fn perform<S: Source, K: Sink, P: Parts>(
     ensures refused { RefusesBy result.reply → AreSame P.disks parts.repositories.items result.parts.repositories.items }
     ensures checked { plan.command ≡ Check → AreSame P.disks parts.repositories.items result.parts.repositories.items }
     ensures audited { plan.command ≡ Audit → AreSame P.disks parts.repositories.items result.parts.repositories.items }
+    // Each repository's history is sound by the one with which it began, and each item of its trace is exact, where nothing had still to
+    // be settled.
+    ensures histories { AreHistoriesIf P.disks parts.repositories.items result.traces }
 {
     let StoreParts { repositories } = parts;
     let answered = answer_in_turn(alloc, &plan, source, repositories);

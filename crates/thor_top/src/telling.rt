@@ -1,6 +1,8 @@
 //! What is replied of a run that was made.
 
-ghost use Rattle.std.specs.Prelude.{IfOk, ◌≡◌};
+ghost use Rattle.std.specs.Prelude.{IfErr, IfOk, [], ◌≡◌};
+ghost use Rattle.thor_top.specs.Stages.{AreTracesOf, IsToldOf, TracesOf};
+ghost use Rattle.top_judging.specs.Stages.{RepliesUnsettled};
 ghost use Rattle.thor_value.specs.FiniteMap.{IsSorted};
 ghost use Rattle.top_reply.specs.Reports.{IsReported};
 
@@ -10,9 +12,11 @@ use disk_trait::Parts;
 use repo_trace::Traces;
 use std::alloc::Global;
 use std::mem;
+use store_opening::ClusterFault;
 use thor_value::NoMemory;
+use top_judging::unsettled;
 use top_reply::{Reply, report};
-use top_statement::Answered;
+use top_statement::{Answered, unplayed};
 
 /// What is replied of what was run, where it is as expected.
 fn reported(
@@ -21,7 +25,8 @@ fn reported(
     ran: Result<Ran, NoMemory>,
 ) -> (Result<Reply, NoMemory>, Traces)
     requires { IsSorted expected.now.opened.store.objects }
-    ensures { IfOk result.0 (IsReported expected.now.running expected.now.form expected.now.opened.schemas expected.now.opened.store expected.now.script) }
+    ensures reply { IfOk result.0 (IsReported expected.now.running expected.now.form expected.now.opened.schemas expected.now.opened.store expected.now.script) }
+    ensures traces { TracesOf ran result.1 }
 {
     match ran {
         Ok(
@@ -50,14 +55,11 @@ fn reported(
 
 /// What is replied of a run, with the parts. The program ends behind it: the script, the store and the outcomes are left to
 /// the system, not let go of piece by piece.
-pub(crate) fn told<P: Parts>(
-    alloc: Global,
-    expected: Expected,
-    finished: Finished<P>,
-) -> Answered<P>
+fn told<P: Parts>(alloc: Global, expected: Expected, finished: Finished<P>) -> Answered<P>
     requires { IsSorted expected.opened.store.objects }
     ensures reply { IfOk result.reply (IsReported expected.running expected.form expected.opened.schemas expected.opened.store expected.script) }
     ensures parts { result.parts ≡ finished.parts }
+    ensures traces { TracesOf finished.ran result.traces }
 {
     let Finished { parts, ran } = finished;
     let (reply, traces) = reported(alloc, &expected, ran);
@@ -66,5 +68,34 @@ pub(crate) fn told<P: Parts>(
         reply,
         parts,
         traces,
+    }
+}
+
+/// What is replied where the store couldn't be opened, with the parts.
+fn unopened<P: Parts>(alloc: Global, expected: Expected, fault: ClusterFault<P>) -> Answered<P>
+    ensures reply { IfOk result.reply RepliesUnsettled }
+    ensures parts { result.parts ≡ fault.parts }
+    ensures traces { result.traces ≡ [] }
+{
+    let ClusterFault { parts, why } = fault;
+    drop(expected);
+    unplayed(alloc, unsettled(why), parts)
+}
+
+/// What is replied where a run was asked for, with the parts.
+pub(crate) fn replied<P: Parts>(
+    alloc: Global,
+    expected: Expected,
+    played: Result<Finished<P>, ClusterFault<P>>,
+) -> Answered<P>
+    requires { IsSorted expected.opened.store.objects }
+    ensures reply { IfOk result.reply (IsToldOf expected) }
+    ensures ok { IfOk played (λ finished. result.parts ≡ finished.parts) }
+    ensures err { IfErr played (λ fault. result.parts ≡ fault.parts) }
+    ensures traces { AreTracesOf played result.traces }
+{
+    match played {
+        Ok(finished) => told(alloc, expected, finished),
+        Err(fault) => unopened(alloc, expected, fault),
     }
 }

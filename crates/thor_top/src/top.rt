@@ -1,9 +1,11 @@
 ghost use Rattle.audit_check.specs.declared.disagreement.Disagreement.{Disagreement};
+ghost use Rattle.cluster_core.specs.Histories.{AreHistoriesIf};
 ghost use Rattle.outside.specs.Faults.{Rose};
 ghost use Rattle.repo_opening.specs.Same.{AreSame};
 ghost use Rattle.script_parse.specs.declared.refusal.Refusal.{Refusal};
 ghost use Rattle.std.specs.Prelude.{Bool, List, Ok, Some, vec_len, ℕ, ◌≡◌};
 ghost use Rattle.store_opening.specs.Reading.{ReadAll};
+ghost use Rattle.thor_top.specs.Stages.{IsInTurn};
 ghost use Rattle.top_statement.specs.Kept.{RefusesBy};
 ghost use Rattle.top_statement.specs.Top.{IsNoPlan, IsPlan, SaysAccepted, SaysDamaged, SaysDisagrees, SaysDisk, SaysLegal, SaysLimit, SaysNoReport, SaysRefused, SaysRun, SaysSource, SaysWords, told_by};
 ghost use Rattle.top_statement.specs.Written.{Wrote};
@@ -11,7 +13,8 @@ ghost use Rattle.top_words.specs.Words.{plan_of};
 ghost use Rattle.top_words.specs.declared.command.Command.TheVariants.{Audit, Check};
 ghost use Rattle.top_words.specs.declared.command.Plan.{Plan};
 
-use crate::answering::{Runtime, answer};
+use crate::answering::answer;
+use crate::running::Runtime;
 use disk_trait::Parts;
 use outside::{Gate, Sink, Source};
 use std::alloc::Global;
@@ -72,6 +75,9 @@ pub fn thor<R: Threads + Wait + Sync, S: Source, K: Sink, P: Parts + Send, G: Ga
     ensures refused { RefusesBy result.reply → AreSame P.disks parts.repositories.items result.parts.repositories.items }
     ensures checked { (plan : Plan) → plan_of words.now ≡ Some plan → plan.command ≡ Check → AreSame P.disks parts.repositories.items result.parts.repositories.items }
     ensures audited { (plan : Plan) → plan_of words.now ≡ Some plan → plan.command ≡ Audit → AreSame P.disks parts.repositories.items result.parts.repositories.items }
+    // Each repository's history is sound by the one with which it began, and each item of its trace is exact, where the run is made on one
+    // thread and nothing had still to be settled.
+    ensures histories { (plan : Plan) → plan_of words.now ≡ Some plan → IsInTurn plan.command → AreHistoriesIf P.disks parts.repositories.items result.traces }
 {
     let runtime = Runtime { rt, gate };
     let StoreParts { repositories } = parts;

@@ -1,7 +1,7 @@
 //! What the program has to write, with the parts.
 
 ghost use Rattle.repo_opening.specs.Same.{AreSame};
-ghost use Rattle.std.specs.Prelude.{false, length, true, vec_len, ◌≡◌};
+ghost use Rattle.std.specs.Prelude.{[], false, length, true, vec_len, ◌≡◌};
 
 use disk_trait::Parts;
 use repo_trace::Traces;
@@ -44,6 +44,7 @@ pub struct Outcome<P> {
 pub fn unplayed<P>(alloc: Global, reply: Result<Reply, NoMemory>, parts: Vec<P>) -> Answered<P>
     ensures reply { result.reply ≡ reply }
     ensures parts { result.parts ≡ parts }
+    ensures traces { result.traces ≡ [] }
 {
     Answered {
         reply,
@@ -62,6 +63,7 @@ pub fn untouched<P: Parts>(
     ensures reply { result.reply ≡ reply }
     ensures parts { vec_len result.parts ≡ vec_len parts }
     ensures same { AreSame P.disks parts.items result.parts.items }
+    ensures traces { result.traces ≡ [] }
 {
     unplayed(alloc, reply, parts)
 }

@@ -100,6 +100,7 @@ pub fn write_answer<K: Sink, P>(alloc: Global, sink: &mut K, answered: Answered<
     ensures nothing { result.status ≡ Status.NoMemory → K.taken sink.new ≡ K.taken sink.old }
     ensures reply { IfOk result.reply (λ written. answered.reply ≡ Ok written) }
     ensures parts { result.parts.repositories ≡ answered.parts }
+    ensures traces { result.traces ≡ answered.traces }
 {
     let Answered {
         reply,

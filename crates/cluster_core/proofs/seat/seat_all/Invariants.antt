@@ -3,5 +3,5 @@ use Rattle.std.specs.Vec.Iter.{into_iter_len}
 use Rattle.cluster_core.proofs.seat.seat_all.Given as goal
 
 -- one for each so far, and room for the rest
-abbrev pub invariant-loop-closed : goal.invariant-loop-closed
-invariant-loop-closed g l = (vec_len l.seats + into_iter_len l.closed-iterator ≡ into_iter_len l.initial.closed-iterator) × (vec_len l.seats + into_iter_len l.closed-iterator ≤ vec_capacity l.seats)
+abbrev pub invariant-loop-site : goal.invariant-loop-site
+invariant-loop-site g l = (vec_len l.seats + into_iter_len l.site-iterator ≡ into_iter_len l.initial.site-iterator) × (vec_len l.seats + into_iter_len l.site-iterator ≤ vec_capacity l.seats)

@@ -1,5 +1,6 @@
-use Rattle.std.proofs.Common.{Err, IfOk, Result, refl, subst, sym, vec_len}
+use Rattle.std.proofs.Common.{Err, IfOk, Result, inl, refl, subst, sym, vec_len}
 use Rattle.store_opening.specs.Reading.{ReadAll}
+use Rattle.thor_top.proofs.HistoryLaws.{one_in_turn}
 use Rattle.thor_top.proofs.ReplyLaws.{audit_writes, check_writes, no_words, one_audit, one_check, words_say, writes_nothing}
 use Rattle.thor_value.specs.declared.memory.NoMemory.{NoMemory}
 use Rattle.top_judging.proofs.StageLaws.{ok_map}
@@ -28,6 +29,15 @@ returns-in-Ok-clause-checked g c = λ p is check. c.answer_plan.ensures.kept (ch
 
 pub returns-in-Ok-clause-audited : goal.returns-in-Ok-clause-audited
 returns-in-Ok-clause-audited g c = λ p is audit. c.answer_plan.ensures.kept (audit_writes c.in-Ok.plan.command c.answer_plan.result.reply (one_audit c.args.words.now c.in-Ok.plan p c.in-Ok.ensures is audit))
+
+pub returns-in-Ok-clause-histories : goal.returns-in-Ok-clause-histories
+returns-in-Ok-clause-histories g c = λ p is turn. c.answer_plan.ensures.histories (one_in_turn c.args.words.now c.in-Ok.plan p c.in-Ok.ensures is turn)
+
+pub returns-in-Err-Words-clause-histories : goal.returns-in-Err-Words-clause-histories
+returns-in-Err-Words-clause-histories g c = λ p is turn. inl c.untouched.ensures.traces
+
+pub returns-in-Err-NoMemory-clause-histories : goal.returns-in-Err-NoMemory-clause-histories
+returns-in-Err-NoMemory-clause-histories g c = λ p is turn. inl c.untouched.ensures.traces
 
 pub returns-in-Err-Words-clause-reply : goal.returns-in-Err-Words-clause-reply
 returns-in-Err-Words-clause-reply g c =

@@ -1,9 +1,10 @@
 use Rattle.std.proofs.Common.{IfOk, Result, arith, refl, subst, sym, vec_len, ◌≡◌}
 use Rattle.store_opening.specs.Reading.{ReadAll}
-use Rattle.thor_top.proofs.StageLaws.{for_store, foretells_map}
+use Rattle.thor_top.proofs.StageLaws.{for_store, foretells_map, ok_always}
 use Rattle.thor_top.specs.Stages.{Foretells}
 use Rattle.thor_value.specs.declared.memory.NoMemory.{NoMemory}
-use Rattle.top_judging.proofs.StageLaws.{err_map, none_says, ok_map, script_says}
+use Rattle.top_judging.proofs.StageLaws.{err_map, none_says, ok_map, script_says, unsettled_replies}
+use Rattle.top_judging.specs.Stages.{RepliesUnsettled}
 use Rattle.top_judging.specs.Origins.{RepliesUnreadFor}
 use Rattle.top_reply.specs.declared.reply.Reply.{Reply}
 use Rattle.top_statement.specs.Top.{IsForOthers, IsHanded, RepliesTo, Says, Told, origin_of, told_by}
@@ -33,6 +34,19 @@ returns-in-Ok-clause-foretells g c =
     ok_map c.begin_script.result (λ run. Foretells replied run.expected) (λ run. Foretells says run.expected)
     (λ run. foretells_map replied says run.expected (script_says D (IsHanded plan count) (IsForOthers plan count) plan handed before after c.in-Ok.script c.in-Ok.ensures.script))
     c.begin_script.ensures.foretells
+
+pub returns-in-Ok-clause-fails : goal.returns-in-Ok-clause-fails
+returns-in-Ok-clause-fails g c =
+    let D = ReadAll g.P.Parts.disks c.args.parts.items in
+    let plan = c.args.plan.now in
+    let count = vec_len c.args.parts in
+    let before : Told = told_by g.S.Source.left g.S.Source.faults c.args.source.now in
+    let after : Told = told_by g.S.Source.left g.S.Source.faults c.script_of.new.source in
+    let same = c.if-not-are_parts_of.ensures.same refl in
+    let repos : plan.repos ≡ count = omega (arith, same, c.as_slice.ensures.len) in
+    let handed : IsHanded plan count plan = record { same = refl; repos_are = repos } in
+    ok_always c.begin_script.result ((w : Reply) → RepliesUnsettled w → Says D (IsHanded plan count) (IsForOthers plan count) before after w)
+    (λ w failed. script_says D (IsHanded plan count) (IsForOthers plan count) plan handed before after c.in-Ok.script c.in-Ok.ensures.script w (unsettled_replies D plan c.in-Ok.script w failed))
 
 pub returns-in-Ok-clause-reply : goal.returns-in-Ok-clause-reply
 returns-in-Ok-clause-reply g c =

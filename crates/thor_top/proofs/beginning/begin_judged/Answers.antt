@@ -15,24 +15,24 @@ returns-in-Some-clause-foretells g c = λ given stored.
     let run_told = RepliesRun D (running_of plan.command) form plan.repos c.args.script in
     let fits = fits_disks D c.args.script.setup c.args.judged.found.store stored c.requires.judged.fits in
     let replied = RepliesTo D plan c.args.script in
-    ok_map c.open_run.result (λ run. Foretells run_told run.expected) (λ run. Foretells replied run.expected)
+    ok_map c.run_on.result (λ run. Foretells run_told run.expected) (λ run. Foretells replied run.expected)
     (λ run. foretells_map run_told replied run.expected (run_replies D plan c.args.script form c.in-Some.ensures c.requires.judged.within fits))
-    (c.open_run.ensures.foretells given stored)
+    (c.run_on.ensures.foretells given stored)
 
 pub returns-in-Some-clause-played : goal.returns-in-Some-clause-played
-returns-in-Some-clause-played g c = ok_always c.open_run.result (IsPlayed c.args.plan.now.command) (c.in-Some.form, c.in-Some.ensures)
+returns-in-Some-clause-played g c = ok_always c.run_on.result (IsPlayed c.args.plan.now.command) (c.in-Some.form, c.in-Some.ensures)
 
 pub returns-in-Some-clause-reply : goal.returns-in-Some-clause-reply
 returns-in-Some-clause-reply g c = λ given stored.
     let D = ReadAll g.P.Parts.disks given in
     let plan = c.args.plan.now in
-    err_map c.open_run.result (λ a. IfOk a.reply RepliesUnsettled) (λ a. IfOk a.reply (RepliesTo D plan c.args.script))
-    (λ a. ok_map a.reply RepliesUnsettled (RepliesTo D plan c.args.script) (unsettled_replies D plan c.args.script)) c.open_run.ensures.reply
+    err_map c.run_on.result (λ a. IfOk a.reply RepliesUnsettled) (λ a. IfOk a.reply (RepliesTo D plan c.args.script))
+    (λ a. ok_map a.reply RepliesUnsettled (RepliesTo D plan c.args.script) (unsettled_replies D plan c.args.script)) c.run_on.ensures.reply
 
 pub returns-in-Some-clause-kept : goal.returns-in-Some-clause-kept
 returns-in-Some-clause-kept g c = λ given has.
-    err_map c.open_run.result (λ a. IfOk a.reply RepliesUnsettled) _
-    (λ a failed. λ writes. absurd (unsettled_writes c.args.plan.now.command a.reply (c.in-Some.form, c.in-Some.ensures) failed writes)) c.open_run.ensures.reply
+    err_map c.run_on.result (λ a. IfOk a.reply RepliesUnsettled) _
+    (λ a failed. λ writes. absurd (unsettled_writes c.args.plan.now.command a.reply (c.in-Some.form, c.in-Some.ensures) failed writes)) c.run_on.ensures.reply
 
 pub checked-answered-requires-clause-command : goal.checked-answered-requires-clause-command
 checked-answered-requires-clause-command g c = no_form c.args.plan.now.command c.requires.store c.in-None.ensures

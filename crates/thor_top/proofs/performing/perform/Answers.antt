@@ -17,3 +17,6 @@ returns-clause-checked g c = λ check. rw c.write_answer.ensures.parts
 pub returns-clause-audited : goal.returns-clause-audited
 returns-clause-audited g c = λ audit. rw c.write_answer.ensures.parts
     (c.answer_in_turn-answered.ensures.kept (audit_writes c.args.plan.command c.answer_in_turn-answered.result.reply audit))
+
+pub returns-clause-histories : goal.returns-clause-histories
+returns-clause-histories g c = rw c.write_answer.ensures.traces c.answer_in_turn-answered.ensures.histories

@@ -48,3 +48,6 @@ returns-clause-disagrees g c = λ at. gives c.answer-answered.result.reply c.wri
 
 pub returns-clause-no_report : goal.returns-clause-no_report
 returns-clause-no_report g c = λ line. gives c.answer-answered.result.reply c.write_answer.result.reply (reply.NoReport line) _ c.write_answer.ensures.reply c.answer-answered.ensures.reply
+
+pub returns-clause-histories : goal.returns-clause-histories
+returns-clause-histories g c = λ p is turn. rw c.write_answer.ensures.traces (c.answer-answered.ensures.histories p is turn)

@@ -1,0 +1,6 @@
+use Rattle.cluster_port.specs.Lent.{AreInPlace}
+use Rattle.std.proofs.Common.{vec_len, ◌≡◌}
+use Rattle.cluster_core.proofs.draining.bring_each_up.Given as goal
+
+abbrev pub invariant-loop-place : goal.invariant-loop-place
+invariant-loop-place g l = AreInPlace l.sites.items × (vec_len l.sites ≡ vec_len l.fn.sites)

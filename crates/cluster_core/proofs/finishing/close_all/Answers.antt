@@ -1,0 +1,28 @@
+use Rattle.cluster_core.proofs.Ending.{none_told, told_next, told_right}
+use Rattle.cluster_core.proofs.Seating.{number_next, numbered, numbers_left}
+use Rattle.cluster_core.specs.Seated.{AreNumbered}
+use Rattle.std.proofs.Common.{arith, subst, sym, vec_len, ℕ}
+use Rattle.std.specs.Vec.Iter.{into_iter_items}
+use Rattle.cluster_core.proofs.finishing.close_all.Goals as goal
+
+pub loop-site-init : goal.loop-site-init
+loop-site-init g c = (
+  omega (arith, c.requires.empty),
+  omega (arith, c.requires.empty, c.requires.room),
+  subst (λ (n : ℕ). AreNumbered n (into_iter_items c.into_iter-site-iterator.result)) (sym c.requires.empty) (subst (AreNumbered 0) (sym c.into_iter-site-iterator.ensures.into_iter_gives.0) (numbered c.args.sites.items c.requires.placed)),
+  none_told g.O.Opening.run c.new.result (vec_len c.args.spare) c.new.ensures c.requires.empty,
+)
+
+pub loop-site-preserved : goal.loop-site-preserved
+loop-site-preserved g c =
+    let inv = c.loop-site.invariant in
+    let next = c.in-Some.ensures.steps in
+    let number = number_next _ (into_iter_items c.loop-site.site-iterator) (into_iter_items c.next.new.self) c.in-Some.site next.0 inv.2 in (
+      omega (arith, inv.0, next.1, c.push_reserved.ensures.len),
+      omega (arith, inv.1, next.1, c.push_reserved.ensures.len, c.push_reserved.ensures.capacity),
+      numbers_left (vec_len c.loop-site.parts) (vec_len c.push_reserved.new.self) (into_iter_items c.loop-site.site-iterator) (into_iter_items c.next.new.self) c.in-Some.site next.0 (omega (arith, c.push_reserved.ensures.len)) inv.2,
+      told_next g.O.Opening.run c.loop-site.traces c.with_trace.result (vec_len c.loop-site.parts) (vec_len c.push_reserved.new.self) c.close-part.result.1 c.in-Some.site.number c.with_trace.ensures inv.3 number (omega (arith, c.push_reserved.ensures.len)) c.close-part.ensures,
+    )
+
+pub returns-clause-right : goal.returns-clause-right
+returns-clause-right g c = told_right g.O.Opening.run _ c.loop-site.traces c.loop-site.invariant.3

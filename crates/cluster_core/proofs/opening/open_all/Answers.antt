@@ -1,0 +1,25 @@
+use Rattle.cluster_core.proofs.Seating.{begun_left, length_more, next_one, none_left, none_seated, recovered_all, recovered_next, seated_next}
+use Rattle.cluster_core.specs.Seated.{AreBegun, IsSeatedAt}
+use Rattle.std.proofs.Common.{arith, length, subst, sym, ℕ, ◌≡◌}
+use Rattle.std.specs.Vec.Iter.{into_iter_items}
+use Rattle.cluster_core.proofs.opening.open_all.Goals as goal
+
+pub loop-closed-preserved : goal.loop-closed-preserved
+loop-closed-preserved g c =
+    let inv = c.loop-closed.invariant in
+    let next = c.in-Some.ensures.steps in
+    let seat = c.open_behind-seat.result.0 in
+    let place : c.len-place.result ≡ length c.loop-closed.done.items = omega (arith, c.len-place.ensures, c.loop-closed.done.ok.0) in
+    let more = length_more c.loop-closed.done.items c.push_reserved.new.self.items seat c.push_reserved.ensures.items in (
+      omega (arith, inv.0, next.1, c.push_reserved.ensures.len),
+      omega (arith, inv.1, next.1, c.push_reserved.ensures.len, c.push_reserved.ensures.capacity),
+      next_one c.loop-closed.yielded (into_iter_items c.loop-closed.closed-iterator) (into_iter_items c.next.new.self) c.args.places.items c.in-Some.closed inv.2 next.0,
+      seated_next c.loop-closed.done.items c.push_reserved.new.self.items seat c.push_reserved.ensures.items inv.3 (subst (λ (n : ℕ). IsSeatedAt n seat) place c.open_behind-seat.ensures.seated),
+      begun_left g.O.Opening.run c.len-repos.result _ _ (into_iter_items c.loop-closed.closed-iterator) (into_iter_items c.next.new.self) c.in-Some.closed next.0 more inv.4,
+      recovered_next g.P.Parts.disks c.loop-closed.opened c.open_behind-seat.result.1 c.loop-closed.yielded c.in-Some.closed inv.5 c.open_behind-seat.ensures.before c.open_behind-seat.ensures.recovered,
+    )
+
+pub returns-clause-recovered : goal.returns-clause-recovered
+returns-clause-recovered g c =
+    let inv = c.loop-closed.invariant in
+    recovered_all g.P.Parts.disks c.loop-closed.opened c.loop-closed.yielded (into_iter_items c.loop-closed.closed-iterator) c.args.places.items inv.2 (none_left c.loop-closed.closed-iterator c.next.new.self c.in-None.ensures.steps) inv.5

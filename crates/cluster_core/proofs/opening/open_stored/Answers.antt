@@ -1,0 +1,6 @@
+use Rattle.cluster_core.proofs.Seating.{on_ok_of}
+use Rattle.cluster_core.specs.Seated.{AreRecovered}
+use Rattle.cluster_core.proofs.opening.open_stored.Goals as goal
+
+pub returns-in-Some-clause-recovered : goal.returns-in-Some-clause-recovered
+returns-in-Some-clause-recovered g c = on_ok_of c.open_all-seats.result.1 c.with.result (AreRecovered g.P.Parts.disks c.args.places.items) c.open_all-seats.ensures.recovered c.with.ensures

@@ -1,0 +1,16 @@
+use Rattle.cluster_core.proofs.Seating.{length_more, open_left, placed_next, seated_left}
+use Rattle.std.proofs.Common.{arith}
+use Rattle.std.specs.Vec.Iter.{into_iter_items}
+use Rattle.cluster_core.proofs.seat.take_all.Goals as goal
+
+pub loop-seat-preserved : goal.loop-seat-preserved
+loop-seat-preserved g c =
+    let inv = c.loop-seat.invariant in
+    let next = c.in-Some.ensures.steps in
+    let more = length_more c.loop-seat.sites.items c.push_reserved.new.self.items c.take.result c.push_reserved.ensures.items in (
+      omega (arith, inv.0, next.1, c.push_reserved.ensures.len),
+      omega (arith, inv.1, next.1, c.push_reserved.ensures.len, c.push_reserved.ensures.capacity),
+      placed_next c.loop-seat.sites.items c.push_reserved.new.self.items c.take.result c.push_reserved.ensures.items (omega (arith, c.take.ensures, c.len-place.ensures, c.loop-seat.sites.ok.0)) inv.2,
+      seated_left _ _ (into_iter_items c.loop-seat.seat-iterator) (into_iter_items c.next.new.self) c.in-Some.seat next.0 more inv.3,
+      open_left (into_iter_items c.loop-seat.seat-iterator) (into_iter_items c.next.new.self) c.in-Some.seat next.0 inv.4,
+    )

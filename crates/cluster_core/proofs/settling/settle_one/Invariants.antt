@@ -1,0 +1,6 @@
+use Rattle.cluster_port.specs.Lent.{AreInPlace}
+use Rattle.std.proofs.Common.{vec_len, ◌≡◌}
+use Rattle.cluster_core.proofs.settling.settle_one.Given as goal
+
+abbrev pub invariant-loop : goal.invariant-loop
+invariant-loop g l = AreInPlace l.sites.items × (vec_len l.sites ≡ vec_len l.fn.sites)

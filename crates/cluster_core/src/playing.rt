@@ -1,0 +1,91 @@
+//! A store that was found is opened and played on.
+
+ghost use Rattle.cluster_core.specs.Counts.{parts_of};
+ghost use Rattle.cluster_core.specs.Seated.{AreRight, IsFoundIn, run_found};
+ghost use Rattle.std.specs.Prelude.{IfErr, IfOk, IsErr, vec_len, ◌≡◌};
+ghost use Rattle.store_opening.specs.Counts.{parts_in};
+
+use crate::cluster::Cluster;
+use crate::finishing::Finished;
+use crate::plan::Plan;
+use disk_trait::Parts;
+use repo_site::Opening;
+use schedule::Event;
+use std::alloc::Global;
+use std::marker::Brand;
+use store_opening::{ClusterFault, Found};
+use thor_value::NoMemory;
+
+/// Opens what was found with the clients of a plan, performs the events one after the other and then all that is left of the items,
+/// and ends the run.
+pub fn play<P: Parts>(
+    alloc: Global,
+    found: Found<P>,
+    plan: Plan,
+    events: &[Event],
+) -> Result<Finished<P>, ClusterFault<P>>
+    ensures parts { IfOk result (λ finished. vec_len finished.parts ≡ parts_in found) }
+    ensures err { IfErr result (λ fault. vec_len fault.parts ≡ parts_in found) }
+    // What was recorded at each repository is right by what was found there, where nothing has still to be settled.
+    ensures right { IfOk result (λ finished. IfOk finished.ran (λ ran. AreRight (run_found found plan.start) 0 ran.traces)) }
+    ensures found { IfOk result (λ _. IsFoundIn P.disks found plan.start) }
+{
+    played::<P, Brand>(alloc, found, plan, events)
+}
+
+/// The same, where what was found is the run that `O` has.
+fn played<P: Parts, O: Opening>(
+    alloc: Global,
+    found: Found<P>,
+    plan: Plan,
+    events: &[Event],
+) -> Result<Finished<P>, ClusterFault<P>>
+    requires { O.run ≡ run_found found plan.start }
+    ensures parts { IfOk result (λ finished. vec_len finished.parts ≡ parts_in found) }
+    ensures err { IfErr result (λ fault. vec_len fault.parts ≡ parts_in found) }
+    ensures right { IfOk result (λ finished. IfOk finished.ran (λ ran. AreRight O.run 0 ran.traces)) }
+    ensures found { IfOk result (λ _. IsFoundIn P.disks found plan.start) }
+{
+    match Cluster::<P, O>::open(alloc, found, plan) {
+        Ok(cluster) => Ok(run(cluster, events)),
+        Err(fault) => Err(fault),
+    }
+}
+
+/// Performs the events one after the other, and then all that is left of the items, and ends the run.
+fn run<P: Parts, O: Opening>(cluster: Cluster<P, O>, events: &[Event]) -> Finished<P>
+    ensures parts { vec_len result.parts ≡ parts_of cluster }
+    ensures right { IfOk result.ran (λ ran. AreRight O.run 0 ran.traces) }
+{
+    let mut cluster = cluster;
+    match perform(&mut cluster, events) {
+        Ok(()) => cluster.finish(),
+        Err(NoMemory) => without_run(cluster.finish()),
+    }
+}
+
+/// What is left of a run for which memory wasn't there: the parts.
+pub fn without_run<P: Parts>(finished: Finished<P>) -> Finished<P>
+    ensures parts { result.parts ≡ finished.parts }
+    ensures ran { IsErr result.ran }
+{
+    let Finished { parts, ran } = finished;
+    drop(ran);
+    Finished {
+        parts,
+        ran: Err(NoMemory),
+    }
+}
+
+/// Performs the events one after the other, and then all that is left of the items.
+fn perform<P: Parts, O: Opening>(
+    cluster: &mut Cluster<P, O>,
+    events: &[Event],
+) -> Result<(), NoMemory>
+    ensures { parts_of cluster.new ≡ parts_of cluster.old }
+{
+    for event in events {
+        cluster.event(*event)?;
+    }
+    cluster.drain()
+}

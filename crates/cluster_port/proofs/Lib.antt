@@ -1,0 +1,3 @@
+mod Happening
+pub mod Lending
+pub mod Placing

@@ -1,0 +1,9 @@
+use Rattle.client_port.specs.Works.{GrantWork}
+use Rattle.cluster_port.proofs.Lending.{as_lent}
+use Rattle.cluster_port.specs.Lent.{view_of}
+use Rattle.cluster_port.proofs.lent.LentSitesPort.grant.Goals as goal
+
+pub returns : goal.returns
+returns g c = record {
+  call = λ based. as_lent g.O.Opening.run c.self.inside.client c.self.inside.sites.items c.args.self.now (view_of g.O.Opening.run c.self.inside.client c.grant.new.sites.items) c.args.at.repo c.grant.result (GrantWork c.args.at.session c.grant.result) c.self.view_is (c.grant.ensures.does based c.self.inside.client);
+}

@@ -1,0 +1,61 @@
+-- What is told of the repositories of a run, and what is replied of it.
+use Rattle.cluster_core.specs.Histories.{AreHistories, AreHistoriesIf}
+use Rattle.cluster_core.specs.Seated.{AreRight, IsFound, run_of}
+use Rattle.cluster_core.specs.declared.finishing.Finished.{Finished}
+use Rattle.cluster_core.specs.declared.finishing.Ran.{Ran}
+use Rattle.cluster_core.specs.declared.plan.Start.{Start}
+use Rattle.disk_trait.specs.Disks.{Disks}
+use Rattle.repo_trace.specs.declared.trace.Trace.{Trace}
+use Rattle.std.proofs.Common.{Err, IfErr, IfOk, List, Ok, Result, [], ap, inl, inr, refl, subst, sym, ℕ, ◌∙◌, ◌≡◌}
+use Rattle.std.specs.Prelude.{Some}
+use Rattle.store_opening.specs.Seated.{AreSeated}
+use Rattle.store_opening.specs.declared.closed.Closed.{Closed}
+use Rattle.thor_top.proofs.StageLaws.{told_writes, unsettled_writes}
+use Rattle.thor_top.specs.Stages.{AreTracesOf, Foretells, IsInTurn, IsPlayed, IsToldOf, TracesOf}
+use Rattle.thor_top.specs.declared.expected.Expected.{Expected}
+use Rattle.thor_value.specs.declared.memory.NoMemory.{NoMemory}
+use Rattle.top_judging.specs.Stages.{RepliesUnsettled}
+use Rattle.top_reply.specs.declared.reply.Reply.{Reply}
+use Rattle.top_statement.specs.Kept.{WritesNothing}
+use Rattle.top_words.specs.Words.{plan_of}
+use Rattle.top_words.specs.declared.command.Command.{Command}
+use Rattle.top_words.specs.declared.command.Command.TheVariants.{Run}
+use Rattle.top_words.specs.declared.command.Plan.{Plan}
+
+module _ {P : Type 0} (disks : P → Disks) (given : List P) (places : List (Closed P)) (mob : ℕ) (s : Start) (seated : AreSeated disks given places) (traces : List Trace) where
+  of_ran : {E : Type 0} (ran : Result Ran E) → TracesOf ran traces → IfOk ran (λ r. AreRight (run_of places mob s) 0 r.traces) → IsFound disks places s → AreHistoriesIf disks given traces
+  of_ran (Err e) is right stands = inl is
+  of_ran (Ok r) is right stands = inr (record { places = places; mob = mob; start = s; seated = seated; found = stands; right = subst (AreRight (run_of places mob s) 0) (sym is) right })
+
+  -- those of a run that was made on what was found
+  pub of_played : {E : Type 0} (played : Result (Finished P) E) → AreTracesOf played traces → IfOk played (λ f. IfOk f.ran (λ r. AreRight (run_of places mob s) 0 r.traces)) → IfOk played (λ _. IsFound disks places s) → AreHistoriesIf disks given traces
+  of_played (Err e) is right stands = inl is
+  of_played (Ok f) is right stands = of_ran f.ran is right stands
+
+-- as many parts come back
+pub many_of : {A B V : Type 0} (len : V → ℕ) (of_ok : A → V) (of_err : B → V) (played : Result A B) (parts : V) (n : ℕ) → IfOk played (λ f. len (of_ok f) ≡ n) → IfErr played (λ f. len (of_err f) ≡ n) → IfOk played (λ f. parts ≡ of_ok f) → IfErr played (λ f. parts ≡ of_err f) → len parts ≡ n
+many_of len of_ok of_err (Ok f) parts n ok err same_ok same_err = ap len same_ok ∙ ok
+many_of len of_ok of_err (Err f) parts n ok err same_ok same_err = ap len same_err ∙ err
+
+-- ---- what is replied
+
+pub told_says : (Says : Reply → Type 0) (e : Expected) (r : Result Reply NoMemory) → Foretells Says e → ((w : Reply) → RepliesUnsettled w → Says w) → IfOk r (IsToldOf e) → IfOk r Says
+told_says Says e (Err n) foretells fails told = tt
+told_says Says e (Ok w) foretells fails (inl reported) = foretells.says w reported
+told_says Says e (Ok w) foretells fails (inr failed) = fails w failed
+
+pub told_writes_not : (c : Command) (e : Expected) (r : Result Reply NoMemory) → IsPlayed c → IfOk r (IsToldOf e) → WritesNothing c r → ⊥
+told_writes_not c e (Err n) played told writes = told_writes c e.running e.form e.opened.schemas e.opened.store e.script (Err n) played tt writes
+told_writes_not c e (Ok w) played (inl reported) writes = told_writes c e.running e.form e.opened.schemas e.opened.store e.script (Ok w) played reported writes
+told_writes_not c e (Ok w) played (inr failed) writes = unsettled_writes c (Ok w) played failed writes
+
+-- ---- by the command
+
+pub not_in_turn : (c : Command) → c ≡ Run → IsInTurn c → ⊥
+not_in_turn c is turn = subst IsInTurn is turn
+
+same_plan : (x y : Plan) → Some x ≡ Some y → x ≡ y
+same_plan x y e = cc
+
+pub one_in_turn : (words : List (List ℕ)) (plan p : Plan) → plan_of words ≡ Some plan → plan_of words ≡ Some p → IsInTurn p.command → IsInTurn plan.command
+one_in_turn words plan p is is_p turn = subst (λ (q : Plan). IsInTurn q.command) (same_plan p plan (sym is_p ∙ is)) turn

@@ -1,0 +1,5 @@
+use Rattle.thor_top.proofs.HistoryLaws.{not_in_turn}
+use Rattle.thor_top.proofs.answering.answer_plan.Goals as goal
+
+pub returns-in-Run-clause-histories : goal.returns-in-Run-clause-histories
+returns-in-Run-clause-histories g c = λ turn. absurd (not_in_turn c.args.plan.now.command c.in-Run.is turn)

@@ -1,0 +1,83 @@
+//! A run is made and told.
+
+ghost use Rattle.cluster_core.specs.Histories.{AreHistoriesIf};
+ghost use Rattle.std.specs.Prelude.{IfErr, IfOk, List, vec_len, ◌≡◌};
+ghost use Rattle.store_opening.specs.Counts.{HasParts, parts_in};
+ghost use Rattle.thor_top.specs.Stages.{IsToldOf};
+ghost use Rattle.thor_value.specs.FiniteMap.{IsSorted};
+
+use crate::opening::FoundRun;
+use crate::telling::replied;
+use cluster_core::{Cluster, Finished, Plan as Run, play};
+use cluster_threads::run_clients;
+use disk_trait::Parts;
+use outside::Gate;
+use schedule::Event;
+use std::alloc::Global;
+use std::marker::Brand;
+use std::sync::Wait;
+use std::thread::Threads;
+use store_opening::{ClusterFault, Found};
+use top_statement::Answered;
+
+/// What a run on threads goes by: what starts them, and the gate that their events pass.
+#[derive(Drop)]
+pub struct Runtime<'a, R: Wait, G: Gate> {
+    pub rt: &'a R,
+    pub gate: &'a G,
+}
+
+/// Makes a run, whose events are performed one after the other, and tells it.
+pub(crate) fn run_in_turn<P: Parts>(alloc: Global, run: FoundRun<P>) -> Answered<P>
+    requires { IsSorted run.expected.opened.store.objects }
+    ensures reply { IfOk result.reply (IsToldOf run.expected) }
+    ensures parts { vec_len result.parts ≡ parts_in run.found }
+    ensures histories { (given : List P) → HasParts P.disks given run.found → AreHistoriesIf P.disks given result.traces }
+{
+    let FoundRun {
+        found,
+        run,
+        expected,
+    } = run;
+    let played = play(alloc, found, run, expected.script.events.as_slice());
+    replied(alloc, expected, played)
+}
+
+/// Makes a run that has a thread for each client, and tells it.
+pub(crate) fn run_on_threads<R: Threads + Wait + Sync, P: Parts + Send, G: Gate + Sync>(
+    alloc: Global,
+    runtime: &Runtime<'_, R, G>,
+    run: FoundRun<P>,
+    mob: u32,
+) -> Answered<P>
+    requires { IsSorted run.expected.opened.store.objects }
+    ensures reply { IfOk result.reply (IsToldOf run.expected) }
+    ensures parts { vec_len result.parts ≡ parts_in run.found }
+{
+    let FoundRun {
+        found,
+        run,
+        expected,
+    } = run;
+    let events = expected.script.events.as_slice();
+    let played = play_on_threads(alloc, runtime, found, run, events, mob);
+    replied(alloc, expected, played)
+}
+
+/// Opens what was found, and runs its clients, each in a thread of its own.
+fn play_on_threads<R: Threads + Wait + Sync, P: Parts + Send, G: Gate + Sync>(
+    alloc: Global,
+    runtime: &Runtime<'_, R, G>,
+    found: Found<P>,
+    run: Run,
+    events: &[Event],
+    mob: u32,
+) -> Result<Finished<P>, ClusterFault<P>>
+    ensures parts { IfOk result (λ finished. vec_len finished.parts ≡ parts_in found) }
+    ensures err { IfErr result (λ fault. vec_len fault.parts ≡ parts_in found) }
+{
+    match Cluster::<P, Brand>::open(alloc, found, run) {
+        Ok(cluster) => Ok(run_clients(runtime.rt, alloc, cluster, events, mob, runtime.gate)),
+        Err(fault) => Err(fault),
+    }
+}
