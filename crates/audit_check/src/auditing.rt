@@ -114,7 +114,12 @@ pub fn audit(alloc: Global, script: &Audited, report: Report) -> Result<(), Audi
     requires sorted { IsSorted script.now.opened.objects }
     ensures { Audits script.now report result }
 {
-    let Report { ended, lines } = report;
+    let Report {
+        ended,
+        lines,
+        looks: _,
+        backups: _,
+    } = report;
     let told = told(alloc, script.clients.as_slice(), lines)?;
     audit_told(alloc, script, &told, &ended)
 }

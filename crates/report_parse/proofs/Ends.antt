@@ -24,12 +24,17 @@ use Rattle.report_text.specs.Words.{Word, who_word, ts_word}
 use Rattle.report_text.specs.Report.{outcome_words, effect_words, item_line, history_line, end_line}
 use Rattle.report_text.specs.Shown.{FitsItem, FitsEntry}
 use Rattle.report_text.proofs.Splits.{Above, Plain, above_less, above-append}
-use Rattle.report_text.proofs.PlainWords.{decimal_plain, who_plain, ts_plain, tested_above}
-use Rattle.report_text.proofs.OutcomeWords.{outcome_plain}
+use Rattle.report_text.proofs.PlainWords.{decimal_plain, fault_plain, who_plain, ts_plain, tested_above}
+use Rattle.report_text.proofs.OutcomeWords.{outcome_plain, values_plain}
 use Rattle.report_text.proofs.HistoryWords.{effect_of, effect_plain}
+use Rattle.report_parse.specs.declared.report.Backup.{Backup}
 use Rattle.report_parse.specs.declared.report.Line.{Line}
+use Rattle.report_parse.specs.declared.report.Look.{Look}
+use Rattle.report_parse.specs.declared.report.Looked.{Looked}
+use Rattle.report_parse.specs.declared.report.Looked.TheVariants.{Answered, Writes}
+use Rattle.report_parse.specs.Behind.{looked_words, look_line, backup_line}
 use Rattle.report_parse.specs.Widths.{IsTs, IsOref, IsWho, IsCause, IsOutcome, IsAnswer, IsInt}
-use Rattle.report_parse.specs.Reports.{IsItem, IsLine, entry_of, ended_lines}
+use Rattle.report_parse.specs.Reports.{IsItem, IsLine, IsLooked, IsLook, IsBackup, entry_of, ended_lines}
 use Rattle.report_parse.proofs.ExactLines.{line_text}
 
 -- ---- what has the widths of its types has 64 bits
@@ -126,6 +131,23 @@ line_text_is l h =
     let f = entry_fits l h in
     let others : List Word = who_word l.who ∷ effect_words l.number l.fresh l.answer in
     (ts_word l.ts ++ spaced_words others, line_is (ts_word l.ts) others (ts_plain l.ts f.ts) (who_plain l.who f.who, effect_plain l.number l.fresh l.answer (effect_of (entry_of l) f)))
+
+looked_plain : (l : Looked) → IsLooked l → Plain (looked_words l)
+looked_plain (Answered (Ints values)) h = values_plain values (answer_fits (Ints values) h)
+looked_plain (Answered (Fault f)) h = (tested_above 32 (codes "!") refl, (fault_plain f, tt))
+looked_plain Writes h = (tested_above 32 (codes "writes") refl, tt)
+
+pub look_line_is : (l : Look) → IsLook l → IsALine (look_line l)
+unfolding look_line
+look_line_is l h =
+    let others : List Word = decimal l.number ∷ ts_word l.ts ∷ looked_words l.looked in
+    (codes "look" ++ spaced_words others, line_is (codes "look") others (tested_above 32 (codes "look") refl) (decimal_plain l.number (omega (arith, h.number)), (ts_plain l.ts (ts_fits l.ts h.ts), looked_plain l.looked h.looked)))
+
+pub backup_line_is : (b : Backup) → IsBackup b → IsALine (backup_line b)
+unfolding backup_line
+backup_line_is b h =
+    let others : List Word = decimal b.repo ∷ decimal b.place ∷ [] in
+    (codes "backup" ++ spaced_words others, line_is (codes "backup") others (tested_above 32 (codes "backup") refl) (decimal_plain b.repo (omega (arith, h.repo)), (decimal_plain b.place h.place, tt)))
 
 pub end_line_is : (n : ℕ) → n < 2 ^ 64 → IsALine (end_line n)
 end_line_is n h = (codes "end" ++ spaced_words (decimal n ∷ []), line_is (codes "end") (decimal n ∷ []) (tested_above 32 (codes "end") refl) (decimal_plain n h, tt))

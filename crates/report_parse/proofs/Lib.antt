@@ -5,6 +5,7 @@ pub mod ExactWords
 pub mod ExactCauses
 pub mod ExactItems
 pub mod ExactLines
+pub mod ExactBehind
 pub mod Loop
 pub mod Wholes
 pub mod Ends

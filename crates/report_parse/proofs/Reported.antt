@@ -1,5 +1,5 @@
 -- A report's text is one that is printed, and what is printed is the text of a report.
-use Rattle.std.proofs.Common.{◌≡◌, ℕ, List, [], ◌∷◌, map, refl, arith}
+use Rattle.std.proofs.Common.{◌≡◌, ℕ, List, [], ◌∷◌, append-nil, map, refl, sym, ◌∙◌, arith}
 use Rattle.std.specs.List.{AllByRecursion}
 use Rattle.std.proofs.lemmas.List.{length-map}
 use Rattle.std.proofs.lemmas.List.Elements.{All-from_recursion}
@@ -48,4 +48,6 @@ twice_entries [] = refl
 twice_entries (d ∷ history) = λ i. shown_entry d ∷ twice_entries history i
 
 pub printed_is : (ends : List Ended) (history : List Did) → report_text ends history ≡ text_of (report_of ends history)
-printed_is ends history = same_text ends history (map shown_item ends) (map entry_of (map line_of history)) (twice_items ends) (twice_entries history)
+printed_is ends history =
+    same_text ends history (map shown_item ends) (map entry_of (map line_of history)) (twice_items ends) (twice_entries history)
+    ∙ sym (append-nil (report_text (map shown_item ends) (map entry_of (map line_of history))))

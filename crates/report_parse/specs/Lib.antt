@@ -6,4 +6,6 @@ pub mod Words
 pub mod Causes
 pub mod Items
 pub mod HistoryLines
+pub mod Behind
+pub mod BehindLines
 pub mod Whole

@@ -1,6 +1,6 @@
 -- Which reports there are, the text of each, and the line on which bytes stop to be such a text. This project's.
-use Rattle.std.specs.Prelude.{◌≡◌, ◌≢◌, ℕ, ◌<◌, ◌≤◌, ◌^◌, ◌+◌, ◌-◌, min, List, [], ◌++◌, length, map, count_by}
-use Rattle.std.specs.List.{AllByRecursion}
+use Rattle.std.specs.Prelude.{◌≡◌, ◌≢◌, ℕ, ◌<◌, ◌≤◌, ◌^◌, ◌+◌, ◌-◌, min, List, [], ◌++◌, length, map, count_by, ⊤}
+use Rattle.std.specs.List.{AllByRecursion, flat_map}
 use Rattle.thor_value.specs.declared.values.Fault.{Fault as FaultKind}
 use Rattle.thor_value.specs.declared.values.Answer.TheVariants.{Ints, Fault}
 use Rattle.serial_model.specs.declared.entries.Did.{Did}
@@ -13,7 +13,12 @@ use Rattle.script_text.specs.declared.syntax.SyntaxError.TheVariants as errors
 use Rattle.report_text.specs.Report.{report_text}
 use Rattle.report_text.specs.Shown.{shown_tries, shown_item}
 use Rattle.report_parse.specs.declared.report.Report.{Report}
+use Rattle.report_parse.specs.declared.report.Backup.{Backup}
 use Rattle.report_parse.specs.declared.report.Line.{Line}
+use Rattle.report_parse.specs.declared.report.Look.{Look}
+use Rattle.report_parse.specs.declared.report.Looked.{Looked}
+use Rattle.report_parse.specs.declared.report.Looked.TheVariants.{Answered, Writes}
+use Rattle.report_parse.specs.Behind.{look_line, backup_line}
 use Rattle.report_parse.specs.Widths.{IsTs, IsOref, IsWho, IsOutcome, IsAnswer}
 
 -- an entry of a history of which a line tells the same: one with no statements for its item of the script, of
@@ -25,13 +30,17 @@ entry_of l = record { ts = l.ts; who = l.who; what = Tx []; number = l.number; f
 abbrev pub line_of : Did → Line
 line_of d = record { ts = d.ts; who = d.who; number = d.number; fresh = d.fresh; answer = d.answer }
 
--- the text of a report, as it is printed
+-- the text of the lines behind those of the history
+abbrev pub behind_text : Report → List ℕ
+behind_text r = flat_map look_line r.looks ++ flat_map backup_line r.backups
+
+-- the text of a report: as it is printed, and what stands behind that
 abbrev pub text_of : Report → List ℕ
-text_of r = report_text r.ended (map entry_of r.lines)
+text_of r = report_text r.ended (map entry_of r.lines) ++ behind_text r
 
 -- what the report of these outcomes and this history tells
 abbrev pub report_of : List Ended → List Did → Report
-report_of ends history = record { ended = map shown_item ends; lines = map line_of history }
+report_of ends history = record { ended = map shown_item ends; lines = map line_of history; looks = []; backups = [] }
 
 -- an item's outcome as a report tells it: with no tries where it is unknown
 pub record IsItem (e : Ended) : Type 0 where
@@ -51,11 +60,29 @@ pub record IsLine (l : Line) : Type 0 where
   pub fresh : AllByRecursion IsOref l.fresh
   pub answer : IsAnswer l.answer
 
+-- what a look has come to
+abbrev pub IsLooked : Looked → Type 0
+IsLooked (Answered answer) = IsAnswer answer
+IsLooked Writes = ⊤
+
+-- what the line of a look tells
+pub record IsLook (l : Look) : Type 0 where
+  pub number : l.number < 2 ^ 32
+  pub ts : IsTs l.ts
+  pub looked : IsLooked l.looked
+
+-- what the line of a backup tells
+pub record IsBackup (b : Backup) : Type 0 where
+  pub repo : b.repo < 2 ^ 8
+  pub place : b.place < 2 ^ 64
+
 -- what a report tells
 pub record IsReport (r : Report) : Type 0 where
   pub items : AllByRecursion IsItem r.ended
   pub lines : AllByRecursion IsLine r.lines
   pub count : length r.lines < 2 ^ 64
+  pub looks : AllByRecursion IsLook r.looks
+  pub backups : AllByRecursion IsBackup r.backups
 
 -- the text of some report begins with the bytes
 abbrev pub BeginsReport : List ℕ → Type 0

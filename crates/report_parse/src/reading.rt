@@ -6,14 +6,15 @@ ghost use Rattle.script_text.specs.Reading.{Gives};
 ghost use Rattle.script_text.specs.declared.syntax.Syntax.{Syntax};
 ghost use Rattle.script_text.specs.declared.syntax.SyntaxError.TheVariants.{Fault};
 ghost use Rattle.report_parse.specs.Reports.{IsReport, IsStopOf, text_of, StopsOn};
-ghost use Rattle.report_parse.specs.Whole.{after_lines, fault_line, report_or_line, whole_of};
+ghost use Rattle.report_parse.specs.Whole.{after_lines, after_looks, fault_line, report_or_line, whole_of};
 ghost use Rattle.report_parse.specs.Reading.{many};
+ghost use Rattle.report_parse.specs.BehindLines.{look_at};
 ghost use Rattle.report_parse.specs.HistoryLines.{line_at};
 
 use crate::lines::end_at;
 use crate::numbers::stripped;
 use crate::part::read_many;
-use crate::report::{Line, Report};
+use crate::report::{Backup, Line, Lines, Look, Report};
 use crate::unread::Unread;
 use script_text::{Syntax, SyntaxError};
 use serial_model::{Ended, Ends};
@@ -39,6 +40,30 @@ fn fault_at(bytes: &[u8], rest: &[u8]) -> SyntaxError
     SyntaxError::Fault(Syntax { line: line as u32 })
 }
 
+/// Reads what stands behind the last line of the history.
+fn with_looks(
+    alloc: Global,
+    bytes: &[u8],
+    ended: Ends,
+    lines: Lines,
+    rest: &[u8],
+) -> Result<Report, SyntaxError>
+    requires { length bytes.now < 2 ^ 32 }
+    ensures { Gives result (report_or_line bytes.now (after_looks ended lines (many look_at (length rest.now) rest.now))) }
+{
+    let (looks, rest) = read_many::<Look>(alloc, rest)?;
+    let (backups, rest) = read_many::<Backup>(alloc, rest)?;
+    match rest {
+        [] => Ok(Report {
+            ended,
+            lines,
+            looks,
+            backups,
+        }),
+        behind => Err(fault_at(bytes, behind)),
+    }
+}
+
 /// Reads what stands behind the items and the heading of the history.
 fn with_lines(alloc: Global, bytes: &[u8], ended: Ends, rest: &[u8]) -> Result<Report, SyntaxError>
     requires { length bytes.now < 2 ^ 32 }
@@ -46,8 +71,7 @@ fn with_lines(alloc: Global, bytes: &[u8], ended: Ends, rest: &[u8]) -> Result<R
 {
     let (lines, rest) = read_many::<Line>(alloc, rest)?;
     match end_at(lines.len() as u64, rest) {
-        Ok((_, [])) => Ok(Report { ended, lines }),
-        Ok((_, behind)) => Err(fault_at(bytes, behind)),
+        Ok((_, behind)) => with_looks(alloc, bytes, ended, lines, behind),
         Err(Unread::Absent) => Err(fault_at(bytes, rest)),
         Err(Unread::NoMemory) => Err(SyntaxError::NoMemory),
     }
