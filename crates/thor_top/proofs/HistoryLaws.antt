@@ -9,7 +9,7 @@ use Rattle.repo_trace.specs.declared.trace.Trace.{Trace}
 use Rattle.std.proofs.Common.{Err, IfErr, IfOk, List, Ok, Result, [], ap, inl, inr, length, refl, subst, sym, ℕ, ◌∙◌, ◌≡◌}
 use Rattle.std.proofs.lemmas.Option.{same_Some}
 use Rattle.std.proofs.lemmas.Slice.Zip.{AllZip-long}
-use Rattle.std.specs.Prelude.{IsOk, Some}
+use Rattle.std.specs.Prelude.{IsOk, Some, false, true}
 use Rattle.store_opening.specs.Seated.{AreSeated, IsSeated}
 use Rattle.store_opening.specs.declared.closed.Closed.{Closed}
 use Rattle.thor_top.proofs.StageLaws.{told_writes, unsettled_writes}
@@ -24,29 +24,29 @@ use Rattle.top_words.specs.declared.command.Command.{Command}
 use Rattle.top_words.specs.declared.command.Command.TheVariants.{Run}
 use Rattle.top_words.specs.declared.command.Plan.{Plan}
 
-module _ {P : Type 0} (disks : P → Disks) (given : List P) (places : List (Closed P)) (mob : ℕ) (s : Start) (seated : AreSeated disks given places) (traces : List Trace) where
+module _ {P : Type 0} (disks : P → Disks) (given : List P) (places : List (Closed P)) (mob : ℕ) (s : Start) (seated : AreSeated disks given places) (n : ℕ) (all : n ≡ length places) (traces : List Trace) where
   -- each repository that was found has a part
-  as_many : (n : ℕ) → n ≡ length places → n ≡ length given
-  as_many n many = many ∙ AllZip-long (IsSeated disks) given places seated
+  as_many : n ≡ length given
+  as_many = all ∙ AllZip-long (IsSeated disks) given places seated
 
-  of_made : (r : Ran) → traces ≡ r.traces → AreRight (run_of places mob s) 0 r.traces → length r.traces ≡ length places → IsFound disks places s → AreHistories disks given traces
-  of_made r is right many stands = record { places = places; mob = mob; start = s; count = ap length is ∙ as_many (length r.traces) many; seated = seated; found = stands; right = subst (AreRight (run_of places mob s) 0) (sym is) right }
+  of_made : (r : Ran) → traces ≡ r.traces → AreRight (run_of places mob s) 0 r.traces → length r.traces ≡ n → IsFound disks places s → AreHistories disks given traces
+  of_made r is right many stands = record { places = places; mob = mob; start = s; count = ap length is ∙ (many ∙ as_many); seated = seated; found = stands; right = subst (AreRight (run_of places mob s) 0) (sym is) right }
 
-  of_ran : {E : Type 0} (ran : Result Ran E) → TracesOf ran traces → IfOk ran (λ r. AreRight (run_of places mob s) 0 r.traces) → IfOk ran (λ r. length r.traces ≡ length places) → IsFound disks places s → AreHistoriesIf disks given traces
+  of_ran : {E : Type 0} (ran : Result Ran E) → TracesOf ran traces → IfOk ran (λ r. AreRight (run_of places mob s) 0 r.traces) → IfOk ran (λ r. length r.traces ≡ n) → IsFound disks places s → AreHistoriesIf disks given traces
   of_ran (Err e) is right many stands = inl is
   of_ran (Ok r) is right many stands = inr (of_made r is right many stands)
 
   -- those of a run that was made on what was found
-  pub of_played : {E : Type 0} (played : Result (Finished P) E) → AreTracesOf played traces → IfOk played (λ f. IfOk f.ran (λ r. AreRight (run_of places mob s) 0 r.traces)) → IfOk played (λ f. IfOk f.ran (λ r. length r.traces ≡ length places)) → IfOk played (λ _. IsFound disks places s) → AreHistoriesIf disks given traces
+  pub of_played : {E : Type 0} (played : Result (Finished P) E) → AreTracesOf played traces → IfOk played (λ f. IfOk f.ran (λ r. AreRight (run_of places mob s) 0 r.traces)) → IfOk played (λ f. IfOk f.ran (λ r. length r.traces ≡ n)) → IfOk played (λ _. IsFound disks places s) → AreHistoriesIf disks given traces
   of_played (Err e) is right many stands = inl is
   of_played (Ok f) is right many stands = of_ran f.ran is right many stands
 
-  of_told_ran : {E : Type 0} (ran : Result Ran E) → IsOk ran → TracesOf ran traces → IfOk ran (λ r. AreRight (run_of places mob s) 0 r.traces) → IfOk ran (λ r. length r.traces ≡ length places) → IsFound disks places s → AreHistories disks given traces
-  of_told_ran (Err e) made is right many stands = absurd made
+  of_told_ran : {E : Type 0} (ran : Result Ran E) → IsOk ran → TracesOf ran traces → IfOk ran (λ r. AreRight (run_of places mob s) 0 r.traces) → IfOk ran (λ r. length r.traces ≡ n) → IsFound disks places s → AreHistories disks given traces
+  of_told_ran (Err e) made is right many stands = absurd (let no : false ≡ true = made in cc)
   of_told_ran (Ok r) made is right many stands = of_made r is right many stands
 
   -- those of one that is told
-  pub of_told : {E : Type 0} (played : Result (Finished P) E) → WasMade played → AreTracesOf played traces → IfOk played (λ f. IfOk f.ran (λ r. AreRight (run_of places mob s) 0 r.traces)) → IfOk played (λ f. IfOk f.ran (λ r. length r.traces ≡ length places)) → IfOk played (λ _. IsFound disks places s) → AreHistories disks given traces
+  pub of_told : {E : Type 0} (played : Result (Finished P) E) → WasMade played → AreTracesOf played traces → IfOk played (λ f. IfOk f.ran (λ r. AreRight (run_of places mob s) 0 r.traces)) → IfOk played (λ f. IfOk f.ran (λ r. length r.traces ≡ n)) → IfOk played (λ _. IsFound disks places s) → AreHistories disks given traces
   of_told (Err e) made is right many stands = absurd made
   of_told (Ok f) made is right many stands = of_told_ran f.ran made is right many stands
 
