@@ -1,7 +1,7 @@
 -- What is replied where no run was made tells none.
-use Rattle.class_defs.specs.declared.declarations.Declarations.{Declarations}
+use Rattle.script_bank.specs.Bank.{script_text}
 use Rattle.script_parse.specs.declared.script.Script.{Script}
-use Rattle.std.proofs.Common.{◌≡◌, Err, IfOk, List, Ok, Option, Result, inl, inr, subst, ℕ}
+use Rattle.std.proofs.Common.{Err, IfOk, List, Ok, Option, Result, inl, inr, subst, ℕ}
 use Rattle.store_opening.specs.declared.found.Store.TheVariants.{Fresh}
 use Rattle.store_opening.specs.declared.found.Store.{Store}
 use Rattle.thor_value.specs.declared.memory.NoMemory.{NoMemory}
@@ -68,4 +68,4 @@ source_tells plan before after r (inr (inr failed)) tells = subst TellsRun faile
 pub unread_for_tells : (m : Origin) (plan : Plan) (before after : Told) (r : Reply) → RepliesUnreadFor m plan before after r → TellsRun r → ⊥
 unread_for_tells Whole plan before after r none tells = unread_tells before after r none tells
 unread_for_tells Front plan before after r none tells = source_tells plan before after r none tells
-unread_for_tells (Generated n) plan before after r none tells = text_tells _ r none.1 tells
+unread_for_tells (Generated n) plan before after r none tells = text_tells (script_text n plan.repos) r none.1 tells

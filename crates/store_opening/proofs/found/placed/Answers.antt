@@ -7,4 +7,4 @@ pub returns-in-None : goal.returns-in-None
 returns-in-None g c = λ given same. seated_fresh g.P.Parts.disks given c.args.part c.new-in-None.result c.args.found c.in-None.is c.new-in-None.ensures same c.requires.fresh
 
 pub returns-in-Some : goal.returns-in-Some
-returns-in-Some g c = λ given same. subst (λ p. Same (g.P.Parts.disks given) (g.P.Parts.disks p)) (sym c.new-in-Some.ensures.parts) same
+returns-in-Some g c = λ given same. subst (λ p. Same (g.P.Parts.disks given) (g.P.Parts.disks p)) (sym c.new.ensures.parts) same
