@@ -6,7 +6,7 @@ use Rattle.disk_trait.specs.Disks.{Disks}
 use Rattle.repo_site.specs.Run.{Run}
 use Rattle.repo_site.specs.Sited.{IsRightTrace, Sited}
 use Rattle.repo_trace.specs.declared.trace.Trace.{Trace}
-use Rattle.std.proofs.Common.{Err, IfOk, List, None, Ok, OnOk, Result, Some, [], ap, append_assoc, arith, length, refl, subst, suc, sym, zero, ℕ, ◌++◌, ◌+◌, ◌∙◌, ◌∷◌, ◌≡◌}
+use Rattle.std.proofs.Common.{Err, IfOk, List, None, Ok, OnOk, Result, Some, [], ap, append_assoc, arith, false, length, refl, subst, suc, sym, true, zero, ℕ, ◌++◌, ◌+◌, ◌∙◌, ◌∷◌, ◌≡◌}
 use Rattle.std.proofs.lemmas.List.{append-nil}
 use Rattle.std.specs.List.{slice_get}
 use Rattle.std.specs.Prelude.{IsOk}
@@ -121,7 +121,7 @@ module _ {P : Type 0} where
 
   pub recovered_next : {E : Type 0} (disks : P → Disks) (before after : Result (Unit {0}) E) (xs : List (Closed P)) (x : Closed P) → OnOk before (AreRecovered disks xs) → OnOk after (IsOk before) → OnOk after (IsRecoveredAt disks x) → OnOk after (AreRecovered disks (xs ++ x ∷ []))
   recovered_next disks before (Err e) xs x r was last = tt
-  recovered_next disks (Err e) (Ok u) xs x r was last = absurd was
+  recovered_next disks (Err e) (Ok u) xs x r was last = absurd (let no : false ≡ true = was in cc)
   recovered_next disks (Ok v) (Ok u) xs x r was last = recovered_more disks xs x r last
 
   pub recovered_all : {E : Type 0} (disks : P → Disks) (opened : Result (Unit {0}) E) (yielded rest all : List (Closed P)) → yielded ++ rest ≡ all → rest ≡ [] → OnOk opened (AreRecovered disks yielded) → OnOk opened (AreRecovered disks all)
@@ -131,7 +131,7 @@ module _ {P : Type 0} where
 
 pub on_ok_of : {X Y E F : Type 0} (before : Result X E) (after : Result Y F) (Q : Type 0) → OnOk before Q → OnOk after (IsOk before) → OnOk after Q
 on_ok_of before (Err e) Q q was = tt
-on_ok_of (Err e) (Ok y) Q q was = absurd was
+on_ok_of (Err e) (Ok y) Q q was = absurd (let no : false ≡ true = was in cc)
 on_ok_of (Ok x) (Ok y) Q q was = q
 
 pub at_ok : {X E : Type 0} (r : Result X E) (x : X) (Q : Type 0) → r ≡ Ok x → OnOk r Q → Q

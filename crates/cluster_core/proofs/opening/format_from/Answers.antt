@@ -4,8 +4,8 @@ use Rattle.std.proofs.Common.{arith, length, subst, sym, ℕ, ◌≡◌}
 use Rattle.std.specs.Vec.Iter.{into_iter_items}
 use Rattle.cluster_core.proofs.opening.format_from.Goals as goal
 
-pub format_behind-requires-clause-seated : goal.format_behind-requires-clause-seated
-format_behind-requires-clause-seated g c =
+pub format_behind-seat-requires-clause-seated : goal.format_behind-seat-requires-clause-seated
+format_behind-seat-requires-clause-seated g c =
     let inv = c.loop-seat.invariant in
     let next = c.in-Some.ensures.steps in
     let place : c.len-place.result ≡ length c.loop-seat.done.items = omega (arith, c.len-place.ensures, c.loop-seat.done.ok.0) in
