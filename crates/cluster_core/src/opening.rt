@@ -11,8 +11,9 @@ use crate::settling::settle_all;
 use class_defs::{Schemas, Setup};
 use disk_trait::Parts;
 use front_end::{FrontEnd, Items, Opened};
+use recovery::migrate;
 use repo_core::Repo;
-use repo_opening::{Unopened, number_at};
+use repo_opening::{Unopened, fault_of, number_at};
 use std::alloc::Global;
 use store_opening::{Closed, ClusterFault, Found};
 use thor_value::{NoMemory, both};
@@ -20,7 +21,8 @@ use thor_value::{NoMemory, both};
 impl<P: Parts> Cluster<P> {
     /// Opens what was found, with the clients of a plan.
     ///
-    /// A fresh store is formatted, repositories 1 and up first; otherwise each repository begins a life, and then
+    /// A fresh store is formatted, repositories 1 and up first; otherwise each repository, where it is of the older format, is
+    /// moved into the newer one, and begins a life. Then
     /// each transaction that was left prepared is settled by its coordinator. Before all repositories were read
     /// and checked nothing is written. Want of memory, too, where the plan's start isn't that of the store, or a
     /// number of the plan isn't in its range.
@@ -153,7 +155,7 @@ fn with(opened: Result<(), Unopened>, epochs: usize) -> Result<usize, Unopened> 
     Ok(epochs)
 }
 
-/// Opens every repository of a store, rising. Behind one that can't be opened the others aren't.
+/// Opens every repository of a store, rising, each by itself. Behind one that can't be opened the others aren't.
 fn open_all<P: Parts>(alloc: Global, seats: Vec<Seat<P>>) -> (Vec<Seat<P>>, Result<(), Unopened>)
     ensures { vec_len result.0 ≡ vec_len seats }
 {
@@ -172,7 +174,7 @@ fn open_all<P: Parts>(alloc: Global, seats: Vec<Seat<P>>) -> (Vec<Seat<P>>, Resu
     (done, opened)
 }
 
-/// Opens the repository at a place.
+/// Opens the repository at a place: one of the older format is moved into the newer one first.
 #[tactic(auto, using(crate::proofs::Recovered::recovered_says))]
 fn open_next<P: Parts>(
     alloc: Global,
@@ -181,8 +183,14 @@ fn open_next<P: Parts>(
 ) -> (Seat<P>, Result<(), Unopened>) {
     match (seat, number_at(place)) {
         (Seat::Closed(Closed::Known(known)), Ok(repo)) => {
-            let (parts, recovered) = known.into_recovered();
-            Seat::of(repo, Repo::open(alloc, parts, recovered))
+            let (mut parts, recovered) = known.into_recovered();
+            match migrate(alloc, &mut parts, recovered) {
+                Ok(recovered) => Seat::of(repo, Repo::open(alloc, parts, recovered)),
+                Err(fault) => (
+                    Seat::Closed(Closed::Parts(parts)),
+                    Err(fault_of(repo, fault)),
+                ),
+            }
         }
         (seat, _) => (seat, Err(Unopened::NoMemory)),
     }
