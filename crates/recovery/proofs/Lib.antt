@@ -3,3 +3,6 @@ pub mod Replayed
 pub mod FoundLaws
 pub mod Lost
 pub mod Reopened
+pub mod Aside
+pub mod Paging
+pub mod Migrated

@@ -26,6 +26,7 @@ use crate::stable::{Phase, Stable};
 use commit_log::CommitLog;
 use disk_trait::{Outage, Parts, content_is_left, restart_all};
 use log_entries::Entry;
+use page_format::StoreFormat;
 use recovery::{Recovered, recover};
 use repo_refusals::Refusal;
 use repo_state::HeldState;
@@ -139,7 +140,8 @@ impl<P: Parts> Stable<P> {
         }
     }
 
-    /// Crashes the disks and reads what they stand for.
+    /// Crashes the disks and reads what they stand for. They are of the format that is written: a repository that was opened
+    /// has been moved into it.
     #[tactic(auto, using(crate::proofs::Returning::more_run, crate::proofs::Returning::more_then))]
     fn recover(&mut self, alloc: Global, pick: u64) -> Result<Recovered, Refusal>
         ensures phase { self.new.phase ≡ self.old.phase }
@@ -166,7 +168,13 @@ impl<P: Parts> Stable<P> {
         let found = recover(alloc, &mut self.parts, mob_limit);
         content_is_left(&self.parts);
         match found {
-            Ok(Some(recovered)) => self.reached(recovered),
+            Ok(Some(recovered)) => match recovered.format {
+                StoreFormat::Two => self.reached(recovered),
+                StoreFormat::One => {
+                    drop(recovered);
+                    Err(Refusal::Damaged { repo, place: 0 })
+                }
+            },
             Ok(None) => Err(Refusal::Damaged { repo, place: 0 }),
             Err(fault) => Err(of_recovery(repo, fault)),
         }

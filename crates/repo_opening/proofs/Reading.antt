@@ -1,6 +1,9 @@
 -- The disk of pages is read beside an open log.
 use Rattle.repo_opening.specs.Same.{Same}
-use Rattle.repo_opening.specs.Recovered.{AgreesWhere, HasBytes, IsRecovered, Stays}
+use Rattle.repo_opening.specs.Recovered.{AgreesWhere, HasBytes, IsHeld, IsRecovered, Stays}
+use Rattle.disk_trait.specs.Disks.{WhereTold}
+use Rattle.recovery.specs.Found.{recorded}
+use Rattle.recovery.specs.Paged.{ArePaged, HasSides}
 use Rattle.repo_opening.proofs.Syncing.{same_beside, same_content, same_then}
 use Rattle.disk_trait.specs.AllDisks.{AllSettled, LeavesAll, MayLeaveAll, ReadsAs, SameContent}
 use Rattle.disk_trait.specs.Disks.{Disks}
@@ -12,13 +15,12 @@ use Rattle.page_format.specs.Pages.{page_size}
 use Rattle.page_store.specs.Sides.{ReachesSides, place_of}
 use Rattle.recovery.specs.declared.recovered.Recovered.{Recovered}
 use Rattle.repo_state.specs.Keeps.{Keeps}
-use Rattle.repo_state.specs.Said.{said}
 use Rattle.commit_log.proofs.Holding.{is_log, stands_of}
 use Rattle.commit_log.specs.Holds.{Holds, beside}
 use Rattle.commit_log.specs.Recovered.{stands}
 use Rattle.std.proofs.Common.{IfSome, List, None, Option, Some, [], ap, arith, cond, length, refl, subst, sym, ◌+◌, ◌<◌, ◌∙◌, ◌≡◌, ◌∷◌, ◌≤◌, ℕ}
 use Rattle.class_defs.specs.Stored.{Objects}
-use Rattle.repo_opening.specs.Paged.{ArePaged, PutsPaged, PutsStored}
+use Rattle.repo_opening.specs.Paged.{PutsPaged, PutsStored}
 use Rattle.std.proofs.lemmas.Option.{same_Some}
 use Rattle.std.specs.FinMap.{nat_cmp-IsAntisymmetric}
 use Rattle.std.specs.Ordering.{is_eq, nat_cmp}
@@ -49,18 +51,20 @@ holds_on old new log s stays holds =
       told = λ bytes other told beside_told opened stood. holds.told bytes other (sym (same log.disk) ∙ told) (sym (same (beside log.disk)) ∙ beside_told) opened stood;
     }
 
--- what was found is recovered
-pub found_is : (disks : Disks) (found : Option Recovered) → IfSome found (λ r. Holds disks r.log (said r.state)) → IfSome found (λ r. Keeps r.state) → IfSome found (λ r. AgreesWhere r.state.objects.pages) → IfSome found (IsRecovered disks)
+-- what was found is held
+pub found_is : (disks : Disks) (found : Option Recovered) → IfSome found (λ r. Holds disks r.log (recorded r)) → IfSome found (λ r. Keeps r.state) → IfSome found (λ r. AgreesWhere r.state.objects.pages) → IfSome found (IsHeld disks)
 found_is disks None holds keeps pages = tt
-found_is disks (Some r) holds keeps pages = record { state = said r.state; said = refl; holds = holds; keeps = keeps; pages = pages }
+found_is disks (Some r) holds keeps pages = record { holds = holds; keeps = keeps; pages = pages }
 
-pub recovered_on : (old new : Disks) (r : Recovered) → Stays old new → IsRecovered old r → IsRecovered new r
-recovered_on old new r stays known = record {
-  state = known.state;
-  said = known.said;
-  holds = holds_on old new r.log known.state stays known.holds;
+-- and recovered once its pages are read
+pub recovered_on : (old new : Disks) (r : Recovered) → Stays old new → WhereTold new 2 (HasSides r.format r.state.objects.pages.sides) → IsHeld old r → IsRecovered new r
+recovered_on old new r stays sides known = record {
+  state = recorded r;
+  said = refl;
+  holds = holds_on old new r.log (recorded r) stays known.holds;
   keeps = known.keeps;
   pages = known.pages;
+  sides = sides;
 }
 
 -- what the disks that are read stand for is what is held
@@ -73,7 +77,7 @@ holds_reads disks log s holds images reads =
     let h = holds.told (images d) (images (beside d)) here (reads (beside d) (omega (arith, other))) agrees.opened agrees.stands in
     stands_of d images agrees.opened s holds.within agrees.stands h.under h.state
 
-pub recovered_reads : (disks : Disks) (r : Recovered) → IsRecovered disks r → (images : ℕ → List ℕ) → ReadsAs disks images → stands images ≡ Some (said r.state)
+pub recovered_reads : (disks : Disks) (r : Recovered) → IsRecovered disks r → (images : ℕ → List ℕ) → ReadsAs disks images → stands images ≡ Some (recorded r)
 recovered_reads disks r known images reads = holds_reads disks r.log known.state known.holds images reads ∙ ap (λ (s : State). Some s) known.said
 
 pub reads_on : (old new : Disks) → SameContent old new → (images : ℕ → List ℕ) → ReadsAs old images → ReadsAs new images
@@ -109,12 +113,12 @@ pub same_read : (old synced recovered new : Disks) → Same old synced → SameC
 same_read old synced recovered new first content run stays = same_then old recovered new (same_recovered old synced recovered first content run) (same_on recovered new stays)
 
 -- the objects of the pages of what was recovered
-pub stored_is : (images : ℕ → List ℕ) (r : Recovered) (repo : ℕ) (old new : Objects) → stands images ≡ Some (said r.state) → r.state.repo ≡ repo → PutsPaged repo (images 2) r.state.objects.pages.sides old new → PutsStored images old new
+pub stored_is : (images : ℕ → List ℕ) (r : Recovered) (repo : ℕ) (old new : Objects) → stands images ≡ Some (recorded r) → r.state.repo ≡ repo → PutsPaged r.format repo (images 2) r.state.objects.pages.sides old new → PutsStored images old new
 stored_is images r repo old new is number puts = record {
   objects = puts.objects;
   paged = λ s other.
-      let same : said r.state ≡ s = same_Some (said r.state) s (sym is ∙ other) in
-      subst (λ (t : State). ArePaged t.repo (images 2) t.installed puts.objects) same (subst (λ n. ArePaged n (images 2) r.state.objects.pages.sides puts.objects) (sym number) puts.paged);
+      let same : recorded r ≡ s = same_Some (recorded r) s (sym is ∙ other) in
+      subst (λ (t : State). ArePaged t.format t.repo (images 2) t.installed puts.objects) same (subst (λ n. ArePaged r.format n (images 2) r.state.objects.pages.sides puts.objects) (sym number) puts.paged);
   put = puts.put;
 }
 

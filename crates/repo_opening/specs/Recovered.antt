@@ -2,10 +2,11 @@
 use Rattle.disk_trait.specs.AllDisks.{AllSettled}
 use Rattle.disk_trait.specs.Disks.{Disks, NoNewImage, OnDisk, WhereTold}
 use Rattle.repo_state.specs.Keeps.{Keeps}
-use Rattle.repo_state.specs.Said.{said}
 use Rattle.log_codec.specs.declared.state.State.{State}
 use Rattle.page_store.specs.Sides.{ReachesSides}
 use Rattle.page_store.specs.Store.{Agrees, Store}
+use Rattle.recovery.specs.Found.{recorded}
+use Rattle.recovery.specs.Paged.{HasSides}
 use Rattle.recovery.specs.declared.recovered.Recovered.{Recovered}
 use Rattle.commit_log.specs.Holds.{Holds}
 use Rattle.std.specs.Prelude.{List, length, None, Option, Some, ℕ, ◌≡◌}
@@ -14,11 +15,19 @@ use Rattle.std.specs.Prelude.{List, length, None, Option, Some, ℕ, ◌≡◌}
 abbrev pub AgreesWhere : Store → Type 0
 AgreesWhere pages = (disk : List ℕ) → ReachesSides pages.sides disk → Agrees pages disk
 
--- The log of these disks holds the state that is in memory, and that is one of a repository.
+-- The log of these disks holds the state that is in memory, of its own format, and that is one of a repository. The disk of
+-- pages has each side in use.
 pub record IsRecovered (disks : Disks) (r : Recovered) : Type 0 where
   pub state : State
-  pub said : state ≡ said r.state
+  pub said : state ≡ recorded r
   pub holds : Holds disks r.log state
+  pub keeps : Keeps r.state
+  pub pages : AgreesWhere r.state.objects.pages
+  pub sides : WhereTold disks 2 (HasSides r.format r.state.objects.pages.sides)
+
+-- the same before its pages were read
+pub record IsHeld (disks : Disks) (r : Recovered) : Type 0 where
+  pub holds : Holds disks r.log (recorded r)
   pub keeps : Keeps r.state
   pub pages : AgreesWhere r.state.objects.pages
 

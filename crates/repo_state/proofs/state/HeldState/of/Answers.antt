@@ -11,5 +11,5 @@ returns-clause-keeps c = keeps_made _ c.args.state c.requires refl refl refl ref
 
 pub returns-clause-said : goal.returns-clause-said
 returns-clause-said c =
-    same_made c.args.state _ _ _ _ _ c.requires.version c.in_ok-objects.ensures.sides c.in_ok-objects.ensures.mob c.in_ok-table.ensures.made.opened c.in_ok-table.ensures.made.kept
+    same_made c.args.state _ _ _ _ _ c.in_ok-objects.ensures.sides c.in_ok-objects.ensures.mob c.in_ok-table.ensures.made.opened c.in_ok-table.ensures.made.kept
     (alone_made c.args.state.repo c.args.state.prepared c.args.state.kept c.args.state.alone c.in_ok-table.table c.in_ok-table.ensures.made)
