@@ -170,6 +170,17 @@ impl HeldState {
         self.held.objects = recovered.into_objects();
     }
 
+    /// Takes the objects of a state that was made of a checkpoint of this one. As that checkpoint says, the log's next page is the
+    /// one that is granted next. All else stays.
+    pub fn take_moved(&mut self, moved: HeldState)
+        requires { moved.repo ≡ self.old.repo }
+        ensures keeps { Keeps moved → Keeps self.old → Keeps self.new }
+        ensures held { self.new ≡ record self.old { objects = moved.objects; next_page = self.old.next_grant } }
+    {
+        self.take_objects(moved);
+        self.held.next_page = self.held.next_grant;
+    }
+
     /// The objects. All else is let go.
     fn into_objects(self) -> ObjectStore
         ensures { result ≡ self.objects }
