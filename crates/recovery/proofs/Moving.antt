@@ -1,12 +1,11 @@
 -- The steps of a migration: pages are read, and a log is put beside the one that counts.
-use Rattle.std.proofs.Common.{◌≡◌, ◌≢◌, IfOk, List, Some, [], ap, arith, inl, inr, refl, subst, sym, ◌<◌, ◌∙◌, ℕ}
+use Rattle.std.proofs.Common.{◌≡◌, ◌≢◌, Err, IfOk, List, Ok, Result, ap, arith, inl, inr, refl, subst, sym, ◌<◌, ◌∙◌, ℕ}
 use Rattle.commit_log.proofs.Holding.{is_log, stands_of}
 use Rattle.commit_log.specs.Holds.{Holds, Says, SaysEither, Under, beside}
-use Rattle.commit_log.specs.Recovered.{stands}
 use Rattle.disk_trait.proofs.Runs.{alone_none, alone_then}
-use Rattle.disk_trait.proofs.Several.{all_none as none_leaves, all_then, all_weaker, content_stays, goes_one, no_fault_beside, settled_still, tells_on}
-use Rattle.disk_trait.specs.AllDisks.{GoesOn, LeavesAll, MayLeaveAll, NoFault, ReadsAs, TellsAll}
-use Rattle.disk_trait.specs.Disks.{Disks, MayLeave, OnDisk, WhereTold}
+use Rattle.disk_trait.proofs.Several.{all_then, all_weaker, content_stays, goes_one, no_fault_beside, settled_still, tells_on}
+use Rattle.disk_trait.specs.AllDisks.{GoesOn, LeavesAll, NoFault, TellsAll}
+use Rattle.disk_trait.specs.Disks.{Disks, MayLeave}
 use Rattle.log_codec.specs.declared.state.State.{State}
 use Rattle.log_frame.specs.Log.{Place, Stands, read_log}
 use Rattle.log_frame.specs.declared.fault.LogFault.TheVariants as of_log
@@ -18,6 +17,15 @@ use Rattle.recovery.specs.Migrating.{IsMigrated, SaysMigrated}
 use Rattle.recovery.specs.Paged.{Stays}
 use Rattle.recovery.specs.declared.fault.RecoverFault.TheVariants as recovered
 use Rattle.recovery.specs.declared.fault.RecoverFault.{RecoverFault}
+use Rattle.repo_state.specs.Said.{said, spelled}
+use Rattle.repo_state.specs.declared.held.Held.{Held}
+use Rattle.thor_value.specs.declared.names.Oref.{Oref}
+use Rattle.thor_value.specs.declared.values.Obj.{Obj}
+
+-- what holds of each answer holds of this one
+pub ok_at : {T E : Type 0} (r : Result T E) (x : T) (P : T → Type 0) → r ≡ Ok x → IfOk r P → P x
+ok_at (Ok y) x P is p = let same : y ≡ x = cc in subst P same p
+ok_at (Err e) x P is p = cc
 
 -- ---- faults
 
@@ -129,3 +137,14 @@ pub both_say : (old mid new : Disks) (place : Place) (s t : State) (disk : List 
 both_say old mid new place s t disk stays holds tells made run =
     all_then old mid new (SaysMigrated s disk) (says_migrated old mid s disk (reads_say old mid place s stays holds tells))
     (either_migrated mid new s t disk made (run (tells_on old mid (reads_goes old mid stays) tells)))
+
+-- ---- what is in memory takes the objects
+
+-- as the checkpoint says
+pub taken_said : (held moved : Held) (state : State) → state ≡ record (spelled held) { installed = state.installed; mob = state.mob } → said moved ≡ state → said (record held { objects = moved.objects; next_page = held.next_grant }) ≡ state
+taken_said held moved state same is =
+    ap (λ (i : List (ℕ × ℕ)). record (spelled held) { installed = i; mob = moved.objects.mob.objects }) (ap (λ (s : State). s.installed) is)
+    ∙ (ap (λ (m : List (Oref × Obj)). record (spelled held) { installed = state.installed; mob = m }) (ap (λ (s : State). s.mob) is) ∙ sym same)
+
+pub taken_repo : (held moved : Held) (state : State) → state ≡ record (spelled held) { installed = state.installed; mob = state.mob } → said moved ≡ state → moved.repo ≡ held.repo
+taken_repo held moved state same is = ap (λ (s : State). s.repo) is ∙ ap (λ (s : State). s.repo) same

@@ -17,7 +17,7 @@ ghost use Rattle.recovery.specs.Faults.{log_fault, page_fault};
 ghost use Rattle.recovery.specs.Paged.{AreOnPage, ArePaged, HasPages, HasSide, HasSides, IsOnSide, Stays};
 ghost use Rattle.recovery.specs.declared.fault.RecoverFault.TheVariants.{Damaged, Failed, NoMemory as OutOfMemory};
 ghost use Rattle.repo_state.specs.Keeps.{IsUnread, Keeps};
-ghost use Rattle.repo_state.specs.Said.{said};
+ghost use Rattle.repo_state.specs.Said.{said, spelled};
 ghost use Rattle.std.specs.Prelude.{IfOk, IsErrOf, IsTrue, List, OnOk, [], ◌+◌, ◌<◌, ◌^◌, ◌≡◌, ℕ};
 ghost use Rattle.thor_value.specs.declared.names.Oref.{Oref as AnOref};
 ghost use Rattle.thor_value.specs.declared.values.Obj.{Obj as AnObj};
@@ -66,6 +66,7 @@ pub fn migrate<P: Parts>(
     ensures pages { IfOk result (λ r. (disk : List ℕ) → ReachesSides r.state.objects.pages.sides disk → Agrees r.state.objects.pages disk) }
     ensures becomes { (images : ℕ → List ℕ) → ReadsAs (P.disks parts.old) images → IfOk result (λ r. Becomes recovered.format (recorded recovered) (images 2) (said r.state)) }
     ensures limit { IfOk result (λ r. r.state.objects.mob.limit ≡ recovered.state.objects.mob.limit) }
+    ensures stays { IfOk result (λ r. r.state ≡ record recovered.state { objects = r.state.objects; next_page = r.state.next_page }) }
     ensures content { (P.disks parts.new).content 2 ≡ (P.disks parts.old).content 2 }
     ensures still { NoNewImage (P.disks parts.old) (P.disks parts.new) 2 }
     ensures clock { (P.disks parts.new).clock ≡ (P.disks parts.old).clock }
@@ -99,6 +100,7 @@ fn move_older<P: Parts>(
     ensures pages { IfOk result (λ r. (disk : List ℕ) → ReachesSides r.state.objects.pages.sides disk → Agrees r.state.objects.pages disk) }
     ensures becomes { (images : ℕ → List ℕ) → ReadsAs (P.disks parts.old) images → IfOk result (λ r. IsMigrated (recorded recovered) (images 2) (said r.state)) }
     ensures limit { IfOk result (λ r. r.state.objects.mob.limit ≡ recovered.state.objects.mob.limit) }
+    ensures stays { IfOk result (λ r. r.state ≡ record recovered.state { objects = r.state.objects; next_page = r.state.next_page }) }
     ensures content { (P.disks parts.new).content 2 ≡ (P.disks parts.old).content 2 }
     ensures still { NoNewImage (P.disks parts.old) (P.disks parts.new) 2 }
     ensures clock { (P.disks parts.new).clock ≡ (P.disks parts.old).clock }
@@ -114,18 +116,73 @@ fn move_older<P: Parts>(
         count,
         reopens,
     } = recovered;
+    match moved_state(alloc, parts, &held) {
+        Ok(state) => {
+            let (state, log) = begin_older(alloc, parts, held, log, state)?;
+            Ok(Recovered {
+                state,
+                log,
+                format: StoreFormat::Two,
+                count,
+                reopens,
+            })
+        }
+        Err(fault) => {
+            drop(held);
+            drop(log);
+            Err(fault)
+        }
+    }
+}
+
+/// A repository of the older format goes on with a state that was made of what is in memory, and with the log that begins with it.
+fn begin_older<P: Parts>(
+    alloc: Global,
+    parts: &mut P,
+    held: HeldState,
+    log: CommitLog,
+    state: State,
+) -> Result<(HeldState, CommitLog), RecoverFault>
+    requires fits { StateFits state }
+    requires whole { IsTrue (is_whole state) }
+    requires same { state ≡ record (spelled held) { installed = state.installed; mob = state.mob } }
+    requires keeps { Keeps held }
+    requires holds { (s : AState) × Holds (P.disks parts.old) log s }
+    ensures goes { GoesOn (P.disks parts.old) (P.disks parts.new) }
+    ensures any_moment { (s : AState) → Holds (P.disks parts.old) log s → TellsAll (P.disks parts.old) → LeavesAll (P.disks parts.old) (P.disks parts.new) (SaysEither s state) }
+    ensures holds { IfOk result (λ begun. Holds (P.disks parts.new) begun.1 (said begun.0)) }
+    ensures keeps { IfOk result (λ begun. Keeps begun.0) }
+    ensures said { IfOk result (λ begun. said begun.0 ≡ state) }
+    ensures unread { IfOk result (λ begun. IsUnread begun.0.objects.pages) }
+    ensures limit { IfOk result (λ begun. begun.0.objects.mob.limit ≡ held.objects.mob.limit) }
+    ensures stays { IfOk result (λ begun. begun.0 ≡ record held { objects = begun.0.objects; next_page = begun.0.next_page }) }
+    ensures pages { (P.disks parts.new).content 2 ≡ (P.disks parts.old).content 2 }
+    ensures still { NoNewImage (P.disks parts.old) (P.disks parts.new) 2 }
+    ensures clock { (P.disks parts.new).clock ≡ (P.disks parts.old).clock }
+    ensures damaged { (d place : ℕ) → IsErrOf result (Damaged d place) → ⊥ }
+    ensures failed { (d : ℕ) → IsErrOf result (Failed d) → Rose ((P.disks parts.old).faults d) ((P.disks parts.new).faults d) }
+    ensures steady { OnOk result (NoFault (P.disks parts.old) (P.disks parts.new)) }
+    ensures wanting { IsErrOf result OutOfMemory → NoFault (P.disks parts.old) (P.disks parts.new) }
+{
     let limit = held.objects().mob().limit();
-    let moved = moved_state(alloc, parts, &held);
-    drop(held);
-    let (log, state) = both(log, moved)?;
-    let (state, log) = begin(alloc, parts, log, state, limit)?;
-    Ok(Recovered {
-        state,
-        log,
-        format: StoreFormat::Two,
-        count,
-        reopens,
-    })
+    match begin(alloc, parts, log, state, limit) {
+        Ok((moved, log)) => Ok((taken(held, moved), log)),
+        Err(fault) => {
+            drop(held);
+            Err(fault)
+        }
+    }
+}
+
+/// A state with the objects of one that was made of its checkpoint.
+fn taken(held: HeldState, moved: HeldState) -> HeldState
+    requires { moved.repo ≡ held.repo }
+    ensures keeps { Keeps moved → Keeps held → Keeps result }
+    ensures held { result ≡ record held { objects = moved.objects; next_page = held.next_grant } }
+{
+    let mut held = held;
+    held.take_moved(moved);
+    held
 }
 
 /// The state in memory, with the log that begins with it.
@@ -155,13 +212,20 @@ fn begin<P: Parts>(
     ensures steady { OnOk result (NoFault (P.disks parts.old) (P.disks parts.new)) }
     ensures wanting { IsErrOf result OutOfMemory → NoFault (P.disks parts.old) (P.disks parts.new) }
 {
-    let begun = begin_log(parts, log, &state);
-    let (state, log) = both(state, begun)?;
-    let (log, held) = both(log, hold(alloc, state, limit))?;
-    Ok((held, log))
+    match begin_log(parts, log, &state) {
+        Ok(log) => {
+            let (begun, held) = both(log, hold(alloc, state, limit))?;
+            Ok((held, begun))
+        }
+        Err(fault) => {
+            drop(state);
+            Err(fault)
+        }
+    }
 }
 
 /// The state that is written: that in memory, with the objects of all installed pages in its buffer, and no page installed.
+#[tactic(auto, using(crate::proofs::Moving::stays_none))]
 fn moved_state<P: Parts>(
     alloc: Global,
     parts: &mut P,
@@ -173,24 +237,43 @@ fn moved_state<P: Parts>(
     ensures stays { Stays (P.disks parts.old) (P.disks parts.new) }
     ensures fits { IfOk result StateFits }
     ensures whole { IfOk result (λ state. IsTrue (is_whole state)) }
-    ensures format { IfOk result (λ state. state.format ≡ Two) }
+    ensures same { IfOk result (λ state. state ≡ record (spelled held.now) { installed = state.installed; mob = state.mob }) }
     ensures moved { (images : ℕ → List ℕ) → ReadsAs (P.disks parts.old) images → IfOk result (IsMigrated (in_format One (said held.now)) (images 2)) }
     ensures damaged { (d place : ℕ) → IsErrOf result (Damaged d place) → TellsAll (P.disks parts.old) → ⊥ }
     ensures failed { (d : ℕ) → IsErrOf result (Failed d) → (d ≡ 2) × Rose ((P.disks parts.old).faults 2) ((P.disks parts.new).faults 2) }
     ensures steady { OnOk result ((P.disks parts.new).faults 2 ≡ (P.disks parts.old).faults 2) }
     ensures wanting { IsErrOf result OutOfMemory → (P.disks parts.new).faults 2 ≡ (P.disks parts.old).faults 2 }
 {
-    if held.repo() >= REPOSITORIES || held.count() >= END {
-        return Err(RecoverFault::NoMemory);
+    let before = spell(held)?;
+    match read_paged(alloc, parts, before.repo, &before.installed) {
+        Ok(paged) => {
+            let state = with_objects(alloc, before, paged)?;
+            Ok(state)
+        }
+        Err(fault) => {
+            drop(before);
+            Err(fault)
+        }
     }
-    let state = held.state()?;
-    let paged = read_paged(alloc, parts, state.repo, &state.installed);
-    let (state, paged) = both(state, paged)?;
-    let state = with_objects(alloc, state, paged)?;
-    Ok(state)
+}
+
+/// The state in memory, as a checkpoint spells it. There is no memory for the last count of entries, nor for a repository that no
+/// name has.
+fn spell(held: &HeldState) -> Result<State, NoMemory>
+    requires { Keeps held.now }
+    ensures spelled { IfOk result (λ state. state ≡ spelled held.now) }
+    ensures fits { IfOk result StateFits }
+    ensures whole { IfOk result (λ state. IsTrue (is_whole state)) }
+    ensures few { IfOk result (λ state. state.repo < 8) }
+{
+    if held.repo() >= REPOSITORIES || held.count() >= END {
+        return Err(NoMemory);
+    }
+    held.state()
 }
 
 /// The objects of all installed pages of a repository of the older format, pages and slots rising: a disk call for each.
+#[tactic(auto, using(crate::proofs::Moving::stays_none))]
 fn read_paged<P: Parts>(
     alloc: Global,
     parts: &mut P,
@@ -236,6 +319,7 @@ fn put_page<P: Parts>(
 }
 
 /// The objects of an installed page. There is no memory for a page that no name has.
+#[tactic(auto, using(crate::proofs::Moving::stays_none))]
 fn read_page<P: Parts>(
     alloc: Global,
     parts: &mut P,
@@ -272,9 +356,13 @@ fn with_objects(alloc: Global, state: State, paged: Writes) -> Result<State, NoM
     ensures fits { IfOk result StateFits }
     ensures whole { IfOk result (λ moved. IsTrue (is_whole moved)) }
 {
-    let objects = merged(alloc, state.repo, paged, &state.mob);
-    let (state, objects) = both(state, objects)?;
-    Ok(on_no_page(alloc, state, objects))
+    match merged(alloc, state.repo, paged, &state.mob) {
+        Ok(objects) => Ok(on_no_page(alloc, state, objects)),
+        Err(fault) => {
+            drop(state);
+            Err(fault)
+        }
+    }
 }
 
 /// A state with these objects in its buffer, and no page installed.
