@@ -43,7 +43,7 @@ pub record ArePaged (format : StoreFormat) (repo : ℕ) (disk : List ℕ) (sides
   pub all : objects ≡ flat_map (λ page. page) pages
 
 -- each installed side of a disk is a page of objects
-pub record HasPages (format : StoreFormat) (repo : ℕ) (sides : List (ℕ × ℕ)) (disk : List ℕ) : Type 0 where
+pub record AreObjectPages (format : StoreFormat) (repo : ℕ) (sides : List (ℕ × ℕ)) (disk : List ℕ) : Type 0 where
   pub objects : List (Oref × Obj)
   pub paged : ArePaged format repo disk sides objects
 

@@ -14,7 +14,7 @@ ghost use Rattle.page_store.specs.Store.{Agrees};
 ghost use Rattle.recovery.specs.Found.{recorded};
 ghost use Rattle.recovery.specs.Migrating.{Becomes, IsMigrated, PutsPage, SaysMigrated};
 ghost use Rattle.recovery.specs.Faults.{log_fault, page_fault};
-ghost use Rattle.recovery.specs.Paged.{AreOnPage, ArePaged, HasPages, HasSide, HasSides, IsOnSide, Stays};
+ghost use Rattle.recovery.specs.Paged.{AreOnPage, ArePaged, AreObjectPages, HasSide, HasSides, IsOnSide, Stays};
 ghost use Rattle.recovery.specs.declared.fault.RecoverFault.TheVariants.{Damaged, Failed, NoMemory as OutOfMemory};
 ghost use Rattle.repo_state.specs.Keeps.{IsUnread, Keeps};
 ghost use Rattle.repo_state.specs.Said.{said, spelled};
@@ -57,7 +57,7 @@ pub fn migrate<P: Parts>(
     requires keeps { Keeps recovered.state }
     requires pages { (disk : List ℕ) → ReachesSides recovered.state.objects.pages.sides disk → Agrees recovered.state.objects.pages disk }
     requires sides { WhereTold (P.disks parts.old) 2 (HasSides recovered.format recovered.state.objects.pages.sides) }
-    requires paged { WhereTold (P.disks parts.old) 2 (HasPages recovered.format recovered.state.repo recovered.state.objects.pages.sides) }
+    requires paged { WhereTold (P.disks parts.old) 2 (AreObjectPages recovered.format recovered.state.repo recovered.state.objects.pages.sides) }
     ensures goes { GoesOn (P.disks parts.old) (P.disks parts.new) }
     ensures any_moment { TellsAll (P.disks parts.old) → (images : ℕ → List ℕ) → ReadsAs (P.disks parts.old) images → LeavesAll (P.disks parts.old) (P.disks parts.new) (SaysMigrated (recorded recovered) (images 2)) }
     ensures format { IfOk result (λ r. r.format ≡ Two) }
@@ -91,7 +91,7 @@ fn move_older<P: Parts>(
     requires holds { Holds (P.disks parts.old) recovered.log (recorded recovered) }
     requires keeps { Keeps recovered.state }
     requires sides { WhereTold (P.disks parts.old) 2 (HasSides One recovered.state.objects.pages.sides) }
-    requires paged { WhereTold (P.disks parts.old) 2 (HasPages One recovered.state.repo recovered.state.objects.pages.sides) }
+    requires paged { WhereTold (P.disks parts.old) 2 (AreObjectPages One recovered.state.repo recovered.state.objects.pages.sides) }
     ensures goes { GoesOn (P.disks parts.old) (P.disks parts.new) }
     ensures any_moment { TellsAll (P.disks parts.old) → (images : ℕ → List ℕ) → ReadsAs (P.disks parts.old) images → LeavesAll (P.disks parts.old) (P.disks parts.new) (SaysMigrated (recorded recovered) (images 2)) }
     ensures format { IfOk result (λ r. r.format ≡ Two) }
@@ -233,7 +233,7 @@ fn moved_state<P: Parts>(
 ) -> Result<State, RecoverFault>
     requires keeps { Keeps held.now }
     requires sides { WhereTold (P.disks parts.old) 2 (HasSides One held.now.objects.pages.sides) }
-    requires paged { WhereTold (P.disks parts.old) 2 (HasPages One held.now.repo held.now.objects.pages.sides) }
+    requires paged { WhereTold (P.disks parts.old) 2 (AreObjectPages One held.now.repo held.now.objects.pages.sides) }
     ensures stays { Stays (P.disks parts.old) (P.disks parts.new) }
     ensures fits { IfOk result StateFits }
     ensures whole { IfOk result (λ state. IsTrue (is_whole state)) }
@@ -285,7 +285,7 @@ fn read_paged<P: Parts>(
     ensures paged { IfOk result (λ objects. WhereTold (P.disks parts.old) 2 (λ disk. ArePaged One repo disk installed.now objects)) }
     ensures of { repo < 8 → IfOk result (AreOf repo) }
     ensures distinct { IfOk result AreDistinct }
-    ensures damaged { (d place : ℕ) → IsErrOf result (Damaged d place) → WhereTold (P.disks parts.old) 2 (λ disk. HasPages One repo installed.now disk → ⊥) }
+    ensures damaged { (d place : ℕ) → IsErrOf result (Damaged d place) → WhereTold (P.disks parts.old) 2 (λ disk. AreObjectPages One repo installed.now disk → ⊥) }
     ensures failed { (d : ℕ) → IsErrOf result (Failed d) → (d ≡ 2) × Rose ((P.disks parts.old).faults 2) ((P.disks parts.new).faults 2) }
     ensures steady { OnOk result ((P.disks parts.new).faults 2 ≡ (P.disks parts.old).faults 2) }
     ensures wanting { IsErrOf result OutOfMemory → (P.disks parts.new).faults 2 ≡ (P.disks parts.old).faults 2 }

@@ -4,7 +4,7 @@ use Rattle.repo_opening.specs.Recovered.{AgreesWhere, HasBytes, IsHeld, IsRecove
 use Rattle.disk_trait.specs.Disks.{WhereTold}
 use Rattle.recovery.specs.Found.{recorded}
 use Rattle.recovery.proofs.Moving.{holds_on}
-use Rattle.recovery.specs.Paged.{ArePaged, HasPages, HasSides, Stays}
+use Rattle.recovery.specs.Paged.{ArePaged, AreObjectPages, HasSides, Stays}
 use Rattle.repo_opening.proofs.Syncing.{same_beside, same_content, same_then}
 use Rattle.disk_trait.specs.AllDisks.{LeavesAll, MayLeaveAll, ReadsAs, SameContent}
 use Rattle.disk_trait.specs.Disks.{Disks}
@@ -32,7 +32,7 @@ found_is disks None holds keeps pages = tt
 found_is disks (Some r) holds keeps pages = record { holds = holds; keeps = keeps; pages = pages }
 
 -- and recovered once its pages are read
-pub recovered_on : (old new : Disks) (r : Recovered) → Stays old new → WhereTold new 2 (HasSides r.format r.state.objects.pages.sides) → WhereTold new 2 (HasPages r.format r.state.repo r.state.objects.pages.sides) → IsHeld old r → IsRecovered new r
+pub recovered_on : (old new : Disks) (r : Recovered) → Stays old new → WhereTold new 2 (HasSides r.format r.state.objects.pages.sides) → WhereTold new 2 (AreObjectPages r.format r.state.repo r.state.objects.pages.sides) → IsHeld old r → IsRecovered new r
 recovered_on old new r stays sides paged known = record {
   state = recorded r;
   said = refl;
@@ -44,7 +44,7 @@ recovered_on old new r stays sides paged known = record {
 }
 
 -- the pages that were read are pages of objects
-pub has_pages : (r : Recovered) (repo : ℕ) (sides : List (ℕ × ℕ)) (disk : List ℕ) (old new : Objects) → sides ≡ r.state.objects.pages.sides → r.state.repo ≡ repo → PutsPaged r.format repo disk sides old new → HasPages r.format r.state.repo r.state.objects.pages.sides disk
+pub has_pages : (r : Recovered) (repo : ℕ) (sides : List (ℕ × ℕ)) (disk : List ℕ) (old new : Objects) → sides ≡ r.state.objects.pages.sides → r.state.repo ≡ repo → PutsPaged r.format repo disk sides old new → AreObjectPages r.format r.state.repo r.state.objects.pages.sides disk
 has_pages r repo sides disk old new same number puts = record {
   objects = puts.objects;
   paged = subst (λ (n : ℕ). ArePaged r.format n disk r.state.objects.pages.sides puts.objects) (sym number) (subst (λ (qs : List (ℕ × ℕ)). ArePaged r.format repo disk qs puts.objects) same puts.paged);

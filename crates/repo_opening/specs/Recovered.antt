@@ -6,7 +6,7 @@ use Rattle.log_codec.specs.declared.state.State.{State}
 use Rattle.page_store.specs.Sides.{ReachesSides}
 use Rattle.page_store.specs.Store.{Agrees, Store}
 use Rattle.recovery.specs.Found.{recorded}
-use Rattle.recovery.specs.Paged.{HasPages, HasSides}
+use Rattle.recovery.specs.Paged.{AreObjectPages, HasSides}
 use Rattle.recovery.specs.declared.recovered.Recovered.{Recovered}
 use Rattle.commit_log.specs.Holds.{Holds}
 use Rattle.std.specs.Prelude.{List, length, None, Option, Some, ℕ, ◌≡◌}
@@ -24,7 +24,7 @@ pub record IsRecovered (disks : Disks) (r : Recovered) : Type 0 where
   pub keeps : Keeps r.state
   pub pages : AgreesWhere r.state.objects.pages
   pub sides : WhereTold disks 2 (HasSides r.format r.state.objects.pages.sides)
-  pub paged : WhereTold disks 2 (HasPages r.format r.state.repo r.state.objects.pages.sides)
+  pub paged : WhereTold disks 2 (AreObjectPages r.format r.state.repo r.state.objects.pages.sides)
 
 -- the same before its pages were read
 pub record IsHeld (disks : Disks) (r : Recovered) : Type 0 where

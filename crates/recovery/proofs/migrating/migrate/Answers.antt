@@ -7,7 +7,7 @@ use Rattle.disk_trait.specs.Disks.{WhereTold}
 use Rattle.page_format.specs.declared.format.StoreFormat.{StoreFormat}
 use Rattle.recovery.specs.Found.{recorded}
 use Rattle.recovery.specs.Migrating.{Becomes, SaysMigrated}
-use Rattle.recovery.specs.Paged.{HasPages, HasSides}
+use Rattle.recovery.specs.Paged.{AreObjectPages, HasSides}
 use Rattle.repo_state.specs.Said.{said}
 use Rattle.recovery.proofs.migrating.migrate.Goals as goal
 
@@ -27,7 +27,7 @@ pub move_older-requires-clause-sides : goal.move_older-requires-clause-sides
 move_older-requires-clause-sides g c = subst (λ (f : StoreFormat). WhereTold (g.P.Parts.disks c.args.parts.now) 2 (HasSides f c.args.recovered.state.objects.pages.sides)) c.in-One.is c.requires.sides
 
 pub move_older-requires-clause-paged : goal.move_older-requires-clause-paged
-move_older-requires-clause-paged g c = subst (λ (f : StoreFormat). WhereTold (g.P.Parts.disks c.args.parts.now) 2 (HasPages f c.args.recovered.state.repo c.args.recovered.state.objects.pages.sides)) c.in-One.is c.requires.paged
+move_older-requires-clause-paged g c = subst (λ (f : StoreFormat). WhereTold (g.P.Parts.disks c.args.parts.now) 2 (AreObjectPages f c.args.recovered.state.repo c.args.recovered.state.objects.pages.sides)) c.in-One.is c.requires.paged
 
 pub returns-in-One-clause-becomes : goal.returns-in-One-clause-becomes
 returns-in-One-clause-becomes g c = λ images reads. subst (λ (f : StoreFormat). IfOk c.move_older.result (λ r. Becomes f (recorded c.args.recovered) (images 2) (said r.state))) (sym c.in-One.is) (c.move_older.ensures.becomes images reads)
