@@ -113,11 +113,12 @@ fn move_older<P: Parts>(
         state: held,
         log,
         format: _,
-        count,
+        count: _,
         reopens,
     } = recovered;
     match moved_state(alloc, parts, &held) {
         Ok(state) => {
+            let count = state.count;
             let (state, log) = begin_older(alloc, parts, held, log, state)?;
             Ok(Recovered {
                 state,
