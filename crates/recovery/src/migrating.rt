@@ -284,7 +284,7 @@ fn read_paged<P: Parts>(
     requires sides { WhereTold (P.disks parts.old) 2 (HasSides One installed.now) }
     ensures stays { Stays (P.disks parts.old) (P.disks parts.new) }
     ensures paged { IfOk result (λ objects. WhereTold (P.disks parts.old) 2 (λ disk. ArePaged One repo disk installed.now objects)) }
-    ensures of { repo < 8 → IfOk result (AreOf repo) }
+    ensures own { repo < 8 → IfOk result (AreOf repo) }
     ensures distinct { IfOk result AreDistinct }
     ensures damaged { (d place : ℕ) → IsErrOf result (Damaged d place) → WhereTold (P.disks parts.old) 2 (λ disk. AreObjectPages One repo installed.now disk → ⊥) }
     ensures failed { (d : ℕ) → IsErrOf result (Failed d) → (d ≡ 2) × Rose ((P.disks parts.old).faults 2) ((P.disks parts.new).faults 2) }

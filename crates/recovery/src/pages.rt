@@ -41,9 +41,10 @@ pub fn read_objects<P: Parts>(
     ensures harmed { (place : ℕ) → IsErrOf result (Damaged place) → (P.disks parts.new).faults 2 ≡ (P.disks parts.old).faults 2 }
 {
     let page = read_side_in(alloc, parts, format, installed.0, installed.1)?;
-    let objects = objects_of(alloc, repo, &page);
+    let read = objects_of(alloc, repo, &page);
     drop(page);
-    Ok(objects?)
+    let objects = read?;
+    Ok(objects)
 }
 
 /// The objects of a page, slots rising.

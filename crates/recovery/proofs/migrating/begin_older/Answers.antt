@@ -7,6 +7,9 @@ use Rattle.repo_state.specs.Said.{said}
 use Rattle.repo_state.specs.declared.held.Held.{Held}
 use Rattle.recovery.proofs.migrating.begin_older.Goals as goal
 
+pub begin-requires-clause-format : goal.begin-requires-clause-format
+begin-requires-clause-format g c = ap (λ (s : State). s.format) c.requires.same
+
 pub taken-requires : goal.taken-requires
 taken-requires g c = taken_repo c.args.held c.in-Ok.moved c.args.state c.requires.same c.in-Ok.ensures.said
 

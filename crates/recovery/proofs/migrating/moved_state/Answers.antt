@@ -15,7 +15,7 @@ pub read_paged-requires : goal.read_paged-requires
 read_paged-requires g c = subst (λ (s : State). WhereTold (g.P.Parts.disks c.args.parts.now) 2 (HasSides One s.installed)) (sym c.in_ok-before.ensures.spelled) c.requires.sides
 
 pub with_objects-requires-clause-paged : goal.with_objects-requires-clause-paged
-with_objects-requires-clause-paged g c = c.in-Ok.ensures.of c.in_ok-before.ensures.few
+with_objects-requires-clause-paged g c = c.in-Ok.ensures.own c.in_ok-before.ensures.few
 
 pub with_objects-requires-clause-buffer : goal.with_objects-requires-clause-buffer
 with_objects-requires-clause-buffer g c = subst (λ (s : State). AreOf s.repo s.mob) (sym c.in_ok-before.ensures.spelled) c.requires.keeps.objects

@@ -48,8 +48,8 @@ returns-clause-paged g c = λ disk told.
     let whole = all_whole (IsOnSide One c.args.repo disk) c.args.installed.now c.as_slice-page-items.result.now c.loop-page.page-index c.loop-page.paged c.as_slice-page-items.ensures.value c.loop-page-test.false (c.loop-page.invariant.2 disk told) in
     record { pages = whole.pages; each = whole.each; all = whole.all }
 
-pub returns-clause-of : goal.returns-clause-of
-returns-clause-of g c = λ few. all_of c.args.repo c.args.installed.now c.loop-page.paged few (all_whole (OnNamed c.args.repo) c.args.installed.now c.as_slice-page-items.result.now c.loop-page.page-index c.loop-page.paged c.as_slice-page-items.ensures.value c.loop-page-test.false c.loop-page.invariant.3)
+pub returns-clause-own : goal.returns-clause-own
+returns-clause-own g c = λ few. all_of c.args.repo c.args.installed.now c.loop-page.paged few (all_whole (OnNamed c.args.repo) c.args.installed.now c.as_slice-page-items.result.now c.loop-page.page-index c.loop-page.paged c.as_slice-page-items.ensures.value c.loop-page-test.false c.loop-page.invariant.3)
 
 pub returns-clause-distinct : goal.returns-clause-distinct
 returns-clause-distinct g c = all_distinct c.args.repo c.args.installed.now c.loop-page.paged c.as_slice-page-items.ensures.fit.rising (all_whole (OnNamed c.args.repo) c.args.installed.now c.as_slice-page-items.result.now c.loop-page.page-index c.loop-page.paged c.as_slice-page-items.ensures.value c.loop-page-test.false c.loop-page.invariant.3)
