@@ -55,7 +55,7 @@ inner_damaged images None d place fault there stood = cc
 inner_damaged images (Some f) d place fault there stood = inr (log_of f, (subst (λ (n : ℕ). Stands (images n) (log_of f)) (sym fault.0) stood, fault.1))
 
 -- pages that were not read agree with each disk that has their sides
-unread_agree : (pages : Store) → IsUnread pages → (disk : List ℕ) → ReachesSides pages.sides disk → Agrees pages disk
+pub unread_agree : (pages : Store) → IsUnread pages → (disk : List ℕ) → ReachesSides pages.sides disk → Agrees pages disk
 unread_agree pages unread disk reaches = record {
   reaches = reaches;
   held = λ page contents is. (let none : page_in [] page ≡ Some contents = subst (λ (held : List (ℕ × Option Contents)). page_in held page ≡ Some contents) unread.none_held is in cc);

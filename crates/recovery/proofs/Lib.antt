@@ -6,3 +6,5 @@ pub mod Reopened
 pub mod Aside
 pub mod Paging
 pub mod Migrated
+pub mod PagedObjects
+pub mod Moving

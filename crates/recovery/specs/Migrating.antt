@@ -1,13 +1,14 @@
 -- What a migration makes of a repository of the older format (this project's).
 use Rattle.commit_log.specs.Holds.{Says}
 use Rattle.commit_log.specs.Values.{migrated}
+use Rattle.disk_trait.specs.Disks.{Disks, WhereTold}
 use Rattle.log_codec.specs.declared.state.State.{State}
 use Rattle.page_format.specs.declared.format.StoreFormat.{StoreFormat}
 use Rattle.page_format.specs.declared.format.StoreFormat.TheVariants.{One, Two}
 use Rattle.recovery.specs.Found.{recorded}
-use Rattle.recovery.specs.Paged.{ArePaged}
+use Rattle.recovery.specs.Paged.{AreOnPage, ArePaged, IsOnSide}
 use Rattle.recovery.specs.declared.recovered.Recovered.{Recovered}
-use Rattle.std.specs.Prelude.{List, ℕ, ◌≡◌, ◌≤◌, ◌⊎◌}
+use Rattle.std.specs.Prelude.{List, ℕ, ◌++◌, ◌<◌, ◌≡◌, ◌≤◌, ◌⊎◌}
 use Rattle.thor_value.specs.declared.names.Oref.{Oref}
 use Rattle.thor_value.specs.declared.values.Obj.{Obj}
 
@@ -27,3 +28,11 @@ SaysMigrated s disk images = Says s images ⊎ ((t : State) × IsMigrated s disk
 abbrev pub Becomes : StoreFormat → State → List ℕ → State → Type 0
 Becomes One s disk t = IsMigrated s disk t
 Becomes Two s disk t = t ≡ s
+
+-- the objects of an installed page of the older format were put behind others
+pub record PutsPage (repo : ℕ) (disks : Disks) (installed : ℕ × ℕ) (old new : List (Oref × Obj)) : Type 0 where
+  pub objects : List (Oref × Obj)
+  pub put : new ≡ old ++ objects
+  pub small : installed.0 < 65536
+  pub on_page : AreOnPage repo installed.0 objects
+  pub on_side : WhereTold disks 2 (λ disk. IsOnSide One repo disk installed objects)

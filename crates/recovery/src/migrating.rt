@@ -4,7 +4,7 @@ ghost use Rattle.commit_log.specs.Holds.{Holds, SaysEither};
 ghost use Rattle.commit_log.specs.Recovered.{in_format, is_whole};
 ghost use Rattle.commit_log.specs.Values.{migrated};
 ghost use Rattle.disk_trait.specs.AllDisks.{GoesOn, LeavesAll, NoFault, ReadsAs, TellsAll};
-ghost use Rattle.disk_trait.specs.Disks.{Disks, NoNewImage, OnDisk, Rose, WhereTold};
+ghost use Rattle.disk_trait.specs.Disks.{Disks, NoNewImage, Rose, WhereTold};
 ghost use Rattle.log_codec.specs.Checkpoint.{StateFits};
 ghost use Rattle.log_codec.specs.declared.state.State.{State as AState};
 ghost use Rattle.mob_buffer.specs.Buffer.{AreDistinct, AreOf};
@@ -12,12 +12,12 @@ ghost use Rattle.page_format.specs.declared.format.StoreFormat.TheVariants.{One,
 ghost use Rattle.page_store.specs.Sides.{ReachesSides};
 ghost use Rattle.page_store.specs.Store.{Agrees};
 ghost use Rattle.recovery.specs.Found.{recorded};
-ghost use Rattle.recovery.specs.Migrating.{Becomes, IsMigrated, SaysMigrated};
+ghost use Rattle.recovery.specs.Migrating.{Becomes, IsMigrated, PutsPage, SaysMigrated};
 ghost use Rattle.recovery.specs.Faults.{log_fault, page_fault};
-ghost use Rattle.recovery.specs.Paged.{ArePaged, HasSide, HasSides, IsOnSide};
+ghost use Rattle.recovery.specs.Paged.{AreOnPage, ArePaged, AreObjectPages, HasSide, HasSides, IsOnSide, Stays};
 ghost use Rattle.recovery.specs.declared.fault.RecoverFault.TheVariants.{Damaged, Failed, NoMemory as OutOfMemory};
 ghost use Rattle.repo_state.specs.Keeps.{IsUnread, Keeps};
-ghost use Rattle.repo_state.specs.Said.{said};
+ghost use Rattle.repo_state.specs.Said.{said, spelled};
 ghost use Rattle.std.specs.Prelude.{IfOk, IsErrOf, IsTrue, List, OnOk, [], ◌+◌, ◌<◌, ◌^◌, ◌≡◌, ℕ};
 ghost use Rattle.thor_value.specs.declared.names.Oref.{Oref as AnOref};
 ghost use Rattle.thor_value.specs.declared.values.Obj.{Obj as AnObj};
@@ -57,6 +57,7 @@ pub fn migrate<P: Parts>(
     requires keeps { Keeps recovered.state }
     requires pages { (disk : List ℕ) → ReachesSides recovered.state.objects.pages.sides disk → Agrees recovered.state.objects.pages disk }
     requires sides { WhereTold (P.disks parts.old) 2 (HasSides recovered.format recovered.state.objects.pages.sides) }
+    requires paged { WhereTold (P.disks parts.old) 2 (AreObjectPages recovered.format recovered.state.repo recovered.state.objects.pages.sides) }
     ensures goes { GoesOn (P.disks parts.old) (P.disks parts.new) }
     ensures any_moment { TellsAll (P.disks parts.old) → (images : ℕ → List ℕ) → ReadsAs (P.disks parts.old) images → LeavesAll (P.disks parts.old) (P.disks parts.new) (SaysMigrated (recorded recovered) (images 2)) }
     ensures format { IfOk result (λ r. r.format ≡ Two) }
@@ -65,6 +66,7 @@ pub fn migrate<P: Parts>(
     ensures pages { IfOk result (λ r. (disk : List ℕ) → ReachesSides r.state.objects.pages.sides disk → Agrees r.state.objects.pages disk) }
     ensures becomes { (images : ℕ → List ℕ) → ReadsAs (P.disks parts.old) images → IfOk result (λ r. Becomes recovered.format (recorded recovered) (images 2) (said r.state)) }
     ensures limit { IfOk result (λ r. r.state.objects.mob.limit ≡ recovered.state.objects.mob.limit) }
+    ensures stays { IfOk result (λ r. r.state ≡ record recovered.state { objects = r.state.objects; next_page = r.state.next_page }) }
     ensures content { (P.disks parts.new).content 2 ≡ (P.disks parts.old).content 2 }
     ensures still { NoNewImage (P.disks parts.old) (P.disks parts.new) 2 }
     ensures clock { (P.disks parts.new).clock ≡ (P.disks parts.old).clock }
@@ -75,21 +77,49 @@ pub fn migrate<P: Parts>(
 {
     match recovered.format {
         StoreFormat::Two => Ok(recovered),
-        StoreFormat::One => {
-            let Recovered {
-                state: held,
-                log,
-                format: _,
-                count,
-                reopens,
-            } = recovered;
-            let moved = moved_state(alloc, parts, &held);
-            let limit = held.objects().mob().limit();
-            drop(held);
-            let (log, state) = both(log, moved)?;
-            let begun = begin_log(parts, log, &state);
-            let (state, log) = both(state, begun)?;
-            let (log, state) = both(log, hold(alloc, state, limit))?;
+        StoreFormat::One => move_older(alloc, parts, recovered),
+    }
+}
+
+/// Moves a repository of the older format.
+fn move_older<P: Parts>(
+    alloc: Global,
+    parts: &mut P,
+    recovered: Recovered,
+) -> Result<Recovered, RecoverFault>
+    requires older { recovered.format ≡ One }
+    requires holds { Holds (P.disks parts.old) recovered.log (recorded recovered) }
+    requires keeps { Keeps recovered.state }
+    requires sides { WhereTold (P.disks parts.old) 2 (HasSides One recovered.state.objects.pages.sides) }
+    requires paged { WhereTold (P.disks parts.old) 2 (AreObjectPages One recovered.state.repo recovered.state.objects.pages.sides) }
+    ensures goes { GoesOn (P.disks parts.old) (P.disks parts.new) }
+    ensures any_moment { TellsAll (P.disks parts.old) → (images : ℕ → List ℕ) → ReadsAs (P.disks parts.old) images → LeavesAll (P.disks parts.old) (P.disks parts.new) (SaysMigrated (recorded recovered) (images 2)) }
+    ensures format { IfOk result (λ r. r.format ≡ Two) }
+    ensures holds { IfOk result (λ r. Holds (P.disks parts.new) r.log (said r.state)) }
+    ensures keeps { IfOk result (λ r. Keeps r.state) }
+    ensures pages { IfOk result (λ r. (disk : List ℕ) → ReachesSides r.state.objects.pages.sides disk → Agrees r.state.objects.pages disk) }
+    ensures becomes { (images : ℕ → List ℕ) → ReadsAs (P.disks parts.old) images → IfOk result (λ r. IsMigrated (recorded recovered) (images 2) (said r.state)) }
+    ensures limit { IfOk result (λ r. r.state.objects.mob.limit ≡ recovered.state.objects.mob.limit) }
+    ensures stays { IfOk result (λ r. r.state ≡ record recovered.state { objects = r.state.objects; next_page = r.state.next_page }) }
+    ensures content { (P.disks parts.new).content 2 ≡ (P.disks parts.old).content 2 }
+    ensures still { NoNewImage (P.disks parts.old) (P.disks parts.new) 2 }
+    ensures clock { (P.disks parts.new).clock ≡ (P.disks parts.old).clock }
+    ensures damaged { (d place : ℕ) → IsErrOf result (Damaged d place) → TellsAll (P.disks parts.old) → ⊥ }
+    ensures failed { (d : ℕ) → IsErrOf result (Failed d) → Rose ((P.disks parts.old).faults d) ((P.disks parts.new).faults d) }
+    ensures steady { OnOk result (NoFault (P.disks parts.old) (P.disks parts.new)) }
+    ensures wanting { IsErrOf result OutOfMemory → NoFault (P.disks parts.old) (P.disks parts.new) }
+{
+    let Recovered {
+        state: held,
+        log,
+        format: _,
+        count: _,
+        reopens,
+    } = recovered;
+    match moved_state(alloc, parts, &held) {
+        Ok(state) => {
+            let count = state.count;
+            let (state, log) = begin_older(alloc, parts, held, log, state)?;
             Ok(Recovered {
                 state,
                 log,
@@ -98,10 +128,105 @@ pub fn migrate<P: Parts>(
                 reopens,
             })
         }
+        Err(fault) => {
+            drop(held);
+            drop(log);
+            Err(fault)
+        }
+    }
+}
+
+/// A repository of the older format goes on with a state that was made of what is in memory, and with the log that begins with it.
+fn begin_older<P: Parts>(
+    alloc: Global,
+    parts: &mut P,
+    held: HeldState,
+    log: CommitLog,
+    state: State,
+) -> Result<(HeldState, CommitLog), RecoverFault>
+    requires fits { StateFits state }
+    requires whole { IsTrue (is_whole state) }
+    requires same { state ≡ record (spelled held) { installed = state.installed; mob = state.mob } }
+    requires keeps { Keeps held }
+    requires holds { (s : AState) × Holds (P.disks parts.old) log s }
+    ensures goes { GoesOn (P.disks parts.old) (P.disks parts.new) }
+    ensures any_moment { (s : AState) → Holds (P.disks parts.old) log s → TellsAll (P.disks parts.old) → LeavesAll (P.disks parts.old) (P.disks parts.new) (SaysEither s state) }
+    ensures holds { IfOk result (λ begun. Holds (P.disks parts.new) begun.1 (said begun.0)) }
+    ensures keeps { IfOk result (λ begun. Keeps begun.0) }
+    ensures said { IfOk result (λ begun. said begun.0 ≡ state) }
+    ensures unread { IfOk result (λ begun. IsUnread begun.0.objects.pages) }
+    ensures limit { IfOk result (λ begun. begun.0.objects.mob.limit ≡ held.objects.mob.limit) }
+    ensures stays { IfOk result (λ begun. begun.0 ≡ record held { objects = begun.0.objects; next_page = begun.0.next_page }) }
+    ensures pages { (P.disks parts.new).content 2 ≡ (P.disks parts.old).content 2 }
+    ensures still { NoNewImage (P.disks parts.old) (P.disks parts.new) 2 }
+    ensures clock { (P.disks parts.new).clock ≡ (P.disks parts.old).clock }
+    ensures damaged { (d place : ℕ) → IsErrOf result (Damaged d place) → ⊥ }
+    ensures failed { (d : ℕ) → IsErrOf result (Failed d) → Rose ((P.disks parts.old).faults d) ((P.disks parts.new).faults d) }
+    ensures steady { OnOk result (NoFault (P.disks parts.old) (P.disks parts.new)) }
+    ensures wanting { IsErrOf result OutOfMemory → NoFault (P.disks parts.old) (P.disks parts.new) }
+{
+    let limit = held.objects().mob().limit();
+    match begin(alloc, parts, log, state, limit) {
+        Ok((moved, log)) => Ok((taken(held, moved), log)),
+        Err(fault) => {
+            drop(held);
+            Err(fault)
+        }
+    }
+}
+
+/// A state with the objects of one that was made of its checkpoint.
+fn taken(held: HeldState, moved: HeldState) -> HeldState
+    requires { moved.repo ≡ held.repo }
+    ensures keeps { Keeps moved → Keeps held → Keeps result }
+    ensures held { result ≡ record held { objects = moved.objects; next_page = held.next_grant } }
+{
+    let mut held = held;
+    held.take_moved(moved);
+    held
+}
+
+/// The state in memory, with the log that begins with it.
+fn begin<P: Parts>(
+    alloc: Global,
+    parts: &mut P,
+    log: CommitLog,
+    state: State,
+    limit: u32,
+) -> Result<(HeldState, CommitLog), RecoverFault>
+    requires fits { StateFits state }
+    requires whole { IsTrue (is_whole state) }
+    requires format { state.format ≡ Two }
+    requires holds { (s : AState) × Holds (P.disks parts.old) log s }
+    ensures goes { GoesOn (P.disks parts.old) (P.disks parts.new) }
+    ensures any_moment { (s : AState) → Holds (P.disks parts.old) log s → TellsAll (P.disks parts.old) → LeavesAll (P.disks parts.old) (P.disks parts.new) (SaysEither s state) }
+    ensures holds { IfOk result (λ begun. Holds (P.disks parts.new) begun.1 state) }
+    ensures keeps { IfOk result (λ begun. Keeps begun.0) }
+    ensures said { IfOk result (λ begun. said begun.0 ≡ state) }
+    ensures unread { IfOk result (λ begun. IsUnread begun.0.objects.pages) }
+    ensures limit { IfOk result (λ begun. begun.0.objects.mob.limit ≡ limit) }
+    ensures pages { (P.disks parts.new).content 2 ≡ (P.disks parts.old).content 2 }
+    ensures still { NoNewImage (P.disks parts.old) (P.disks parts.new) 2 }
+    ensures clock { (P.disks parts.new).clock ≡ (P.disks parts.old).clock }
+    ensures damaged { (d place : ℕ) → IsErrOf result (Damaged d place) → ⊥ }
+    ensures failed { (d : ℕ) → IsErrOf result (Failed d) → Rose ((P.disks parts.old).faults d) ((P.disks parts.new).faults d) }
+    ensures steady { OnOk result (NoFault (P.disks parts.old) (P.disks parts.new)) }
+    ensures wanting { IsErrOf result OutOfMemory → NoFault (P.disks parts.old) (P.disks parts.new) }
+{
+    match begin_log(parts, log, &state) {
+        Ok(log) => {
+            let (begun, held) = both(log, hold(alloc, state, limit))?;
+            Ok((held, begun))
+        }
+        Err(fault) => {
+            drop(state);
+            Err(fault)
+        }
     }
 }
 
 /// The state that is written: that in memory, with the objects of all installed pages in its buffer, and no page installed.
+#[tactic(auto, using(crate::proofs::Moving::stays_none))]
 fn moved_state<P: Parts>(
     alloc: Global,
     parts: &mut P,
@@ -109,28 +234,47 @@ fn moved_state<P: Parts>(
 ) -> Result<State, RecoverFault>
     requires keeps { Keeps held.now }
     requires sides { WhereTold (P.disks parts.old) 2 (HasSides One held.now.objects.pages.sides) }
-    ensures alone { OnDisk (P.disks parts.old) (P.disks parts.new) 2 }
-    ensures content { (P.disks parts.new).content 2 ≡ (P.disks parts.old).content 2 }
-    ensures crash { NoNewImage (P.disks parts.old) (P.disks parts.new) 2 }
+    requires paged { WhereTold (P.disks parts.old) 2 (AreObjectPages One held.now.repo held.now.objects.pages.sides) }
+    ensures stays { Stays (P.disks parts.old) (P.disks parts.new) }
     ensures fits { IfOk result StateFits }
     ensures whole { IfOk result (λ state. IsTrue (is_whole state)) }
+    ensures same { IfOk result (λ state. state ≡ record (spelled held.now) { installed = state.installed; mob = state.mob }) }
     ensures moved { (images : ℕ → List ℕ) → ReadsAs (P.disks parts.old) images → IfOk result (IsMigrated (in_format One (said held.now)) (images 2)) }
     ensures damaged { (d place : ℕ) → IsErrOf result (Damaged d place) → TellsAll (P.disks parts.old) → ⊥ }
     ensures failed { (d : ℕ) → IsErrOf result (Failed d) → (d ≡ 2) × Rose ((P.disks parts.old).faults 2) ((P.disks parts.new).faults 2) }
     ensures steady { OnOk result ((P.disks parts.new).faults 2 ≡ (P.disks parts.old).faults 2) }
     ensures wanting { IsErrOf result OutOfMemory → (P.disks parts.new).faults 2 ≡ (P.disks parts.old).faults 2 }
 {
-    if held.repo() >= REPOSITORIES || held.count() >= END {
-        return Err(RecoverFault::NoMemory);
+    let before = spell(held)?;
+    match read_paged(alloc, parts, before.repo, &before.installed) {
+        Ok(paged) => {
+            let state = with_objects(alloc, before, paged)?;
+            Ok(state)
+        }
+        Err(fault) => {
+            drop(before);
+            Err(fault)
+        }
     }
-    let state = held.state()?;
-    let paged = read_paged(alloc, parts, state.repo, &state.installed);
-    let (state, paged) = both(state, paged)?;
-    let state = with_objects(alloc, state, paged)?;
-    Ok(state)
+}
+
+/// The state in memory, as a checkpoint spells it. There is no memory for the last count of entries, nor for a repository that no
+/// name has.
+fn spell(held: &HeldState) -> Result<State, NoMemory>
+    requires { Keeps held.now }
+    ensures spelled { IfOk result (λ state. state ≡ spelled held.now) }
+    ensures fits { IfOk result StateFits }
+    ensures whole { IfOk result (λ state. IsTrue (is_whole state)) }
+    ensures few { IfOk result (λ state. state.repo < 8) }
+{
+    if held.repo() >= REPOSITORIES || held.count() >= END {
+        return Err(NoMemory);
+    }
+    held.state()
 }
 
 /// The objects of all installed pages of a repository of the older format, pages and slots rising: a disk call for each.
+#[tactic(auto, using(crate::proofs::Moving::stays_none))]
 fn read_paged<P: Parts>(
     alloc: Global,
     parts: &mut P,
@@ -138,26 +282,45 @@ fn read_paged<P: Parts>(
     installed: &Sides,
 ) -> Result<Writes, RecoverFault>
     requires sides { WhereTold (P.disks parts.old) 2 (HasSides One installed.now) }
-    ensures alone { OnDisk (P.disks parts.old) (P.disks parts.new) 2 }
-    ensures content { (P.disks parts.new).content 2 ≡ (P.disks parts.old).content 2 }
-    ensures crash { NoNewImage (P.disks parts.old) (P.disks parts.new) 2 }
+    ensures stays { Stays (P.disks parts.old) (P.disks parts.new) }
     ensures paged { IfOk result (λ objects. WhereTold (P.disks parts.old) 2 (λ disk. ArePaged One repo disk installed.now objects)) }
-    ensures of { repo < 8 → IfOk result (AreOf repo) }
+    ensures own { repo < 8 → IfOk result (AreOf repo) }
     ensures distinct { IfOk result AreDistinct }
-    ensures damaged { (d place : ℕ) → IsErrOf result (Damaged d place) → WhereTold (P.disks parts.old) 2 (λ disk. (objects : List (AnOref × AnObj)) → ArePaged One repo disk installed.now objects → ⊥) }
+    ensures damaged { (d place : ℕ) → IsErrOf result (Damaged d place) → WhereTold (P.disks parts.old) 2 (λ disk. AreObjectPages One repo installed.now disk → ⊥) }
     ensures failed { (d : ℕ) → IsErrOf result (Failed d) → (d ≡ 2) × Rose ((P.disks parts.old).faults 2) ((P.disks parts.new).faults 2) }
     ensures steady { OnOk result ((P.disks parts.new).faults 2 ≡ (P.disks parts.old).faults 2) }
     ensures wanting { IsErrOf result OutOfMemory → (P.disks parts.new).faults 2 ≡ (P.disks parts.old).faults 2 }
 {
     let mut paged = Writes::new(alloc);
     for page in installed.as_slice() {
-        let objects = read_page(alloc, parts, repo, *page)?;
-        paged.append(objects)?;
+        put_page(alloc, parts, repo, *page, &mut paged)?;
     }
     Ok(paged)
 }
 
-/// The objects of one of them. There is no memory for a page that no name has.
+/// Puts the objects of one of them behind others.
+fn put_page<P: Parts>(
+    alloc: Global,
+    parts: &mut P,
+    repo: u8,
+    installed: (u32, u8),
+    paged: &mut Writes,
+) -> Result<(), RecoverFault>
+    requires within { WhereTold (P.disks parts.old) 2 (λ disk. HasSide One disk installed) }
+    ensures stays { Stays (P.disks parts.old) (P.disks parts.new) }
+    ensures put { OnOk result (PutsPage repo (P.disks parts.old) installed paged.old paged.new) }
+    ensures damaged { (d place : ℕ) → IsErrOf result (Damaged d place) → WhereTold (P.disks parts.old) 2 (λ disk. (objects : List (AnOref × AnObj)) → IsOnSide One repo disk installed objects → ⊥) }
+    ensures failed { (d : ℕ) → IsErrOf result (Failed d) → (d ≡ 2) × Rose ((P.disks parts.old).faults 2) ((P.disks parts.new).faults 2) }
+    ensures steady { OnOk result ((P.disks parts.new).faults 2 ≡ (P.disks parts.old).faults 2) }
+    ensures wanting { IsErrOf result OutOfMemory → (P.disks parts.new).faults 2 ≡ (P.disks parts.old).faults 2 }
+{
+    let objects = read_page(alloc, parts, repo, installed)?;
+    paged.append(objects)?;
+    Ok(())
+}
+
+/// The objects of an installed page. There is no memory for a page that no name has.
+#[tactic(auto, using(crate::proofs::Moving::stays_none))]
 fn read_page<P: Parts>(
     alloc: Global,
     parts: &mut P,
@@ -165,10 +328,9 @@ fn read_page<P: Parts>(
     installed: (u32, u8),
 ) -> Result<Writes, RecoverFault>
     requires within { WhereTold (P.disks parts.old) 2 (λ disk. HasSide One disk installed) }
-    ensures alone { OnDisk (P.disks parts.old) (P.disks parts.new) 2 }
-    ensures content { (P.disks parts.new).content 2 ≡ (P.disks parts.old).content 2 }
-    ensures crash { NoNewImage (P.disks parts.old) (P.disks parts.new) 2 }
-    ensures page { OnOk result (installed.0 < 65536) }
+    ensures stays { Stays (P.disks parts.old) (P.disks parts.new) }
+    ensures small { OnOk result (installed.0 < 65536) }
+    ensures page { IfOk result (AreOnPage repo installed.0) }
     ensures found { IfOk result (λ objects. WhereTold (P.disks parts.old) 2 (λ disk. IsOnSide One repo disk installed objects)) }
     ensures damaged { (d place : ℕ) → IsErrOf result (Damaged d place) → WhereTold (P.disks parts.old) 2 (λ disk. (objects : List (AnOref × AnObj)) → IsOnSide One repo disk installed objects → ⊥) }
     ensures failed { (d : ℕ) → IsErrOf result (Failed d) → (d ≡ 2) × Rose ((P.disks parts.old).faults 2) ((P.disks parts.new).faults 2) }
@@ -195,9 +357,13 @@ fn with_objects(alloc: Global, state: State, paged: Writes) -> Result<State, NoM
     ensures fits { IfOk result StateFits }
     ensures whole { IfOk result (λ moved. IsTrue (is_whole moved)) }
 {
-    let objects = merged(alloc, state.repo, paged, &state.mob);
-    let (state, objects) = both(state, objects)?;
-    Ok(on_no_page(alloc, state, objects))
+    match merged(alloc, state.repo, paged, &state.mob) {
+        Ok(objects) => Ok(on_no_page(alloc, state, objects)),
+        Err(fault) => {
+            drop(state);
+            Err(fault)
+        }
+    }
 }
 
 /// A state with these objects in its buffer, and no page installed.

@@ -5,7 +5,7 @@ ghost use Rattle.object_codec.specs.Spelling.{ObjFits, obj_bytes};
 ghost use Rattle.page_store.specs.Objects.{HasObjects, SpellsObject};
 ghost use Rattle.page_store.specs.Sides.{place_in};
 ghost use Rattle.page_store.specs.declared.fault.StoreFault.TheVariants.{Damaged, Failed, NoMemory as OutOfMemory};
-ghost use Rattle.recovery.specs.Paged.{AreOfPage, HasSide, IsOnSide, IsPaged};
+ghost use Rattle.recovery.specs.Paged.{AreOfPage, AreOnPage, HasSide, IsOnSide, IsPaged};
 ghost use Rattle.std.specs.Prelude.{IfOk, IsErrOf, List, OnOk, Some, slice_get, ◌≡◌, ℕ};
 ghost use Rattle.thor_value.specs.declared.names.Oref.{Oref as AnOref};
 ghost use Rattle.thor_value.specs.declared.values.Obj.{Obj as AnObj};
@@ -32,6 +32,7 @@ pub fn read_objects<P: Parts>(
     ensures content { (P.disks parts.new).content 2 ≡ (P.disks parts.old).content 2 }
     ensures crash { NoNewImage (P.disks parts.old) (P.disks parts.new) 2 }
     ensures found { IfOk result (λ objects. WhereTold (P.disks parts.old) 2 (λ disk. IsOnSide format repo disk installed objects)) }
+    ensures page { IfOk result (AreOnPage repo installed.0) }
     ensures place { (place : ℕ) → IsErrOf result (Damaged place) → place ≡ place_in format installed.0 installed.1 }
     ensures damaged { (place : ℕ) → IsErrOf result (Damaged place) → WhereTold (P.disks parts.old) 2 (λ disk. (objects : List (AnOref × AnObj)) → IsOnSide format repo disk installed objects → ⊥) }
     ensures failed { IsErrOf result Failed → Rose ((P.disks parts.old).faults 2) ((P.disks parts.new).faults 2) }
@@ -40,9 +41,10 @@ pub fn read_objects<P: Parts>(
     ensures harmed { (place : ℕ) → IsErrOf result (Damaged place) → (P.disks parts.new).faults 2 ≡ (P.disks parts.old).faults 2 }
 {
     let page = read_side_in(alloc, parts, format, installed.0, installed.1)?;
-    let objects = objects_of(alloc, repo, &page);
+    let read = objects_of(alloc, repo, &page);
     drop(page);
-    Ok(objects?)
+    let objects = read?;
+    Ok(objects)
 }
 
 /// The objects of a page, slots rising.

@@ -16,11 +16,9 @@ use Rattle.log_codec.specs.declared.body.Body.TheVariants.{Entry as AnEntry, Ins
 use Rattle.log_codec.specs.declared.state.State.{State}
 use Rattle.log_frame.specs.Log.{Opened, Place, read_log}
 use Rattle.mob_flusher.specs.Map.{Kept}
+use Rattle.page_format.specs.declared.format.StoreFormat.TheVariants as written
 use Rattle.page_format.specs.declared.format.StoreFormat.{StoreFormat}
-use Rattle.page_format.specs.declared.format.StoreFormat.TheVariants.{Two}
 use Rattle.page_store.specs.Sides.{ReachesSides, side_bytes}
-use Rattle.recovery.specs.Found.{recorded}
-use Rattle.recovery.specs.declared.recovered.Recovered.{Recovered}
 use Rattle.repo_durable.proofs.Remembering.{comes_back, comes_behind, comes_installed}
 use Rattle.repo_durable.proofs.Pages.{one_disk, reads_of, tells_before, tells_on}
 use Rattle.repo_durable.proofs.Saying.{log_same, log_says, said_in_phase}
@@ -32,10 +30,10 @@ use Rattle.repo_durable.specs.declared.agreement.Numbers.{Numbers}
 use Rattle.repo_durable.specs.declared.stable.Phase.TheVariants.{Down, Torn, Up}
 use Rattle.repo_durable.specs.declared.stable.Phase.{Phase}
 use Rattle.repo_durable.specs.declared.stable.Stable.{Stable}
+use Rattle.commit_log.proofs.Formats.{format_stays}
 use Rattle.commit_log.specs.Holds.{Holds}
 use Rattle.commit_log.specs.Opening.{IsFresh}
-use Rattle.commit_log.proofs.Formats.{format_stays}
-use Rattle.commit_log.specs.Recovered.{after, chosen, closed, decided, in_format, kept_by, opened_without, stands, state_in}
+use Rattle.commit_log.specs.Recovered.{after, chosen, closed, decided, kept_by, opened_without, stands, state_in}
 use Rattle.std.proofs.Common.{Bool, Err, List, None, Ok, Option, Result, Some, ap, arith, false, inl, inr, length, refl, true, subst, sym, ◌+◌, ◌<◌, ◌∙◌, ◌≡◌, ◌⊎◌, ℕ}
 use Rattle.std.proofs.lemmas.Bool.{cases_eq}
 use Rattle.std.specs.Option.{IfSome, IsSome, option_and_then}
@@ -128,34 +126,38 @@ none_lost old mid read h pending more same left lost says tells = never_lost old
 pub none_fresh : (old mid read : Disks) (h : Held) (pending : Option Entry) → LeavesNoMore old read → SameContent mid read → ((bytes : ℕ → List ℕ) → ReadsAs read bytes → MayLeaveAll read read.time bytes) → ((bytes : ℕ → List ℕ) → ReadsAs mid bytes → IsFresh bytes) → ImagesSay old h pending → TellsAll old → ⊥
 none_fresh old mid read h pending more same left fresh says tells = never_lost old read h pending more left (λ bytes reads. fresh_none bytes (fresh bytes (reads_same mid read bytes same reads))) says tells
 
--- what is remembered is of the same format
-same_format : (s a : State) → Remembers s a → s.format ≡ a.format
-same_format s a r = ap (λ (z : State). z.format) r.rest
-
--- so it is of the format that is written
-one_of_two : (h : Held) (pending : Option Entry) (s : State) → IsOneOf h pending s → s.format ≡ Two
-one_of_two h None s (inl says) = same_format s (said h) says
-one_of_two h None s (inr i) = same_format s (after (said h) (Installed i.page i.side)) i.says
-one_of_two h (Some e) s (inl says) = same_format s (said h) says
-one_of_two h (Some e) s (inr says) = same_format s (after (said h) (AnEntry e)) says ∙ format_stays (said h) (AnEntry e)
-
--- what was recovered of that format is what is said
-pub two_is_said : (r : Recovered) → r.format ≡ Two → said r.state ≡ recorded r
-two_is_said r is = sym (ap (λ (f : StoreFormat). in_format f (said r.state)) is)
-
-pub said_two : (disks : Disks) (r : Recovered) → r.format ≡ Two → Holds disks r.log (recorded r) → Holds disks r.log (said r.state)
-said_two disks r is holds = subst (λ (s : State). Holds disks r.log s) (sym (two_is_said r is)) holds
-
--- it is of that format, and the disk of pages reaches the sides in use
-pub none_lacks : (old read : Disks) (log : Place) (h : Held) (s : State) (pending : Option Entry) → LeavesNoMore old read → Holds read log s → ((bytes : ℕ → List ℕ) → ReadsAs read bytes → MayLeaveAll read read.time bytes) → ImagesSay old h pending → TellsAll old → WhereTold read 2 (λ disk. s.format ≡ Two → ReachesSides s.installed disk → ⊥) → ⊥
+-- the disk of pages reaches the sides in use
+pub none_lacks : (old read : Disks) (log : Place) (h : Held) (s : State) (pending : Option Entry) → LeavesNoMore old read → Holds read log s → ((bytes : ℕ → List ℕ) → ReadsAs read bytes → MayLeaveAll read read.time bytes) → ImagesSay old h pending → TellsAll old → WhereTold read 2 (λ disk. ReachesSides s.installed disk → ⊥) → ⊥
 none_lacks old read log h s pending more holds left says tells lacks =
     let on = more.goes_on tells in
     let got = reads_of read on in
     let there = left got.0 got.1 in
     let one = says.each tells got.0 (more.images got.0 there) in
     let here : stands got.0 ≡ Some s = log_says read log s holds on got.0 (λ d within. there d (omega (arith, within))) in
-    let same = one_state one.state s (stands got.0) one.stands here in
-    lacks (got.0 2) (got.1 2 (omega arith)) (subst (λ (t : State). t.format ≡ Two) same (one_of_two h pending one.state one.says)) (subst (λ (t : State). ReachesSides t.installed (got.0 2)) same one.reaches)
+    lacks (got.0 2) (got.1 2 (omega arith)) (subst (λ (t : State). ReachesSides t.installed (got.0 2)) (one_state one.state s (stands got.0) one.stands here) one.reaches)
+
+-- what is held is of the format that is written, and so is what the disks say
+one_format : (h : Held) (pending : Option Entry) (s : State) → IsOneOf h pending s → s.format ≡ written.Two
+one_format h None s is = elim is [
+  | inl back ↦ ap (λ (z : State). z.format) back.rest
+  | inr installing ↦ ap (λ (z : State). z.format) installing.says.rest ∙ format_stays (said h) (Installed installing.page installing.side)
+]
+one_format h (Some e) s is = elim is [
+  | inl back ↦ ap (λ (z : State). z.format) back.rest
+  | inr behind ↦ ap (λ (z : State). z.format) behind.rest ∙ format_stays (said h) (AnEntry e)
+]
+
+never_both : (f : StoreFormat) → f ≡ written.One → f ≡ written.Two → ⊥
+never_both f older newer = cc
+
+pub none_older : (old read : Disks) (log : Place) (h : Held) (s : State) (pending : Option Entry) → LeavesNoMore old read → Holds read log s → ((bytes : ℕ → List ℕ) → ReadsAs read bytes → MayLeaveAll read read.time bytes) → ImagesSay old h pending → TellsAll old → s.format ≡ written.One → ⊥
+none_older old read log h s pending more holds left says tells older =
+    let on = more.goes_on tells in
+    let got = reads_of read on in
+    let there = left got.0 got.1 in
+    let one = says.each tells got.0 (more.images got.0 there) in
+    let here : stands got.0 ≡ Some s = log_says read log s holds on got.0 (λ d within. there d (omega (arith, within))) in
+    never_both s.format older (ap (λ (z : State). z.format) (sym (one_state one.state s (stands got.0) one.stands here)) ∙ one_format h pending one.state one.says)
 
 -- ---- which of the two it is
 

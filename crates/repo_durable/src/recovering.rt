@@ -1,13 +1,13 @@
 //! How a repository that is down comes up.
 
 ghost use Rattle.disk_trait.specs.AllDisks.{NoFault};
-ghost use Rattle.std.specs.Prelude.{◌≡◌, IfErr, IfOk, IsErrOf, OnErr, OnOk, Option, false, true, ℕ};
+ghost use Rattle.std.specs.Prelude.{◌≡◌, ◌⊎◌, IfErr, IfOk, IsErrOf, OnErr, OnOk, Option, false, true, ℕ};
 ghost use Rattle.log_entries.specs.declared.entry.Entry.{Entry as AnyEntry};
 ghost use Rattle.disk_trait.specs.AllDisks.{GoesOn, SameContent, TellsAll};
 ghost use Rattle.disk_trait.specs.Disks.{WhereTold};
 ghost use Rattle.repo_state.specs.Keeps.{Keeps};
 ghost use Rattle.repo_state.specs.Said.{said};
-ghost use Rattle.page_format.specs.declared.format.StoreFormat.TheVariants.{Two};
+ghost use Rattle.page_format.specs.declared.format.StoreFormat.TheVariants.{One};
 ghost use Rattle.page_store.specs.Sides.{ReachesSides};
 ghost use Rattle.recovery.specs.Found.{recorded};
 ghost use Rattle.repo_durable.specs.Agreeing.{CanEnter, IsTaken};
@@ -170,15 +170,14 @@ impl<P: Parts> Stable<P> {
         let found = recover(alloc, &mut self.parts, mob_limit);
         content_is_left(&self.parts);
         match found {
-            Ok(Some(recovered)) => self.written(recovered),
+            Ok(Some(recovered)) => self.current(recovered),
             Ok(None) => Err(Refusal::Damaged { repo, place: 0 }),
             Err(fault) => Err(of_recovery(repo, fault)),
         }
     }
 
-    /// What was recovered, where it is of the format that is written, and the disk of pages reaches the installed sides.
-    #[tactic(auto, using(crate::proofs::Returning::none_more, crate::proofs::Returning::said_two, crate::proofs::Counting::stays_none, disk_trait::proofs::Several::goes_none))]
-    fn written(&mut self, recovered: Recovered) -> Result<Recovered, Refusal>
+    /// What was recovered, where it is of the format that is written and the disk of pages reaches the installed sides.
+    fn current(&mut self, recovered: Recovered) -> Result<Recovered, Refusal>
         requires stands { Holds (disks_of P.disks self.old) recovered.log (recorded recovered) }
         requires keeps { Keeps recovered.state }
         requires pages { AgreesWhere recovered.state.objects.pages }
@@ -195,16 +194,14 @@ impl<P: Parts> Stable<P> {
         ensures stopped { (r : ℕ) → IsErrOf result (IsStopped r) → HasFailed (disks_of P.disks self.old).faults (disks_of P.disks self.new).faults }
         ensures steady { OnOk result (NoFault (disks_of P.disks self.old) (disks_of P.disks self.new)) }
         ensures quiet { IfErr result (λ r. is_stopped r ≡ false → NoFault (disks_of P.disks self.old) (disks_of P.disks self.new)) }
-        ensures damaged { (r place : ℕ) → IsErrOf result (IsDamaged r place) → WhereTold (disks_of P.disks self.old) 2 (λ disk. recovered.format ≡ Two → ReachesSides recovered.state.objects.pages.sides disk → ⊥) }
+        ensures damaged { (r place : ℕ) → IsErrOf result (IsDamaged r place) → (recovered.format ≡ One) ⊎ WhereTold (disks_of P.disks self.old) 2 (λ disk. ReachesSides recovered.state.objects.pages.sides disk → ⊥) }
     {
+        let repo = self.repo();
         match recovered.format {
             StoreFormat::Two => self.reached(recovered),
             StoreFormat::One => {
                 drop(recovered);
-                Err(Refusal::Damaged {
-                    repo: self.repo(),
-                    place: 0,
-                })
+                Err(Refusal::Damaged { repo, place: 0 })
             }
         }
     }

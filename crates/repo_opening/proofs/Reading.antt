@@ -1,14 +1,13 @@
 -- The disk of pages is read beside an open log.
 use Rattle.repo_opening.specs.Same.{Same}
-use Rattle.repo_opening.specs.Recovered.{AgreesWhere, HasBytes, IsHeld, IsRecovered, Stays}
+use Rattle.repo_opening.specs.Recovered.{AgreesWhere, HasBytes, IsHeld, IsRecovered}
 use Rattle.disk_trait.specs.Disks.{WhereTold}
 use Rattle.recovery.specs.Found.{recorded}
-use Rattle.recovery.specs.Paged.{ArePaged, HasSides}
+use Rattle.recovery.proofs.Moving.{holds_on}
+use Rattle.recovery.specs.Paged.{ArePaged, AreObjectPages, HasSides, Stays}
 use Rattle.repo_opening.proofs.Syncing.{same_beside, same_content, same_then}
-use Rattle.disk_trait.specs.AllDisks.{AllSettled, LeavesAll, MayLeaveAll, ReadsAs, SameContent}
+use Rattle.disk_trait.specs.AllDisks.{LeavesAll, MayLeaveAll, ReadsAs, SameContent}
 use Rattle.disk_trait.specs.Disks.{Disks}
-use Rattle.disk_trait.proofs.Runs.{alone_none, alone_then}
-use Rattle.disk_trait.proofs.Several.{content_stays, settled_still}
 use Rattle.log_codec.specs.declared.state.State.{State}
 use Rattle.log_frame.specs.Log.{Place}
 use Rattle.page_format.specs.Pages.{page_size}
@@ -27,44 +26,28 @@ use Rattle.std.specs.Ordering.{is_eq, nat_cmp}
 use Rattle.std.specs.declared.cmp.Ordering.TheVariants.{Equal, Greater, Less}
 use Rattle.std.specs.declared.cmp.Ordering.{Ordering}
 
-pub stays_none : (disks : Disks) → Stays disks disks
-stays_none disks = record { alone = alone_none disks 2; content = refl; crash = λ image left. left }
-
-pub stays_then : (old mid new : Disks) → Stays old mid → Stays mid new → Stays old new
-stays_then old mid new first then = record {
-  alone = alone_then old mid new 2 first.alone then.alone;
-  content = then.content ∙ first.content;
-  crash = λ image left. first.crash image (then.crash image left);
-}
-
-pub settled_on : (old new : Disks) → Stays old new → AllSettled old → AllSettled new
-settled_on old new stays settled = settled_still old new 2 (omega arith) stays.alone stays.content stays.crash settled
-
--- the log holds what it held
-pub holds_on : (old new : Disks) (log : Place) (s : State) → Stays old new → Holds old log s → Holds new log s
-holds_on old new log s stays holds =
-    let same = content_stays old new 2 stays.alone stays.content in
-    record {
-      within = holds.within;
-      settled = settled_on old new stays holds.settled;
-      agrees = λ bytes told. holds.agrees bytes (sym (same log.disk) ∙ told);
-      told = λ bytes other told beside_told opened stood. holds.told bytes other (sym (same log.disk) ∙ told) (sym (same (beside log.disk)) ∙ beside_told) opened stood;
-    }
-
 -- what was found is held
 pub found_is : (disks : Disks) (found : Option Recovered) → IfSome found (λ r. Holds disks r.log (recorded r)) → IfSome found (λ r. Keeps r.state) → IfSome found (λ r. AgreesWhere r.state.objects.pages) → IfSome found (IsHeld disks)
 found_is disks None holds keeps pages = tt
 found_is disks (Some r) holds keeps pages = record { holds = holds; keeps = keeps; pages = pages }
 
 -- and recovered once its pages are read
-pub recovered_on : (old new : Disks) (r : Recovered) → Stays old new → WhereTold new 2 (HasSides r.format r.state.objects.pages.sides) → IsHeld old r → IsRecovered new r
-recovered_on old new r stays sides known = record {
+pub recovered_on : (old new : Disks) (r : Recovered) → Stays old new → WhereTold new 2 (HasSides r.format r.state.objects.pages.sides) → WhereTold new 2 (AreObjectPages r.format r.state.repo r.state.objects.pages.sides) → IsHeld old r → IsRecovered new r
+recovered_on old new r stays sides paged known = record {
   state = recorded r;
   said = refl;
   holds = holds_on old new r.log (recorded r) stays known.holds;
   keeps = known.keeps;
   pages = known.pages;
   sides = sides;
+  paged = paged;
+}
+
+-- the pages that were read are pages of objects
+pub has_pages : (r : Recovered) (repo : ℕ) (sides : List (ℕ × ℕ)) (disk : List ℕ) (old new : Objects) → sides ≡ r.state.objects.pages.sides → r.state.repo ≡ repo → PutsPaged r.format repo disk sides old new → AreObjectPages r.format r.state.repo r.state.objects.pages.sides disk
+has_pages r repo sides disk old new same number puts = record {
+  objects = puts.objects;
+  paged = subst (λ (n : ℕ). ArePaged r.format n disk r.state.objects.pages.sides puts.objects) (sym number) (subst (λ (qs : List (ℕ × ℕ)). ArePaged r.format repo disk qs puts.objects) same puts.paged);
 }
 
 -- what the disks that are read stand for is what is held

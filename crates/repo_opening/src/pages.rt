@@ -1,9 +1,9 @@
 //! The installed pages of a repository, read once for the checks of an opening.
 
 ghost use Rattle.disk_trait.specs.Disks.{WhereTold};
-ghost use Rattle.recovery.specs.Paged.{HasSide, HasSides};
+ghost use Rattle.recovery.specs.Paged.{HasSide, HasSides, Stays};
 ghost use Rattle.repo_opening.specs.Paged.{PutsPaged, PutsSide};
-ghost use Rattle.repo_opening.specs.Recovered.{HasBytes, Stays};
+ghost use Rattle.repo_opening.specs.Recovered.{HasBytes};
 ghost use Rattle.std.specs.Prelude.{IfOk, List, OnOk, Some, ◌≡◌, ℕ};
 ghost use Rattle.thor_value.specs.FiniteMap.{overwrite};
 

@@ -1,6 +1,7 @@
 use Rattle.recovery.specs.Paged.{HasSide}
 use Rattle.repo_opening.proofs.Paging.{all_sides, next_side, sides_all, sides_next}
-use Rattle.repo_opening.proofs.Reading.{bytes_on, stays_then}
+use Rattle.recovery.proofs.Moving.{stays_then}
+use Rattle.repo_opening.proofs.Reading.{bytes_on}
 use Rattle.std.proofs.Common.{sym, ◌∙◌}
 use Rattle.repo_opening.proofs.pages.read_pages.Goals as goal
 

@@ -1,8 +1,8 @@
-use Rattle.recovery.specs.Paged.{HasSide}
+use Rattle.recovery.specs.Paged.{HasSide, Stays}
 use Rattle.std.proofs.Common.{List, Some, take, ◌≡◌, ℕ}
 use Rattle.std.specs.List.{AllByRecursion}
 use Rattle.repo_opening.specs.Paged.{PutsPaged}
-use Rattle.repo_opening.specs.Recovered.{HasBytes, Stays}
+use Rattle.repo_opening.specs.Recovered.{HasBytes}
 use Rattle.repo_opening.proofs.pages.read_pages.Given as goal
 
 -- the disk of pages was read alone, it has as many bytes as was told and room for the sides so far, and the objects of these

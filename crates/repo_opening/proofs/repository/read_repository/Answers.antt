@@ -2,8 +2,8 @@ use Rattle.recovery.specs.Reopening.{reopens}
 use Rattle.recovery.specs.declared.recovered.Recovered.{Recovered}
 use Rattle.disk_trait.specs.Disks.{WhereTold}
 use Rattle.recovery.specs.Found.{recorded}
-use Rattle.recovery.specs.Paged.{HasSides}
-use Rattle.repo_opening.proofs.Reading.{holds_reads, reads_on, recovered_on, same_on, stored_is}
+use Rattle.recovery.specs.Paged.{AreObjectPages, HasSides}
+use Rattle.repo_opening.proofs.Reading.{has_pages, holds_reads, reads_on, recovered_on, same_on, stored_is}
 use Rattle.repo_opening.proofs.Syncing.{same_then}
 use Rattle.repo_opening.specs.Recovered.{IsHeld, IsRecovered}
 use Rattle.disk_trait.specs.AllDisks.{ReadsAs}
@@ -19,7 +19,8 @@ returns-clause-found g c =
     let known : IsHeld (g.P.Parts.disks c.recover_one.new.parts) r = rw c.in-Some.is at c.in_ok-recovered.ensures.found in
     let same : c.sides-sides.result.now ≡ r.state.objects.pages.sides = c.sides-sides.ensures ∙ ap (λ (s : Store). s.sides) (c.pages.ensures ∙ ap (λ (k : Kept). k.pages) c.objects.ensures) in
     let sides : WhereTold (g.P.Parts.disks c.read_pages.new.parts) 2 (HasSides r.format r.state.objects.pages.sides) = subst (λ (qs : List (ℕ × ℕ)). WhereTold (g.P.Parts.disks c.read_pages.new.parts) 2 (HasSides r.format qs)) same c.in-Ok.ensures.sides in
-    let stays : IsRecovered (g.P.Parts.disks c.read_pages.new.parts) r = recovered_on (g.P.Parts.disks c.recover_one.new.parts) (g.P.Parts.disks c.read_pages.new.parts) r c.read_pages.ensures.stays sides known in
+    let paged : WhereTold (g.P.Parts.disks c.read_pages.new.parts) 2 (AreObjectPages r.format r.state.repo r.state.objects.pages.sides) = λ disk told. has_pages r c.args.repo c.sides-sides.result.now disk c.args.objects.now c.read_pages.new.objects same c.in_ok-read.ensures.number (c.in-Ok.ensures.paged disk (sym c.read_pages.ensures.stays.content ∙ told)) in
+    let stays : IsRecovered (g.P.Parts.disks c.read_pages.new.parts) r = recovered_on (g.P.Parts.disks c.recover_one.new.parts) (g.P.Parts.disks c.read_pages.new.parts) r c.read_pages.ensures.stays sides paged known in
     subst (λ (x : Recovered). IsRecovered (g.P.Parts.disks c.read_pages.new.parts) x) (sym (ap (λ (p : Recovered × ℕ). p.0) c.in_ok-read.ensures.read)) stays
 
 pub returns-clause-same : goal.returns-clause-same
