@@ -69,6 +69,11 @@ any_version : (w : StoreFormat) → (behind_version (format_number w)).Fits w
 any_version One = refl
 any_version Two = refl
 
+-- each format of a store has its byte
+pub version_fits : (w : StoreFormat) → version_format.Fits w
+unfolding version_format
+version_fits w = any_version w
+
 exact_count : IsExactFormat count_format
 unfolding count_format
 exact_count = exact_such (λ n. ltb n (2 ^ 62)) u64_format exact_u64

@@ -66,7 +66,10 @@ impl Spelled for StoreFormat {
 
     #[tactic(auto, unfolding(crate::specs::Checkpoint::version_format))]
     fn put(&self, out: &mut Text) -> Result<(), NoMemory> {
-        out.push(self.number())
+        match self {
+            StoreFormat::One => out.push(1),
+            StoreFormat::Two => out.push(2),
+        }
     }
 }
 
@@ -314,7 +317,7 @@ impl Spelled for State {
 }
 
 /// Puts the format, the repository and its life.
-#[tactic(auto, unfolding(crate::specs::Checkpoint::version_format), using(std::proofs::Common::append_assoc))]
+#[tactic(auto, using(std::proofs::Common::append_assoc, crate::proofs::CheckpointLaws::version_fits))]
 fn put_numbers(state: &State, out: &mut Text) -> Result<(), NoMemory>
     requires { StateFits state.now }
     ensures { OnOk result (out.new ≡ out.old ++ (version_format.spelling state.now.format ++ (u8_format.spelling state.now.repo ++ (u8_format.spelling state.now.repos ++ u32_format.spelling state.now.life)))) }
