@@ -14,6 +14,7 @@ use Rattle.log_entries.specs.RequestForm.{RequestFits}
 use Rattle.log_entries.specs.declared.request.Request.{Request}
 use Rattle.log_codec.specs.Checkpoint.{RootFits, StampFits, StateFits, client_of, tx_of}
 use Rattle.log_codec.specs.declared.state.State.{State}
+use Rattle.page_format.specs.declared.format.StoreFormat.{StoreFormat}
 use Rattle.page_format.specs.declared.format.StoreFormat.TheVariants.{Two}
 use Rattle.commit_log.specs.Recovered.{in_format}
 use Rattle.mob_buffer.specs.Buffer.{AreOf}
@@ -238,3 +239,7 @@ same_made s i m p k a installed mob prepared kept alone =
     ∙ ap (λ (x : List Request). record s { format = Two; prepared = x; kept = k; alone = a }) prepared
     ∙ ap (λ (x : List Ts). record s { format = Two; kept = x; alone = a }) kept
     ∙ ap (λ (x : List (ℕ × Ts)). record s { format = Two; alone = x }) alone
+
+-- a state of the format that is written is taken as it is
+pub own_format : (s : State) → s.format ≡ Two → in_format Two s ≡ s
+own_format s is = ap (λ (f : StoreFormat). in_format f s) (sym is)

@@ -69,6 +69,7 @@ impl HeldState {
         requires { StateFits state }
         ensures keeps { IfOk result Keeps }
         ensures said { IfOk result (λ held. said held ≡ in_format Two state) }
+        ensures same { state.format ≡ Two → IfOk result (λ held. said held ≡ state) }
         ensures granted { IfOk result (λ held. held.next_grant ≡ state.next_page) }
         ensures unread { IfOk result (λ held. IsUnread held.objects.pages) }
         ensures limit { IfOk result (λ held. held.objects.mob.limit ≡ mob_limit) }
