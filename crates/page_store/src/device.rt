@@ -11,7 +11,7 @@ ghost use Rattle.page_store.specs.declared.fault.StoreFault.TheVariants.{Damaged
 use crate::fault::StoreFault;
 use crate::objects::page_of_objects;
 use disk_trait::{Disk, Parts};
-use page_format::{PAGE_BYTES, Page, StoreFormat};
+use page_format::{OLDER_PAGE_BYTES, PAGE_BYTES, Page, StoreFormat};
 use std::alloc::Global;
 
 /// Where a side of a page begins on the disk.
@@ -49,9 +49,14 @@ pub(crate) fn read_side<P: Parts>(
 
 /// Where a side of a page begins on the disk, in a store of a format.
 pub fn place_in(format: StoreFormat, page: u32, side: u8) -> u64
-    ensures { result ≡ place_in format page side }
+    ensures place { result ≡ place_in format page side }
+    ensures small { result < 2 ^ 48 }
 {
-    (2 * u64::from(page) + u64::from(side)) * format.page_bytes() as u64
+    let before = 2 * u64::from(page) + u64::from(side);
+    match format {
+        StoreFormat::One => before * OLDER_PAGE_BYTES as u64,
+        StoreFormat::Two => before * PAGE_BYTES as u64,
+    }
 }
 
 /// Reads a side of a page in a store of a format: one device call. `Damaged` comes exactly where its bytes are no page of objects

@@ -15,5 +15,5 @@ returns-clause-bytes g c = λ disk told.
     let long : length (side_bytes_in f disk c.args.page c.args.side) ≡ size_of = length-take-le size_of (drop (place_in f c.args.page c.args.side) disk) (omega (arith, within, length-drop (place_in f c.args.page c.args.side) disk)) in
     let read : c.read_at.new.into ≡ take (length c.deref_mut.result.now) (drop c.place_in.result disk) = c.in_ok-read_at.ensures.bytes disk told in
     let n : length c.deref_mut.result.now ≡ size_of = ap length c.deref_mut.ensures.value ∙ size in
-    let whole : c.read_at.new.into ≡ side_bytes_in f disk c.args.page c.args.side = read ∙ ap (λ (k : ℕ). take k (drop c.place_in.result disk)) n ∙ ap (λ (k : ℕ). take size_of (drop k disk)) c.place_in.ensures in
+    let whole : c.read_at.new.into ≡ side_bytes_in f disk c.args.page c.args.side = read ∙ ap (λ (k : ℕ). take k (drop c.place_in.result disk)) n ∙ ap (λ (k : ℕ). take size_of (drop k disk)) c.place_in.ensures.place in
     rw (whole, drop_all (length (side_bytes_in f disk c.args.page c.args.side)) items (omega (arith, size, long)), append-nil (side_bytes_in f disk c.args.page c.args.side)) (take_all c.in_ok-bytes.bytes.len (side_bytes_in f disk c.args.page c.args.side) (omega (arith, room, size, long)))
