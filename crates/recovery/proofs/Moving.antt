@@ -29,9 +29,6 @@ ok_at (Err e) x P is p = cc
 
 -- ---- faults
 
-same_disk : (a b d place : ℕ) → recovered.Damaged a b ≡ recovered.Damaged d place → a ≡ d
-same_disk a b d place is = cc
-
 same_place : (a b d place : ℕ) → recovered.Damaged a b ≡ recovered.Damaged d place → b ≡ place
 same_place a b d place is = cc
 

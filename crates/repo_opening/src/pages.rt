@@ -42,7 +42,7 @@ pub(crate) fn read_pages<P: Parts>(
 
 /// Puts the objects of an installed page into a map, where the disk has so many bytes. It answers whether the
 /// page has any.
-#[tactic(auto, using(recovery::proofs::Moving::stays_none))]
+#[tactic(auto, using(recovery::proofs::Moving::stays_none, crate::proofs::Reading::room_is))]
 fn read_side<P: Parts>(
     alloc: Global,
     parts: &mut P,

@@ -12,7 +12,7 @@ use Rattle.repo_state.specs.Said.{said, spelled}
 use Rattle.recovery.proofs.migrating.moved_state.Goals as goal
 
 pub read_paged-requires : goal.read_paged-requires
-read_paged-requires g c = subst (λ (s : State). WhereTold (g.P.Parts.disks c.args.parts.now) 2 (HasSides One s.installed)) (sym c.in_ok-before.ensures.spelled) c.requires.sides
+read_paged-requires g c = record { told = subst (λ (s : State). WhereTold (g.P.Parts.disks c.args.parts.now) 2 (HasSides One s.installed)) (sym c.in_ok-before.ensures.spelled) c.requires.sides }
 
 pub with_objects-requires-clause-paged : goal.with_objects-requires-clause-paged
 with_objects-requires-clause-paged g c = c.in-Ok.ensures.own c.in_ok-before.ensures.few
