@@ -267,10 +267,15 @@ fn spell(held: &HeldState) -> Result<State, NoMemory>
     ensures whole { IfOk result (λ state. IsTrue (is_whole state)) }
     ensures few { IfOk result (λ state. state.repo < 8) }
 {
-    if held.repo() >= REPOSITORIES || held.count() >= END {
+    if held.count() >= END {
         return Err(NoMemory);
     }
-    held.state()
+    let state = held.state()?;
+    if state.repo >= REPOSITORIES {
+        drop(state);
+        return Err(NoMemory);
+    }
+    Ok(state)
 }
 
 /// The objects of all installed pages of a repository of the older format, pages and slots rising: a disk call for each.
@@ -433,7 +438,8 @@ fn begin_log<P: Parts>(
         drop(log);
         return Err(RecoverFault::NoMemory);
     }
-    let disk = 1 - log.disk();
+    let on = log.disk();
+    let disk = 1 - on;
     match log.checkpoint(parts, state) {
         Ok(()) => Ok(log),
         Err(fault) => {
