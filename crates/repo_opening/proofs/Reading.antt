@@ -18,7 +18,7 @@ use Rattle.repo_state.specs.Keeps.{Keeps}
 use Rattle.commit_log.proofs.Holding.{is_log, stands_of}
 use Rattle.commit_log.specs.Holds.{Holds, beside}
 use Rattle.commit_log.specs.Recovered.{stands}
-use Rattle.std.proofs.Common.{IfSome, List, None, Option, Some, [], ap, arith, cond, length, refl, subst, sym, ◌+◌, ◌<◌, ◌∙◌, ◌≡◌, ◌∷◌, ◌≤◌, ℕ}
+use Rattle.std.proofs.Common.{IfSome, List, None, Option, Some, [], ap, arith, refl, subst, sym, ◌+◌, ◌<◌, ◌∙◌, ◌≡◌, ◌≤◌, ℕ}
 use Rattle.class_defs.specs.Stored.{Objects}
 use Rattle.repo_opening.specs.Paged.{PutsPaged, PutsStored}
 use Rattle.std.proofs.lemmas.Option.{same_Some}
@@ -68,13 +68,8 @@ pub bytes_on : (old new : Disks) (n : ℕ) → Stays old new → HasBytes old n 
 bytes_on old new n stays has = record { told = λ bytes is. has.told bytes (sym stays.content ∙ is) }
 
 -- the disk of pages has room for a side, where it has so many bytes
-pub room_is : (format : StoreFormat) (disks : Disks) (installed : ℕ × ℕ) (n place size : ℕ) → HasBytes disks n → place ≡ place_in format installed.0 installed.1 → size ≡ page_size_in format → place + size ≤ n → HasRoom format disks installed
-room_is format disks installed n place size has at sized within = record {
-  told = λ disk told.
-      subst (λ (m : ℕ). place_in format installed.0 installed.1 + page_size_in format ≤ m) (has.told disk told)
-      (subst (λ (s : ℕ). place_in format installed.0 installed.1 + s ≤ n) sized
-      (subst (λ (p : ℕ). p + size ≤ n) at within));
-}
+pub room_is : (format : StoreFormat) (disks : Disks) (installed : ℕ × ℕ) (n : ℕ) → HasBytes disks n → place_in format installed.0 installed.1 + page_size_in format ≤ n → HasRoom format disks installed
+room_is format disks installed n has within = record { told = λ disk told. subst (λ (m : ℕ). place_in format installed.0 installed.1 + page_size_in format ≤ m) (has.told disk told) within }
 
 -- what was read alone is as it was
 pub same_on : (old new : Disks) → Stays old new → Same old new
