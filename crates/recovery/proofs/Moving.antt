@@ -27,10 +27,14 @@ pub ok_at : {T E : Type 0} (r : Result T E) (x : T) (P : T → Type 0) → r ≡
 ok_at (Ok y) x P is p = let same : y ≡ x = cc in subst P same p
 ok_at (Err e) x P is p = cc
 
--- ---- faults
+same_err : {T E : Type 0} (r : Result T E) (a b : E) → r ≡ Err a → r ≡ Err b → a ≡ b
+same_err r a b is e = cc
 
-same_disk : (a b d place : ℕ) → recovered.Damaged a b ≡ recovered.Damaged d place → a ≡ d
-same_disk a b d place is = cc
+-- a fault that was handed on is the one that came
+pub err_at : {T U E : Type 0} (r : Result T E) (s : Result U E) (a b : E) → r ≡ Err a → s ≡ Err a → s ≡ Err b → r ≡ Err b
+err_at {T} {U} {E} r s a b came on is = came ∙ ap (λ (x : E). Err x) (same_err s a b on is)
+
+-- ---- faults
 
 same_place : (a b d place : ℕ) → recovered.Damaged a b ≡ recovered.Damaged d place → b ≡ place
 same_place a b d place is = cc

@@ -8,7 +8,7 @@ use Rattle.std.specs.List.{AllByRecursion, AllZip, IsDistinct, flat_map}
 use Rattle.std.specs.Map.{keys_of}
 use Rattle.mob_buffer.proofs.Writes.{not_same_name}
 use Rattle.mob_buffer.specs.Buffer.{AreDistinct, AreOf, IsOf, same_name}
-use Rattle.page_format.specs.Pages.{Contents, Rises}
+use Rattle.page_format.specs.Pages.{Rises}
 use Rattle.page_store.specs.Objects.{IsObjectAt}
 use Rattle.recovery.specs.Paged.{AreOnPage, IsPaged}
 use Rattle.thor_value.specs.Spelling.{OrefFits}
@@ -25,7 +25,7 @@ all_weaker P Q (x ∷ xs) leads all = (leads x all.0, all_weaker P Q xs leads al
 
 -- ---- one page
 
-slots_from : (least low repo number : ℕ) (pairs : List (ℕ × List ℕ)) (objects : List (Oref × Obj)) → least ≤ low → Rises low pairs → AllZip (IsPaged repo number) pairs objects → AllByRecursion (λ w. least ≤ w.0.slot) objects
+slots_from : (least low repo number : ℕ) (pairs : List (ℕ × List ℕ)) (objects : List (Oref × Obj)) → least ≤ low → Rises low pairs → AllZip (IsPaged repo number) pairs objects → AllByRecursion (λ (w : Oref × Obj). least ≤ w.0.slot) objects
 slots_from least low repo number [] [] below rises all = tt
 slots_from least low repo number [] (w ∷ ws) below rises all = absurd all
 slots_from least low repo number (q ∷ qs) [] below rises all = absurd all
@@ -33,7 +33,7 @@ slots_from least low repo number (q ∷ qs) (w ∷ ws) below rises all =
     let slot : w.0.slot ≡ q.0 = ap (λ (x : Oref). x.slot) all.0.name in
     (omega (arith, below, rises.0, slot), slots_from least (suc q.0) repo number qs ws (omega (arith, below, rises.0)) rises.1 all.1)
 
-apart_slots : (x : Oref) (ws : List (Oref × Obj)) → AllByRecursion (λ w. suc x.slot ≤ w.0.slot) ws → AllByRecursion (λ y. same_name x y ≡ false) (keys_of ws)
+apart_slots : (x : Oref) (ws : List (Oref × Obj)) → AllByRecursion (λ (w : Oref × Obj). suc x.slot ≤ w.0.slot) ws → AllByRecursion (λ (y : Oref). same_name x y ≡ false) (keys_of ws)
 apart_slots x [] all = tt
 apart_slots x (w ∷ ws) all = (not_same_name x w.0 (λ e. (let same : x.slot ≡ w.0.slot = ap (λ (y : Oref). y.slot) e in omega (arith, same, all.0))), apart_slots x ws all.1)
 
@@ -59,7 +59,7 @@ paged_of repo number (q ∷ qs) (w ∷ ws) few small has all = (
     paged_of repo number qs ws few small has.1 all.1,
   )
 
-paged_on : (repo number : ℕ) (pairs : List (ℕ × List ℕ)) (objects : List (Oref × Obj)) → AllZip (IsPaged repo number) pairs objects → AllByRecursion (λ w. w.0.page ≡ number) objects
+paged_on : (repo number : ℕ) (pairs : List (ℕ × List ℕ)) (objects : List (Oref × Obj)) → AllZip (IsPaged repo number) pairs objects → AllByRecursion (λ (w : Oref × Obj). w.0.page ≡ number) objects
 paged_on repo number [] [] all = tt
 paged_on repo number [] (w ∷ ws) all = absurd all
 paged_on repo number (q ∷ qs) [] all = absurd all
@@ -71,8 +71,8 @@ page_distinct repo number objects on = slots_distinct 0 repo on.page.number on.p
 page_of : (repo number : ℕ) (objects : List (Oref × Obj)) → repo < 8 → number < 65536 → AreOnPage repo number objects → AreOf repo objects
 page_of repo number objects few small on = paged_of repo on.page.number on.page.objects.pairs objects few (omega (arith, small, on.number_is)) on.has.objects on.each
 
-page_on : (repo number : ℕ) (objects : List (Oref × Obj)) → AreOnPage repo number objects → AllByRecursion (λ w. w.0.page ≡ number) objects
-page_on repo number objects on = subst (λ (n : ℕ). AllByRecursion (λ w. w.0.page ≡ n) objects) on.number_is (paged_on repo on.page.number on.page.objects.pairs objects on.each)
+page_on : (repo number : ℕ) (objects : List (Oref × Obj)) → AreOnPage repo number objects → AllByRecursion (λ (w : Oref × Obj). w.0.page ≡ number) objects
+page_on repo number objects on = subst (λ (n : ℕ). AllByRecursion (λ (w : Oref × Obj). w.0.page ≡ n) objects) on.number_is (paged_on repo on.page.number on.page.objects.pairs objects on.each)
 
 -- ---- all pages
 
@@ -86,28 +86,28 @@ pub record AreAll (P : ℕ × ℕ → List (Oref × Obj) → Type 0) (sides : Li
   pub each : AllZip P sides pages
   pub all : objects ≡ flat_map (λ page. page) pages
 
-pages_from : (least low repo : ℕ) (sides : List (ℕ × ℕ)) (pages : List (List (Oref × Obj))) → least ≤ low → Rises low sides → AllZip (OnNamed repo) sides pages → AllByRecursion (λ w. least ≤ w.0.page) (flat_map (λ page. page) pages)
+pages_from : (least low repo : ℕ) (sides : List (ℕ × ℕ)) (pages : List (List (Oref × Obj))) → least ≤ low → Rises low sides → AllZip (OnNamed repo) sides pages → AllByRecursion (λ (w : Oref × Obj). least ≤ w.0.page) (flat_map (λ page. page) pages)
 pages_from least low repo [] [] below rises all = tt
 pages_from least low repo [] (p ∷ ps) below rises all = absurd all
 pages_from least low repo (s ∷ ss) [] below rises all = absurd all
 pages_from least low repo (s ∷ ss) (p ∷ ps) below rises all =
-    all_append (λ w. least ≤ w.0.page) p (flat_map (λ page. page) ps)
-    (all_weaker (λ w. w.0.page ≡ s.0) (λ w. least ≤ w.0.page) p (λ w is. omega (arith, is, below, rises.0)) (page_on repo s.0 p all.0.1))
+    all_append (λ (w : Oref × Obj). least ≤ w.0.page) p (flat_map (λ page. page) ps)
+    (all_weaker (λ (w : Oref × Obj). w.0.page ≡ s.0) (λ (w : Oref × Obj). least ≤ w.0.page) p (λ w is. omega (arith, is, below, rises.0)) (page_on repo s.0 p all.0.1))
     (pages_from least (suc s.0) repo ss ps (omega (arith, below, rises.0)) rises.1 all.1)
 
-apart_pages : (x : Oref) (ws : List (Oref × Obj)) → AllByRecursion (λ w. suc x.page ≤ w.0.page) ws → AllByRecursion (λ y. same_name x y ≡ false) (keys_of ws)
+apart_pages : (x : Oref) (ws : List (Oref × Obj)) → AllByRecursion (λ (w : Oref × Obj). suc x.page ≤ w.0.page) ws → AllByRecursion (λ (y : Oref). same_name x y ≡ false) (keys_of ws)
 apart_pages x [] all = tt
 apart_pages x (w ∷ ws) all = (not_same_name x w.0 (λ e. (let same : x.page ≡ w.0.page = ap (λ (y : Oref). y.page) e in omega (arith, same, all.0))), apart_pages x ws all.1)
 
-apart_both : (x : Oref) (xs ys : List (Oref × Obj)) → AllByRecursion (λ y. same_name x y ≡ false) (keys_of xs) → AllByRecursion (λ y. same_name x y ≡ false) (keys_of ys) → AllByRecursion (λ y. same_name x y ≡ false) (keys_of (xs ++ ys))
+apart_both : (x : Oref) (xs ys : List (Oref × Obj)) → AllByRecursion (λ (y : Oref). same_name x y ≡ false) (keys_of xs) → AllByRecursion (λ (y : Oref). same_name x y ≡ false) (keys_of ys) → AllByRecursion (λ (y : Oref). same_name x y ≡ false) (keys_of (xs ++ ys))
 apart_both x [] ys first then = then
 apart_both x (v ∷ vs) ys first then = (first.0, apart_both x vs ys first.1 then)
 
-distinct_both : (n : ℕ) (xs ys : List (Oref × Obj)) → AreDistinct xs → AllByRecursion (λ w. w.0.page ≡ n) xs → AreDistinct ys → AllByRecursion (λ w. suc n ≤ w.0.page) ys → AreDistinct (xs ++ ys)
+distinct_both : (n : ℕ) (xs ys : List (Oref × Obj)) → AreDistinct xs → AllByRecursion (λ (w : Oref × Obj). w.0.page ≡ n) xs → AreDistinct ys → AllByRecursion (λ (w : Oref × Obj). suc n ≤ w.0.page) ys → AreDistinct (xs ++ ys)
 unfolding IsDistinct
 distinct_both n [] ys first on then above = then
 distinct_both n (w ∷ ws) ys first on then above = (
-    apart_both w.0 ws ys first.0 (apart_pages w.0 ys (all_weaker (λ v. suc n ≤ v.0.page) (λ v. suc w.0.page ≤ v.0.page) ys (λ v is. omega (arith, is, on.0)) above)),
+    apart_both w.0 ws ys first.0 (apart_pages w.0 ys (all_weaker (λ (v : Oref × Obj). suc n ≤ v.0.page) (λ (v : Oref × Obj). suc w.0.page ≤ v.0.page) ys (λ v is. omega (arith, is, on.0)) above)),
     distinct_both n ws ys first.1 on.1 then above,
   )
 

@@ -1,6 +1,6 @@
 -- The objects that stand on the pages of a repository (this project's): those of each installed page, on the side of it
 -- that is in use, at the place and in the format that the format of the store tells.
-use Rattle.disk_trait.specs.Disks.{Disks, NoNewImage, OnDisk}
+use Rattle.disk_trait.specs.Disks.{Disks, NoNewImage, OnDisk, WhereTold}
 use Rattle.mob_flusher.specs.Images.{name_of}
 use Rattle.object_codec.specs.Spelling.{ObjFits, obj_bytes}
 use Rattle.page_format.specs.Formats.{page_size_in}
@@ -54,6 +54,14 @@ HasSide format disk installed = place_in format installed.0 installed.1 + page_s
 -- for each installed one
 abbrev pub HasSides : StoreFormat → List (ℕ × ℕ) → List ℕ → Type 0
 HasSides format sides disk = AllByRecursion (HasSide format disk) sides
+
+-- the disk of pages has room for a side, where it is told
+pub record HasRoom (format : StoreFormat) (disks : Disks) (installed : ℕ × ℕ) : Type 0 where
+  pub told : WhereTold disks 2 (λ disk. HasSide format disk installed)
+
+-- for each installed one
+pub record HasRoomForAll (format : StoreFormat) (disks : Disks) (sides : List (ℕ × ℕ)) : Type 0 where
+  pub told : WhereTold disks 2 (HasSides format sides)
 
 -- The disk of pages was read, and nothing else was done.
 pub record Stays (old new : Disks) : Type 0 where

@@ -14,7 +14,7 @@ ghost use Rattle.page_store.specs.Store.{Agrees};
 ghost use Rattle.recovery.specs.Found.{recorded};
 ghost use Rattle.recovery.specs.Migrating.{Becomes, IsMigrated, PutsPage, SaysMigrated};
 ghost use Rattle.recovery.specs.Faults.{log_fault, page_fault};
-ghost use Rattle.recovery.specs.Paged.{AreOnPage, ArePaged, AreObjectPages, HasSide, HasSides, IsOnSide, Stays};
+ghost use Rattle.recovery.specs.Paged.{AreObjectPages, AreOnPage, ArePaged, HasRoom, HasRoomForAll, HasSides, IsOnSide, Stays};
 ghost use Rattle.recovery.specs.declared.fault.RecoverFault.TheVariants.{Damaged, Failed, NoMemory as OutOfMemory};
 ghost use Rattle.repo_state.specs.Keeps.{IsUnread, Keeps};
 ghost use Rattle.repo_state.specs.Said.{said, spelled};
@@ -267,10 +267,15 @@ fn spell(held: &HeldState) -> Result<State, NoMemory>
     ensures whole { IfOk result (λ state. IsTrue (is_whole state)) }
     ensures few { IfOk result (λ state. state.repo < 8) }
 {
-    if held.repo() >= REPOSITORIES || held.count() >= END {
+    if held.count() >= END {
         return Err(NoMemory);
     }
-    held.state()
+    let state = held.state()?;
+    if state.repo >= REPOSITORIES {
+        drop(state);
+        return Err(NoMemory);
+    }
+    Ok(state)
 }
 
 /// The objects of all installed pages of a repository of the older format, pages and slots rising: a disk call for each.
@@ -281,7 +286,7 @@ fn read_paged<P: Parts>(
     repo: u8,
     installed: &Sides,
 ) -> Result<Writes, RecoverFault>
-    requires sides { WhereTold (P.disks parts.old) 2 (HasSides One installed.now) }
+    requires { HasRoomForAll One (P.disks parts.old) installed.now }
     ensures stays { Stays (P.disks parts.old) (P.disks parts.new) }
     ensures paged { IfOk result (λ objects. WhereTold (P.disks parts.old) 2 (λ disk. ArePaged One repo disk installed.now objects)) }
     ensures own { repo < 8 → IfOk result (AreOf repo) }
@@ -306,7 +311,7 @@ fn put_page<P: Parts>(
     installed: (u32, u8),
     paged: &mut Writes,
 ) -> Result<(), RecoverFault>
-    requires within { WhereTold (P.disks parts.old) 2 (λ disk. HasSide One disk installed) }
+    requires { HasRoom One (P.disks parts.old) installed }
     ensures stays { Stays (P.disks parts.old) (P.disks parts.new) }
     ensures put { OnOk result (PutsPage repo (P.disks parts.old) installed paged.old paged.new) }
     ensures damaged { (d place : ℕ) → IsErrOf result (Damaged d place) → WhereTold (P.disks parts.old) 2 (λ disk. (objects : List (AnOref × AnObj)) → IsOnSide One repo disk installed objects → ⊥) }
@@ -327,7 +332,7 @@ fn read_page<P: Parts>(
     repo: u8,
     installed: (u32, u8),
 ) -> Result<Writes, RecoverFault>
-    requires within { WhereTold (P.disks parts.old) 2 (λ disk. HasSide One disk installed) }
+    requires { HasRoom One (P.disks parts.old) installed }
     ensures stays { Stays (P.disks parts.old) (P.disks parts.new) }
     ensures small { OnOk result (installed.0 < 65536) }
     ensures page { IfOk result (AreOnPage repo installed.0) }
@@ -433,7 +438,8 @@ fn begin_log<P: Parts>(
         drop(log);
         return Err(RecoverFault::NoMemory);
     }
-    let disk = 1 - log.disk();
+    let on = log.disk();
+    let disk = 1 - on;
     match log.checkpoint(parts, state) {
         Ok(()) => Ok(log),
         Err(fault) => {

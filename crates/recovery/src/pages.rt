@@ -5,7 +5,7 @@ ghost use Rattle.object_codec.specs.Spelling.{ObjFits, obj_bytes};
 ghost use Rattle.page_store.specs.Objects.{HasObjects, SpellsObject};
 ghost use Rattle.page_store.specs.Sides.{place_in};
 ghost use Rattle.page_store.specs.declared.fault.StoreFault.TheVariants.{Damaged, Failed, NoMemory as OutOfMemory};
-ghost use Rattle.recovery.specs.Paged.{AreOfPage, AreOnPage, HasSide, IsOnSide, IsPaged};
+ghost use Rattle.recovery.specs.Paged.{AreOfPage, AreOnPage, HasRoom, IsOnSide, IsPaged};
 ghost use Rattle.std.specs.Prelude.{IfOk, IsErrOf, List, OnOk, Some, slice_get, ◌≡◌, ℕ};
 ghost use Rattle.thor_value.specs.declared.names.Oref.{Oref as AnOref};
 ghost use Rattle.thor_value.specs.declared.values.Obj.{Obj as AnObj};
@@ -27,7 +27,7 @@ pub fn read_objects<P: Parts>(
     repo: u8,
     installed: (u32, u8),
 ) -> Result<Writes, StoreFault>
-    requires within { WhereTold (P.disks parts.old) 2 (λ disk. HasSide format disk installed) }
+    requires { HasRoom format (P.disks parts.old) installed }
     ensures alone { OnDisk (P.disks parts.old) (P.disks parts.new) 2 }
     ensures content { (P.disks parts.new).content 2 ≡ (P.disks parts.old).content 2 }
     ensures crash { NoNewImage (P.disks parts.old) (P.disks parts.new) 2 }

@@ -4,27 +4,24 @@ use Rattle.repo_opening.specs.Recovered.{AgreesWhere, HasBytes, IsHeld, IsRecove
 use Rattle.disk_trait.specs.Disks.{WhereTold}
 use Rattle.recovery.specs.Found.{recorded}
 use Rattle.recovery.proofs.Moving.{holds_on}
-use Rattle.recovery.specs.Paged.{ArePaged, AreObjectPages, HasSides, Stays}
+use Rattle.recovery.specs.Paged.{AreObjectPages, ArePaged, HasRoom, HasSides, Stays}
 use Rattle.repo_opening.proofs.Syncing.{same_beside, same_content, same_then}
 use Rattle.disk_trait.specs.AllDisks.{LeavesAll, MayLeaveAll, ReadsAs, SameContent}
 use Rattle.disk_trait.specs.Disks.{Disks}
 use Rattle.log_codec.specs.declared.state.State.{State}
 use Rattle.log_frame.specs.Log.{Place}
-use Rattle.page_format.specs.Pages.{page_size}
-use Rattle.page_store.specs.Sides.{ReachesSides, place_of}
+use Rattle.page_format.specs.Formats.{page_size_in}
+use Rattle.page_format.specs.declared.format.StoreFormat.{StoreFormat}
+use Rattle.page_store.specs.Sides.{place_in}
 use Rattle.recovery.specs.declared.recovered.Recovered.{Recovered}
 use Rattle.repo_state.specs.Keeps.{Keeps}
 use Rattle.commit_log.proofs.Holding.{is_log, stands_of}
 use Rattle.commit_log.specs.Holds.{Holds, beside}
 use Rattle.commit_log.specs.Recovered.{stands}
-use Rattle.std.proofs.Common.{IfSome, List, None, Option, Some, [], ap, arith, cond, length, refl, subst, sym, ◌+◌, ◌<◌, ◌∙◌, ◌≡◌, ◌∷◌, ◌≤◌, ℕ}
+use Rattle.std.proofs.Common.{IfSome, List, None, Option, Some, [], ap, arith, refl, subst, sym, ◌+◌, ◌<◌, ◌∙◌, ◌≡◌, ◌≤◌, ℕ}
 use Rattle.class_defs.specs.Stored.{Objects}
 use Rattle.repo_opening.specs.Paged.{PutsPaged, PutsStored}
 use Rattle.std.proofs.lemmas.Option.{same_Some}
-use Rattle.std.specs.FinMap.{nat_cmp-IsAntisymmetric}
-use Rattle.std.specs.Ordering.{is_eq, nat_cmp}
-use Rattle.std.specs.declared.cmp.Ordering.TheVariants.{Equal, Greater, Less}
-use Rattle.std.specs.declared.cmp.Ordering.{Ordering}
 
 -- what was found is held
 pub found_is : (disks : Disks) (found : Option Recovered) → IfSome found (λ r. Holds disks r.log (recorded r)) → IfSome found (λ r. Keeps r.state) → IfSome found (λ r. AgreesWhere r.state.objects.pages) → IfSome found (IsHeld disks)
@@ -70,18 +67,9 @@ reads_on old new same images reads d within = same d ∙ reads d within
 pub bytes_on : (old new : Disks) (n : ℕ) → Stays old new → HasBytes old n → HasBytes new n
 bytes_on old new n stays has = record { told = λ bytes is. has.told bytes (sym stays.content ∙ is) }
 
--- the one side that is looked up
-one_side : (p s q t n : ℕ) (o : Ordering) → nat_cmp q p ≡ o → place_of p s + page_size ≤ n → cond (is_eq o) (Some s) None ≡ Some t → place_of q t + page_size ≤ n
-one_side p s q t n Less is within found = cc
-one_side p s q t n Greater is within found = cc
-one_side p s q t n Equal is within found =
-    let there : q ≡ p = nat_cmp-IsAntisymmetric q p is in
-    let here : s ≡ t = cc in
-    subst (λ (x : ℕ). place_of q x + page_size ≤ n) here (subst (λ (x : ℕ). place_of x s + page_size ≤ n) (sym there) within)
-
--- a disk that is long enough reaches one installed side
-pub reaches_one : (page side : ℕ) (disk : List ℕ) → place_of page side + page_size ≤ length disk → ReachesSides ((page, side) ∷ []) disk
-reaches_one page side disk within = λ q t found. one_side page side q t (length disk) (nat_cmp q page) refl within found
+-- the disk of pages has room for a side, where it has so many bytes
+pub room_is : (format : StoreFormat) (disks : Disks) (installed : ℕ × ℕ) (n : ℕ) → HasBytes disks n → place_in format installed.0 installed.1 + page_size_in format ≤ n → HasRoom format disks installed
+room_is format disks installed n has within = record { told = λ disk told. subst (λ (m : ℕ). place_in format installed.0 installed.1 + page_size_in format ≤ m) (has.told disk told) within }
 
 -- what was read alone is as it was
 pub same_on : (old new : Disks) → Stays old new → Same old new

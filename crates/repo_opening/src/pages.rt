@@ -1,10 +1,12 @@
 //! The installed pages of a repository, read once for the checks of an opening.
 
 ghost use Rattle.disk_trait.specs.Disks.{WhereTold};
+ghost use Rattle.page_format.specs.Formats.{page_size_in};
+ghost use Rattle.page_store.specs.Sides.{place_in};
 ghost use Rattle.recovery.specs.Paged.{HasSide, HasSides, Stays};
 ghost use Rattle.repo_opening.specs.Paged.{PutsPaged, PutsSide};
 ghost use Rattle.repo_opening.specs.Recovered.{HasBytes};
-ghost use Rattle.std.specs.Prelude.{IfOk, List, OnOk, Some, ◌≡◌, ℕ};
+ghost use Rattle.std.specs.Prelude.{IfOk, List, OnOk, Some, ◌+◌, ◌≡◌, ◌≤◌, ℕ};
 ghost use Rattle.thor_value.specs.FiniteMap.{overwrite};
 
 use crate::unopened::{Unopened, outage_of};
@@ -42,6 +44,7 @@ pub(crate) fn read_pages<P: Parts>(
 
 /// Puts the objects of an installed page into a map, where the disk has so many bytes. It answers whether the
 /// page has any.
+#[tactic(auto, using(recovery::proofs::Moving::stays_none))]
 fn read_side<P: Parts>(
     alloc: Global,
     parts: &mut P,
@@ -56,14 +59,7 @@ fn read_side<P: Parts>(
     ensures within { OnOk result (WhereTold (P.disks parts.new) 2 (λ disk. HasSide format disk installed)) }
     ensures side { (disk : List ℕ) → (P.disks parts.old).content 2 ≡ Some disk → OnOk result (PutsSide format repo disk installed objects.old objects.new) }
 {
-    let place = place_in(format, installed.0, installed.1);
-    if size < place + format.page_bytes() as u64 {
-        return Err(Unopened::Damaged {
-            repo,
-            disk: Disk::Pages.number(),
-            place,
-        });
-    }
+    check_room(format, repo, installed, size)?;
     match read_objects(alloc, parts, format, repo, installed) {
         Ok(found) => {
             let has_objects = !found.is_empty();
@@ -72,6 +68,26 @@ fn read_side<P: Parts>(
         }
         Err(fault) => Err(fault_of(repo, fault)),
     }
+}
+
+/// Whether a disk of so many bytes has room for a side.
+fn check_room(
+    format: StoreFormat,
+    repo: u8,
+    installed: (u32, u8),
+    size: u64,
+) -> Result<(), Unopened>
+    ensures { OnOk result (place_in format installed.0 installed.1 + page_size_in format ≤ size) }
+{
+    let place = place_in(format, installed.0, installed.1);
+    if size < place + format.page_bytes() as u64 {
+        return Err(Unopened::Damaged {
+            repo,
+            disk: Disk::Pages.number(),
+            place,
+        });
+    }
+    Ok(())
 }
 
 /// Puts objects into a map.

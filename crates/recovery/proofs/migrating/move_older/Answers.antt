@@ -1,12 +1,13 @@
-use Rattle.std.proofs.Common.{rules, subst, sym, ℕ, ◌∙◌}
+use Rattle.std.proofs.Common.{IsErrOf, refl, rules, subst, sym, ℕ, ◌∙◌}
 use Rattle.disk_trait.proofs.Several.{goes_then}
 use Rattle.disk_trait.specs.Disks.{Rose}
 use Rattle.log_codec.specs.declared.state.State.{State}
 use Rattle.page_format.specs.declared.format.StoreFormat.{StoreFormat}
 use Rattle.recovery.proofs.FoundLaws.{unread_agree}
-use Rattle.recovery.proofs.Moving.{both_say, holds_on, reads_goes, reads_say, reads_steady, says_migrated}
+use Rattle.recovery.proofs.Moving.{both_say, err_at, holds_on, reads_goes, reads_say, reads_steady, says_migrated}
 use Rattle.recovery.specs.Found.{recorded}
 use Rattle.recovery.specs.Migrating.{IsMigrated}
+use Rattle.recovery.specs.declared.fault.RecoverFault.TheVariants.{Damaged, Failed, NoMemory}
 use Rattle.commit_log.specs.Recovered.{in_format}
 use Rattle.repo_state.specs.Said.{said}
 use Rattle.recovery.proofs.migrating.move_older.Goals as goal
@@ -65,13 +66,19 @@ pub returns-in_err-state-in-Ok-clause-clock : goal.returns-in_err-state-in-Ok-cl
 returns-in_err-state-in-Ok-clause-clock g c = c.begin_older.ensures.clock ∙ c.moved_state.ensures.stays.alone.clock
 
 pub returns-in_err-state-in-Ok-clause-damaged : goal.returns-in_err-state-in-Ok-clause-damaged
-returns-in_err-state-in-Ok-clause-damaged g c = λ d place is tells. c.begin_older.ensures.damaged d place (search rules)
+returns-in_err-state-in-Ok-clause-damaged g c = λ d place is tells.
+    let wrong : IsErrOf c.begin_older.result (Damaged d place) = search rules in
+    c.begin_older.ensures.damaged d place wrong
 
 pub returns-in_err-state-in-Ok-clause-failed : goal.returns-in_err-state-in-Ok-clause-failed
-returns-in_err-state-in-Ok-clause-failed g c = λ d is. subst (λ (n : ℕ). Rose n ((g.P.Parts.disks c.begin_older.new.parts).faults d)) (reads_steady (g.P.Parts.disks c.args.parts.now) (g.P.Parts.disks c.moved_state.new.parts) c.moved_state.ensures.stays c.in-Ok.ensures.steady d) (c.begin_older.ensures.failed d (search rules))
+returns-in_err-state-in-Ok-clause-failed g c = λ d is.
+    let wrong : IsErrOf c.begin_older.result (Failed d) = search rules in
+    subst (λ (n : ℕ). Rose n ((g.P.Parts.disks c.begin_older.new.parts).faults d)) (reads_steady (g.P.Parts.disks c.args.parts.now) (g.P.Parts.disks c.moved_state.new.parts) c.moved_state.ensures.stays c.in-Ok.ensures.steady d) (c.begin_older.ensures.failed d wrong)
 
 pub returns-in_err-state-in-Ok-clause-wanting : goal.returns-in_err-state-in-Ok-clause-wanting
-returns-in_err-state-in-Ok-clause-wanting g c = λ is d. c.begin_older.ensures.wanting (search rules) d ∙ (reads_steady (g.P.Parts.disks c.args.parts.now) (g.P.Parts.disks c.moved_state.new.parts) c.moved_state.ensures.stays c.in-Ok.ensures.steady d)
+returns-in_err-state-in-Ok-clause-wanting g c = λ is d.
+    let wrong : IsErrOf c.begin_older.result NoMemory = search rules in
+    c.begin_older.ensures.wanting wrong d ∙ (reads_steady (g.P.Parts.disks c.args.parts.now) (g.P.Parts.disks c.moved_state.new.parts) c.moved_state.ensures.stays c.in-Ok.ensures.steady d)
 
 pub returns-in-Err-clause-goes : goal.returns-in-Err-clause-goes
 returns-in-Err-clause-goes g c = reads_goes (g.P.Parts.disks c.args.parts.now) (g.P.Parts.disks c.moved_state.new.parts) c.moved_state.ensures.stays
@@ -89,10 +96,10 @@ pub returns-in-Err-clause-clock : goal.returns-in-Err-clause-clock
 returns-in-Err-clause-clock g c = c.moved_state.ensures.stays.alone.clock
 
 pub returns-in-Err-clause-damaged : goal.returns-in-Err-clause-damaged
-returns-in-Err-clause-damaged g c = λ d place is. c.moved_state.ensures.damaged d place (c.in-Err.is ∙ is)
+returns-in-Err-clause-damaged g c = λ d place is. c.moved_state.ensures.damaged d place (err_at c.moved_state.result _ c.in-Err.fault (Damaged d place) c.in-Err.is refl is)
 
 pub returns-in-Err-clause-failed : goal.returns-in-Err-clause-failed
-returns-in-Err-clause-failed g c = λ d is. (let f = c.moved_state.ensures.failed d (c.in-Err.is ∙ is) in subst (λ (n : ℕ). Rose ((g.P.Parts.disks c.args.parts.now).faults n) ((g.P.Parts.disks c.moved_state.new.parts).faults n)) (sym f.0) f.1)
+returns-in-Err-clause-failed g c = λ d is. (let f = c.moved_state.ensures.failed d (err_at c.moved_state.result _ c.in-Err.fault (Failed d) c.in-Err.is refl is) in subst (λ (n : ℕ). Rose ((g.P.Parts.disks c.args.parts.now).faults n) ((g.P.Parts.disks c.moved_state.new.parts).faults n)) (sym f.0) f.1)
 
 pub returns-in-Err-clause-wanting : goal.returns-in-Err-clause-wanting
-returns-in-Err-clause-wanting g c = λ is. reads_steady (g.P.Parts.disks c.args.parts.now) (g.P.Parts.disks c.moved_state.new.parts) c.moved_state.ensures.stays (c.moved_state.ensures.wanting (c.in-Err.is ∙ is))
+returns-in-Err-clause-wanting g c = λ is. reads_steady (g.P.Parts.disks c.args.parts.now) (g.P.Parts.disks c.moved_state.new.parts) c.moved_state.ensures.stays (c.moved_state.ensures.wanting (err_at c.moved_state.result _ c.in-Err.fault NoMemory c.in-Err.is refl is))

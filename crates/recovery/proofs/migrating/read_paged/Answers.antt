@@ -11,7 +11,7 @@ pub loop-page-initial : goal.loop-page-initial
 loop-page-initial g c = (stays_none (g.P.Parts.disks c.args.parts.now), refl, λ disk told. all_none (IsOnSide One c.args.repo disk), all_none (OnNamed c.args.repo))
 
 pub put_page-requires : goal.put_page-requires
-put_page-requires g c = λ disk told. side_at (HasSide One disk) c.args.installed.now c.as_slice-page-items.result.now c.loop-page.page-index _ c.as_slice-page-items.ensures.value c.loop-page-test.true (c.requires disk (sym c.loop-page.invariant.0.content ∙ told))
+put_page-requires g c = record { told = λ disk told. side_at (HasSide One disk) c.args.installed.now c.as_slice-page-items.result.now c.loop-page.page-index _ c.as_slice-page-items.ensures.value c.loop-page-test.true (c.requires.told disk (sym c.loop-page.invariant.0.content ∙ told)) }
 
 pub loop-page-preserved : goal.loop-page-preserved
 loop-page-preserved g c =
