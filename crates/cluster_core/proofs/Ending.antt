@@ -5,7 +5,7 @@ use Rattle.cluster_core.specs.declared.finishing.Ran.{Ran}
 use Rattle.repo_site.specs.Run.{Run}
 use Rattle.repo_site.specs.Sited.{IsRightTrace}
 use Rattle.repo_trace.specs.declared.trace.Trace.{Trace}
-use Rattle.std.proofs.Common.{Err, IfOk, List, Ok, Result, [], arith, length, refl, subst, suc, sym, ℕ, ◌++◌, ◌+◌, ◌∙◌, ◌∷◌, ◌≡◌}
+use Rattle.std.proofs.Common.{Err, IfOk, List, Ok, Result, [], ap, arith, length, refl, subst, suc, sym, ℕ, ◌++◌, ◌+◌, ◌∙◌, ◌∷◌, ◌≡◌}
 use Rattle.std.specs.Prelude.{IsOkAnd}
 
 -- so many traces, each right by its base
@@ -33,3 +33,13 @@ pub ran_right : {E : Type 0} (run : Run) (ts : Result (List Trace) E) (ran : Res
 ran_right run ts (Err e) is right = tt
 ran_right run (Err e) (Ok r) is right = absurd is
 ran_right run (Ok us) (Ok r) is right = subst (AreRight run 0) (sym is) right
+
+-- as many are told of a run as its repositories had
+pub ran_told : {E : Type 0} (n : ℕ) (ts : Result (List Trace) E) (ran : Result Ran E) → IfOk ran (λ r. IsOkAnd ts (λ us. r.traces ≡ us)) → IfOk ts (λ us. length us ≡ n) → IfOk ran (λ r. length r.traces ≡ n)
+ran_told n ts (Err e) is count = tt
+ran_told n (Err e) (Ok r) is count = absurd is
+ran_told n (Ok us) (Ok r) is count = ap length is ∙ count
+
+pub told_count : {E : Type 0} (run : Run) (n m : ℕ) (ts : Result (List Trace) E) → n ≡ m → IfOk ts (AreTold run n) → IfOk ts (λ us. length us ≡ m)
+told_count run n m (Ok us) same told = told.count ∙ same
+told_count run n m (Err e) same told = tt

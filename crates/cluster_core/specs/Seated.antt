@@ -101,20 +101,20 @@ run_found found s = run_of found.places.items found.mob s
 
 -- ---- what stands on the disks
 
--- what was recovered is what the log of these disks stands for
+-- the repository was recovered, as what the log of these disks stands for
 abbrev pub IsRecoveredAt : {P : Type 0} → (P → Disks) → closed.Closed P → Type 0
-IsRecoveredAt disks (found.Parts p) = Unit {0}
-IsRecoveredAt disks (found.Fresh p) = Unit {0}
+IsRecoveredAt disks (found.Parts p) = ⊥
+IsRecoveredAt disks (found.Fresh p) = ⊥
 IsRecoveredAt disks (found.Known k) = IsRecovered (disks k.parts) k.recovered
 
 abbrev pub AreRecovered : {P : Type 0} → (P → Disks) → List (closed.Closed P) → Type 0
 AreRecovered disks [] = Unit {0}
 AreRecovered disks (c ∷ cs) = IsRecoveredAt disks c × AreRecovered disks cs
 
--- the repository 0 wasn't stored, so the store is new
+-- the repository 0 is fresh, so the store is new
 abbrev pub IsNew : {P : Type 0} → List (closed.Closed P) → Type 0
 IsNew [] = Unit {0}
-IsNew (found.Parts p ∷ cs) = Unit {0}
+IsNew (found.Parts p ∷ cs) = ⊥
 IsNew (found.Fresh p ∷ cs) = Unit {0}
 IsNew (found.Known k ∷ cs) = ⊥
 

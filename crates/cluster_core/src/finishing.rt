@@ -3,7 +3,7 @@
 ghost use Rattle.cluster_core.specs.Counts.{parts_of};
 ghost use Rattle.cluster_core.specs.Seated.{AreRight};
 ghost use Rattle.cluster_port.specs.Lent.{AreInPlace};
-ghost use Rattle.std.specs.Prelude.{IfOk, IsOkAnd, [], vec_capacity, vec_len, ◌++◌, ◌∷◌, ◌≡◌, ◌≤◌};
+ghost use Rattle.std.specs.Prelude.{IfOk, IsOkAnd, [], length, vec_capacity, vec_len, ◌++◌, ◌∷◌, ◌≡◌, ◌≤◌};
 
 use crate::cluster::Cluster;
 use crate::history::history_of;
@@ -37,11 +37,11 @@ pub struct Finished<P> {
 
 impl<P: Parts, O: Opening> Cluster<P, O> {
     /// Ends the run.
-    #[tactic(auto, using(crate::proofs::Ending::ran_right))]
     pub fn finish(self) -> Finished<P>
         ensures parts { vec_len result.parts ≡ parts_of self }
         // What was recorded at each repository is right by the base with which it began.
         ensures right { IfOk result.ran (λ ran. AreRight O.run 0 ran.traces) }
+        ensures told { IfOk result.ran (λ ran. length ran.traces ≡ parts_of self) }
     {
         let Cluster {
             alloc,
@@ -71,6 +71,7 @@ fn close_all<P: Parts, O: Opening>(
     requires placed { AreInPlace sites.items }
     ensures count { vec_len result.0 ≡ vec_len sites }
     ensures right { IfOk result.1 (AreRight O.run 0) }
+    ensures told { IfOk result.1 (λ traces. length traces ≡ vec_len sites) }
 {
     let mut parts = spare;
     let mut traces = Ok(Traces::new(alloc));

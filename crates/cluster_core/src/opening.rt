@@ -377,7 +377,7 @@ fn format_found<P: Parts, O: Opening>(
     (seats, with(formatted, 0))
 }
 
-/// Whether a store is new that was found with so many upgrades or none: the repository 0 isn't stored.
+/// Whether a store is new that was found with so many upgrades or none: the repository 0 is fresh.
 fn is_new<P: Parts>(stored: Option<usize>, places: &[Closed<P>]) -> bool
     ensures { IsTrue result → IsNew places.now }
 {
@@ -385,8 +385,8 @@ fn is_new<P: Parts>(stored: Option<usize>, places: &[Closed<P>]) -> bool
         return false;
     }
     match places.split_first() {
-        Some((Closed::Known(_), _)) => false,
-        Some(_) | None => true,
+        Some((Closed::Fresh(_), _)) | None => true,
+        Some(_) => false,
     }
 }
 

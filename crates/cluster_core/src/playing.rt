@@ -2,7 +2,7 @@
 
 ghost use Rattle.cluster_core.specs.Counts.{parts_of};
 ghost use Rattle.cluster_core.specs.Seated.{AreRight, IsFoundIn, run_found};
-ghost use Rattle.std.specs.Prelude.{IfErr, IfOk, IsErr, vec_len, ◌≡◌};
+ghost use Rattle.std.specs.Prelude.{IfErr, IfOk, IsErr, length, vec_len, ◌≡◌};
 ghost use Rattle.store_opening.specs.Counts.{parts_in};
 
 use crate::cluster::Cluster;
@@ -28,6 +28,7 @@ pub fn play<P: Parts>(
     ensures err { IfErr result (λ fault. vec_len fault.parts ≡ parts_in found) }
     // What was recorded at each repository is right by what was found there, where nothing has still to be settled.
     ensures right { IfOk result (λ finished. IfOk finished.ran (λ ran. AreRight (run_found found plan.start) 0 ran.traces)) }
+    ensures told { IfOk result (λ finished. IfOk finished.ran (λ ran. length ran.traces ≡ parts_in found)) }
     ensures found { IfOk result (λ _. IsFoundIn P.disks found plan.start) }
 {
     played::<P, Brand>(alloc, found, plan, events)
@@ -44,6 +45,7 @@ fn played<P: Parts, O: Opening>(
     ensures parts { IfOk result (λ finished. vec_len finished.parts ≡ parts_in found) }
     ensures err { IfErr result (λ fault. vec_len fault.parts ≡ parts_in found) }
     ensures right { IfOk result (λ finished. IfOk finished.ran (λ ran. AreRight O.run 0 ran.traces)) }
+    ensures told { IfOk result (λ finished. IfOk finished.ran (λ ran. length ran.traces ≡ parts_in found)) }
     ensures found { IfOk result (λ _. IsFoundIn P.disks found plan.start) }
 {
     match Cluster::<P, O>::open(alloc, found, plan) {
@@ -56,6 +58,7 @@ fn played<P: Parts, O: Opening>(
 fn run<P: Parts, O: Opening>(cluster: Cluster<P, O>, events: &[Event]) -> Finished<P>
     ensures parts { vec_len result.parts ≡ parts_of cluster }
     ensures right { IfOk result.ran (λ ran. AreRight O.run 0 ran.traces) }
+    ensures told { IfOk result.ran (λ ran. length ran.traces ≡ parts_of cluster) }
 {
     let mut cluster = cluster;
     match perform(&mut cluster, events) {

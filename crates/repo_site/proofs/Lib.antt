@@ -3,6 +3,7 @@ pub mod Counting
 pub mod Failing
 pub mod Finding
 pub mod Growing
+pub mod Idle
 pub mod Leaving
 pub mod Opened
 pub mod RequestWorks

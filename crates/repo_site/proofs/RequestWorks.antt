@@ -148,7 +148,7 @@ module _ (b : Base) (x y : Shown) (u : Unsettled) (k : StandsRight b x) (after :
   prepared_is : (s : ℕ) (t : Ts) → has_prepared x.held s t ≡ is_prepared_by s (known_by b (entries T) t)
   prepared_is s t = ap (is_of_session s) (table_has t) ∙ prepared_same s (known_by b (entries T) t)
 
-  open_is : (t : Ts) → is_some (open_at x.held.table t) ≡ is_undecided (known_by b (entries T) t)
+  pub open_is : (t : Ts) → is_some (open_at x.held.table t) ≡ is_undecided (known_by b (entries T) t)
   open_is t = ap is_some (table_has t) ∙ open_same (known_by b (entries T) t)
 
   -- ---- requests

@@ -18,7 +18,7 @@ use Rattle.spec_trace.specs.Calls.{is_forgotten}
 use Rattle.spec_trace.specs.Exact.{exact}
 use Rattle.spec_trace.specs.Trace.{entries, items}
 use Rattle.spec_trace.specs.declared.kept_item.KeptItem.{KeptItem}
-use Rattle.std.proofs.Common.{List, arith, refl, subst, sym, true, ℕ, ◌+◌, ◌<◌, ◌∙◌, ◌≡◌, ◌≤◌}
+use Rattle.std.proofs.Common.{List, arith, length, refl, subst, sym, true, ℕ, ◌+◌, ◌<◌, ◌∙◌, ◌≡◌, ◌≤◌}
 use Rattle.std.specs.Prelude.{not, ◌≢◌}
 use Rattle.thor_value.specs.FiniteMap.{get, has}
 use Rattle.thor_value.specs.declared.names.Ts.{Ts}
@@ -37,9 +37,13 @@ is_sound run number repos x k based = (k.right based).right.recorded.sound
 pub is_exact : (run : Run) (number repos : ℕ) (x : Shown) → StandsIn run number repos x → run.based ≡ true → exact (run.base number) (trace_of x.trace)
 is_exact run number repos x k based = (k.right based).right.recorded.exact
 
+pub has_begun : (run : Run) (number repos : ℕ) (x : Shown) → StandsIn run number repos x → run.based ≡ true → 0 < length x.trace.history
+has_begun run number repos x k based = (k.right based).right.recorded.begun
+
 -- what is left of it when it ends
 pub closed : (run : Run) (number repos : ℕ) (x : Shown) (t : Trace) → StandsIn run number repos x → t.history ≡ x.trace.history → t.marks ≡ x.trace.marks → IsRightTrace run number t
 closed run number repos x t k history marks = record {
+  begun = λ based. subst (λ (H : List Entry). 0 < length H) (sym history) (has_begun run number repos x k based);
   sound = λ based. subst (λ (H : List Entry). sound (run.base number) H) (sym history) (is_sound run number repos x k based);
   exact = λ based.
       subst (λ (H : List Entry). exact (run.base number) (items H t.marks)) (sym history)

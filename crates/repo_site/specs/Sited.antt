@@ -10,7 +10,7 @@ use Rattle.spec_history.specs.History.{Base}
 use Rattle.spec_history.specs.Sound.{sound as is_sound}
 use Rattle.spec_trace.specs.Exact.{exact as is_exact}
 use Rattle.spec_trace.specs.Trace.{items}
-use Rattle.std.specs.Prelude.{None, true, ℕ, ◌≡◌}
+use Rattle.std.specs.Prelude.{None, length, true, ℕ, ◌<◌, ◌≡◌}
 use Rattle.thor_value.specs.FiniteMap.{get}
 use Rattle.thor_value.specs.declared.names.Ts.{Ts}
 
@@ -47,7 +47,8 @@ pub record Happens (run : Run) (old new : Sited) : Type 0 where
   pub does : run.based ≡ true → IsRun (run.base old.number) old.shown new.shown
 
 -- What was recorded at the repository of this number is right by the base with which it began, where each has one: its history is
--- sound, and each item of its trace is exact.
+-- sound and begins with an entry, which is the Life of the opening, and each item of its trace is exact.
 pub record IsRightTrace (run : Run) (number : ℕ) (t : Trace) : Type 0 where
+  pub begun : run.based ≡ true → 0 < length t.history
   pub sound : run.based ≡ true → is_sound (run.base number) t.history
   pub exact : run.based ≡ true → is_exact (run.base number) (items t.history t.marks)

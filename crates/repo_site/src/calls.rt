@@ -77,12 +77,26 @@ pub(crate) fn decide<P: Parts>(
     made::decide(repo, session, tx, commit)
 }
 
-/// A participant learns the verdict of another repository.
-#[tactic(auto, using(crate::proofs::Failing::finish_fails))]
+/// A repository is handed a verdict. Where nothing of the transaction is undecided there, nothing is done: so may the coordinator be,
+/// by a client whose request the transaction refused.
+#[tactic(auto, using(crate::proofs::Idle::idle_runs, crate::proofs::Idle::finish_idle))]
 pub(crate) fn finish<P: Parts>(
     repo: &mut Repo<P>,
     verdict: &Verdict,
 ) -> Result<Option<u64>, Refusal>
+    requires up { repo.old.is_up ≡ true }
+    ensures runs { RunsBy AnyBase repo.old repo.new }
+    ensures works { WorksBy AnyBase repo.old repo.new (FinishWork verdict.now.tx verdict.now.commit result) }
+{
+    if !repo.is_open(verdict.tx()) {
+        return Ok(None);
+    }
+    learn(repo, verdict)
+}
+
+/// A participant learns the verdict of another repository.
+#[tactic(auto, using(crate::proofs::Failing::finish_fails))]
+fn learn<P: Parts>(repo: &mut Repo<P>, verdict: &Verdict) -> Result<Option<u64>, Refusal>
     requires up { repo.old.is_up ≡ true }
     ensures runs { RunsBy AnyBase repo.old repo.new }
     ensures works { WorksBy AnyBase repo.old repo.new (FinishWork verdict.now.tx verdict.now.commit result) }

@@ -6,12 +6,14 @@ use Rattle.cluster_core.specs.declared.finishing.Ran.{Ran}
 use Rattle.cluster_core.specs.declared.plan.Start.{Start}
 use Rattle.disk_trait.specs.Disks.{Disks}
 use Rattle.repo_trace.specs.declared.trace.Trace.{Trace}
-use Rattle.std.proofs.Common.{Err, IfErr, IfOk, List, Ok, Result, [], ap, inl, inr, refl, subst, sym, ℕ, ◌∙◌, ◌≡◌}
-use Rattle.std.specs.Prelude.{Some}
-use Rattle.store_opening.specs.Seated.{AreSeated}
+use Rattle.std.proofs.Common.{Err, IfErr, IfOk, List, Ok, Result, [], ap, inl, inr, length, refl, subst, sym, ℕ, ◌∙◌, ◌≡◌}
+use Rattle.std.proofs.lemmas.Option.{same_Some}
+use Rattle.std.proofs.lemmas.Slice.Zip.{AllZip-long}
+use Rattle.std.specs.Prelude.{IsOk, Some, false, true}
+use Rattle.store_opening.specs.Seated.{AreSeated, IsSeated}
 use Rattle.store_opening.specs.declared.closed.Closed.{Closed}
 use Rattle.thor_top.proofs.StageLaws.{told_writes, unsettled_writes}
-use Rattle.thor_top.specs.Stages.{AreTracesOf, Foretells, IsInTurn, IsPlayed, IsToldOf, TracesOf}
+use Rattle.thor_top.specs.Stages.{AreTracesOf, Foretells, IsInTurn, IsPlayed, IsToldOf, TracesOf, WasMade}
 use Rattle.thor_top.specs.declared.expected.Expected.{Expected}
 use Rattle.thor_value.specs.declared.memory.NoMemory.{NoMemory}
 use Rattle.top_judging.specs.Stages.{RepliesUnsettled}
@@ -22,15 +24,31 @@ use Rattle.top_words.specs.declared.command.Command.{Command}
 use Rattle.top_words.specs.declared.command.Command.TheVariants.{Run}
 use Rattle.top_words.specs.declared.command.Plan.{Plan}
 
-module _ {P : Type 0} (disks : P → Disks) (given : List P) (places : List (Closed P)) (mob : ℕ) (s : Start) (seated : AreSeated disks given places) (traces : List Trace) where
-  of_ran : {E : Type 0} (ran : Result Ran E) → TracesOf ran traces → IfOk ran (λ r. AreRight (run_of places mob s) 0 r.traces) → IsFound disks places s → AreHistoriesIf disks given traces
-  of_ran (Err e) is right stands = inl is
-  of_ran (Ok r) is right stands = inr (record { places = places; mob = mob; start = s; seated = seated; found = stands; right = subst (AreRight (run_of places mob s) 0) (sym is) right })
+module _ {P : Type 0} (disks : P → Disks) (given : List P) (places : List (Closed P)) (mob : ℕ) (s : Start) (seated : AreSeated disks given places) (n : ℕ) (all : n ≡ length places) (traces : List Trace) where
+  -- each repository that was found has a part
+  as_many : n ≡ length given
+  as_many = all ∙ AllZip-long (IsSeated disks) given places seated
+
+  of_made : (r : Ran) → traces ≡ r.traces → AreRight (run_of places mob s) 0 r.traces → length r.traces ≡ n → IsFound disks places s → AreHistories disks given traces
+  of_made r is right many stands = record { places = places; mob = mob; start = s; count = ap length is ∙ (many ∙ as_many); seated = seated; found = stands; right = subst (AreRight (run_of places mob s) 0) (sym is) right }
+
+  of_ran : {E : Type 0} (ran : Result Ran E) → TracesOf ran traces → IfOk ran (λ r. AreRight (run_of places mob s) 0 r.traces) → IfOk ran (λ r. length r.traces ≡ n) → IsFound disks places s → AreHistoriesIf disks given traces
+  of_ran (Err e) is right many stands = inl is
+  of_ran (Ok r) is right many stands = inr (of_made r is right many stands)
 
   -- those of a run that was made on what was found
-  pub of_played : {E : Type 0} (played : Result (Finished P) E) → AreTracesOf played traces → IfOk played (λ f. IfOk f.ran (λ r. AreRight (run_of places mob s) 0 r.traces)) → IfOk played (λ _. IsFound disks places s) → AreHistoriesIf disks given traces
-  of_played (Err e) is right stands = inl is
-  of_played (Ok f) is right stands = of_ran f.ran is right stands
+  pub of_played : {E : Type 0} (played : Result (Finished P) E) → AreTracesOf played traces → IfOk played (λ f. IfOk f.ran (λ r. AreRight (run_of places mob s) 0 r.traces)) → IfOk played (λ f. IfOk f.ran (λ r. length r.traces ≡ n)) → IfOk played (λ _. IsFound disks places s) → AreHistoriesIf disks given traces
+  of_played (Err e) is right many stands = inl is
+  of_played (Ok f) is right many stands = of_ran f.ran is right many stands
+
+  of_told_ran : {E : Type 0} (ran : Result Ran E) → IsOk ran → TracesOf ran traces → IfOk ran (λ r. AreRight (run_of places mob s) 0 r.traces) → IfOk ran (λ r. length r.traces ≡ n) → IsFound disks places s → AreHistories disks given traces
+  of_told_ran (Err e) made is right many stands = absurd (let no : false ≡ true = made in cc)
+  of_told_ran (Ok r) made is right many stands = of_made r is right many stands
+
+  -- those of one that is told
+  pub of_told : {E : Type 0} (played : Result (Finished P) E) → WasMade played → AreTracesOf played traces → IfOk played (λ f. IfOk f.ran (λ r. AreRight (run_of places mob s) 0 r.traces)) → IfOk played (λ f. IfOk f.ran (λ r. length r.traces ≡ n)) → IfOk played (λ _. IsFound disks places s) → AreHistories disks given traces
+  of_told (Err e) made is right many stands = absurd made
+  of_told (Ok f) made is right many stands = of_told_ran f.ran made is right many stands
 
 -- as many parts come back
 pub many_of : {A B V : Type 0} (len : V → ℕ) (of_ok : A → V) (of_err : B → V) (played : Result A B) (parts : V) (n : ℕ) → IfOk played (λ f. len (of_ok f) ≡ n) → IfErr played (λ f. len (of_err f) ≡ n) → IfOk played (λ f. parts ≡ of_ok f) → IfErr played (λ f. parts ≡ of_err f) → len parts ≡ n
@@ -54,8 +72,5 @@ told_writes_not c e (Ok w) played (inr failed) writes = unsettled_writes c (Ok w
 pub not_in_turn : (c : Command) → c ≡ Run → IsInTurn c → ⊥
 not_in_turn c is turn = subst IsInTurn is turn
 
-same_plan : (x y : Plan) → Some x ≡ Some y → x ≡ y
-same_plan x y e = cc
-
 pub one_in_turn : (words : List (List ℕ)) (plan p : Plan) → plan_of words ≡ Some plan → plan_of words ≡ Some p → IsInTurn p.command → IsInTurn plan.command
-one_in_turn words plan p is is_p turn = subst (λ (q : Plan). IsInTurn q.command) (same_plan p plan (sym is_p ∙ is)) turn
+one_in_turn words plan p is is_p turn = subst (λ (q : Plan). IsInTurn q.command) (same_Some p plan (sym is_p ∙ is)) turn

@@ -3,7 +3,7 @@ use Rattle.cluster_core.specs.declared.finishing.Finished.{Finished}
 use Rattle.cluster_core.specs.declared.finishing.Ran.{Ran}
 use Rattle.repo_trace.specs.declared.trace.Trace.{Trace}
 use Rattle.script_parse.specs.declared.script.Script.{Script}
-use Rattle.std.specs.Prelude.{◌≡◌, ◌⊎◌, ℕ, Bool, Err, List, Ok, Result, Some, []}
+use Rattle.std.specs.Prelude.{◌≡◌, ◌⊎◌, ℕ, Bool, Err, IsOk, List, Ok, Result, Some, []}
 use Rattle.thor_top.specs.declared.expected.Expected.{Expected}
 use Rattle.thor_value.specs.FiniteMap.{IsSorted}
 use Rattle.top_judging.specs.Stages.{RepliesUnsettled}
@@ -36,6 +36,11 @@ TracesOf (Err e) traces = traces ≡ []
 abbrev pub AreTracesOf : {P E : Type 0} → Result (Finished P) E → List Trace → Type 0
 AreTracesOf (Ok finished) traces = TracesOf finished.ran traces
 AreTracesOf (Err e) traces = traces ≡ []
+
+-- a run was made
+abbrev pub WasMade : {P E : Type 0} → Result (Finished P) E → Type 0
+WasMade (Ok finished) = IsOk finished.ran
+WasMade (Err e) = ⊥
 
 -- the reply tells, in this form, a run of an accepted script
 abbrev pub RepliesRun : DiskBytes → Running → Form → ℕ → Script → Reply → Type 0

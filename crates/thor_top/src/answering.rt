@@ -1,11 +1,12 @@
 //! The answer to a plan, on one thread or on several, and to words.
 
-ghost use Rattle.cluster_core.specs.Histories.{AreHistoriesIf};
+ghost use Rattle.cluster_core.specs.Histories.{AreHistories, AreHistoriesIf};
 ghost use Rattle.repo_opening.specs.Same.{AreSame};
 ghost use Rattle.std.specs.Prelude.{IfOk, Some, [], vec_len, ◌≡◌};
 ghost use Rattle.store_opening.specs.Reading.{ReadAll};
 ghost use Rattle.thor_top.specs.Stages.{IsInTurn};
 ghost use Rattle.top_statement.specs.Kept.{RefusesBy, WritesNothing};
+ghost use Rattle.top_statement.specs.Telling.{TellsRunBy};
 ghost use Rattle.top_statement.specs.Top.{IsForOthers, IsHanded, IsNoPlan, IsPlan, Says, told_by};
 ghost use Rattle.top_words.specs.Words.{plan_of};
 ghost use Rattle.top_words.specs.declared.command.Command.TheVariants.{Audit, Check};
@@ -35,6 +36,7 @@ pub(crate) fn answer_in_turn<S: Source, P: Parts>(
     ensures parts { vec_len result.parts ≡ vec_len parts }
     ensures kept { WritesNothing plan.now.command result.reply → AreSame P.disks parts.items result.parts.items }
     ensures histories { AreHistoriesIf P.disks parts.items result.traces }
+    ensures reported { TellsRunBy result.reply → AreHistories P.disks parts.items result.traces }
 {
     match begin(alloc, plan, source, parts) {
         Ok(run) => run_in_turn(alloc, run),
@@ -91,6 +93,7 @@ fn answer_plan<R: Threads + Wait + Sync, S: Source, P: Parts + Send, G: Gate + S
     ensures parts { vec_len result.parts ≡ vec_len parts }
     ensures kept { WritesNothing plan.now.command result.reply → AreSame P.disks parts.items result.parts.items }
     ensures histories { IsInTurn plan.now.command → AreHistoriesIf P.disks parts.items result.traces }
+    ensures reported { IsInTurn plan.now.command → TellsRunBy result.reply → AreHistories P.disks parts.items result.traces }
 {
     match plan.command {
         Command::Run => answer_on_threads(alloc, runtime, plan, source, parts),
@@ -114,6 +117,7 @@ pub(crate) fn answer<R: Threads + Wait + Sync, S: Source, P: Parts + Send, G: Ga
     ensures checked { (plan : Plan) → plan_of words.now ≡ Some plan → plan.command ≡ Check → AreSame P.disks parts.items result.parts.items }
     ensures audited { (plan : Plan) → plan_of words.now ≡ Some plan → plan.command ≡ Audit → AreSame P.disks parts.items result.parts.items }
     ensures histories { (plan : Plan) → plan_of words.now ≡ Some plan → IsInTurn plan.command → AreHistoriesIf P.disks parts.items result.traces }
+    ensures reported { (plan : Plan) → plan_of words.now ≡ Some plan → IsInTurn plan.command → TellsRunBy result.reply → AreHistories P.disks parts.items result.traces }
 {
     match read_words(alloc, words) {
         Ok(plan) => answer_plan(alloc, runtime, &plan, source, parts),

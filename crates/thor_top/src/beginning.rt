@@ -10,6 +10,7 @@ ghost use Rattle.top_judging.specs.Stages.{IsJudged, RepliesUnsettled};
 ghost use Rattle.top_reply.specs.declared.reply.Reply.{Reply as AReply};
 ghost use Rattle.top_statement.specs.Opening.{IsStoredBy};
 ghost use Rattle.top_statement.specs.Kept.{WritesNothing};
+ghost use Rattle.top_statement.specs.Telling.{TellsNoRun};
 ghost use Rattle.top_statement.specs.Top.{IsForOthers, IsHanded, RepliesTo, Says, form_of, told_by};
 
 use crate::opening::{FoundRun, run_on};
@@ -40,6 +41,7 @@ fn checked<P: Parts>(alloc: Global, plan: &Plan, script: &Script, judged: Judged
     requires command { plan.now.command ≡ Command.Check }
     requires judged { IsJudged plan.now script.now judged.found.store judged.base }
     ensures reply { (given : List P) → IsStoredBy (ReadAll P.disks given) judged.found.store → IfOk result.reply (RepliesTo (ReadAll P.disks given) plan.now script.now) }
+    ensures untold { TellsNoRun result.reply }
     ensures parts { vec_len result.parts ≡ parts_in judged.found }
     ensures same { (given : List P) → HasParts P.disks given judged.found → AreSame P.disks given result.parts.items }
 {
@@ -61,6 +63,7 @@ fn begin_judged<P: Parts>(
     ensures played { IfOk result (λ run. IsPlayed plan.now.command) }
     ensures found { IfOk result (λ run. run.found ≡ judged.found) }
     ensures reply { (given : List P) → IsStoredBy (ReadAll P.disks given) judged.found.store → IfErr result (λ a. IfOk a.reply (RepliesTo (ReadAll P.disks given) plan.now script)) }
+    ensures untold { IfErr result (λ a. TellsNoRun a.reply) }
     ensures parts { IfErr result (λ a. vec_len a.parts ≡ parts_in judged.found) }
     ensures kept { (given : List P) → HasParts P.disks given judged.found → IfErr result (λ a. WritesNothing plan.now.command a.reply → AreSame P.disks given a.parts.items) }
 {
@@ -90,6 +93,7 @@ fn begin_script<P: Parts>(
     ensures count { IfOk result (λ run. parts_in run.found ≡ vec_len parts) }
     ensures found { IfOk result (λ run. HasParts P.disks parts.items run.found) }
     ensures reply { IfErr result (λ a. IfOk a.reply (RepliesTo (ReadAll P.disks parts.items) plan.now script)) }
+    ensures untold { IfErr result (λ a. TellsNoRun a.reply) }
     ensures parts { IfErr result (λ a. vec_len a.parts ≡ vec_len parts) }
     ensures kept { IfErr result (λ a. WritesNothing plan.now.command a.reply → AreSame P.disks parts.items a.parts.items) }
 {
@@ -116,6 +120,7 @@ pub(crate) fn begin<S: Source, P: Parts>(
     ensures count { IfOk result (λ run. parts_in run.found ≡ vec_len parts) }
     ensures found { IfOk result (λ run. HasParts P.disks parts.items run.found) }
     ensures reply { IfErr result (λ a. IfOk a.reply (Says (ReadAll P.disks parts.items) (IsHanded plan.now (vec_len parts)) (IsForOthers plan.now (vec_len parts)) (told_by S.left S.faults source.old) (told_by S.left S.faults source.new))) }
+    ensures untold { IfErr result (λ a. TellsNoRun a.reply) }
     ensures parts { IfErr result (λ a. vec_len a.parts ≡ vec_len parts) }
     ensures kept { IfErr result (λ a. WritesNothing plan.now.command a.reply → AreSame P.disks parts.items a.parts.items) }
 {

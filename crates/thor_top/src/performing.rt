@@ -1,12 +1,13 @@
 //! A plan is performed, and the reply written.
 
-ghost use Rattle.cluster_core.specs.Histories.{AreHistoriesIf};
+ghost use Rattle.cluster_core.specs.Histories.{AreHistories, AreHistoriesIf};
 ghost use Rattle.outside.specs.Faults.{Rose};
 ghost use Rattle.repo_opening.specs.Same.{AreSame};
 ghost use Rattle.std.specs.Prelude.{IfOk, vec_len, ◌≡◌};
 ghost use Rattle.store_opening.specs.Reading.{ReadAll};
 ghost use Rattle.thor_top.specs.Stages.{IsInTurn};
 ghost use Rattle.top_statement.specs.Kept.{RefusesBy};
+ghost use Rattle.top_statement.specs.Telling.{TellsRunBy};
 ghost use Rattle.top_statement.specs.Top.{IsForOthers, IsHanded, Says, told_by};
 ghost use Rattle.top_statement.specs.Written.{Wrote};
 ghost use Rattle.top_words.specs.declared.command.Command.TheVariants.{Audit, Check};
@@ -49,6 +50,8 @@ pub fn perform<S: Source, K: Sink, P: Parts>(
     // Each repository's history is sound by the one with which it began, and each item of its trace is exact, where nothing had still to
     // be settled.
     ensures histories { AreHistoriesIf P.disks parts.repositories.items result.traces }
+    // Where a run is told, each repository has such a history.
+    ensures reported { TellsRunBy result.reply → AreHistories P.disks parts.repositories.items result.traces }
 {
     let StoreParts { repositories } = parts;
     let answered = answer_in_turn(alloc, &plan, source, repositories);

@@ -1,10 +1,11 @@
 //! What is replied of a run that was made.
 
-ghost use Rattle.std.specs.Prelude.{IfErr, IfOk, [], ◌≡◌};
-ghost use Rattle.thor_top.specs.Stages.{AreTracesOf, IsToldOf, TracesOf};
+ghost use Rattle.std.specs.Prelude.{IfErr, IfOk, IsOk, [], ◌≡◌};
+ghost use Rattle.thor_top.specs.Stages.{AreTracesOf, IsToldOf, TracesOf, WasMade};
 ghost use Rattle.top_judging.specs.Stages.{RepliesUnsettled};
 ghost use Rattle.thor_value.specs.FiniteMap.{IsSorted};
 ghost use Rattle.top_reply.specs.Reports.{IsReported};
+ghost use Rattle.top_statement.specs.Telling.{TellsRunBy};
 
 use crate::expected::Expected;
 use cluster_core::{Finished, Ran};
@@ -27,6 +28,8 @@ fn reported(
     requires { IsSorted expected.now.opened.store.objects }
     ensures reply { IfOk result.0 (IsReported expected.now.running expected.now.form expected.now.opened.schemas expected.now.opened.store expected.now.script) }
     ensures traces { TracesOf ran result.1 }
+    // A run is told where one was made.
+    ensures ran { TellsRunBy result.0 → IsOk ran }
 {
     match ran {
         Ok(
@@ -60,6 +63,7 @@ fn told<P: Parts>(alloc: Global, expected: Expected, finished: Finished<P>) -> A
     ensures reply { IfOk result.reply (IsReported expected.running expected.form expected.opened.schemas expected.opened.store expected.script) }
     ensures parts { result.parts ≡ finished.parts }
     ensures traces { TracesOf finished.ran result.traces }
+    ensures ran { TellsRunBy result.reply → IsOk finished.ran }
 {
     let Finished { parts, ran } = finished;
     let (reply, traces) = reported(alloc, &expected, ran);
@@ -93,6 +97,8 @@ pub(crate) fn replied<P: Parts>(
     ensures ok { IfOk played (λ finished. result.parts ≡ finished.parts) }
     ensures err { IfErr played (λ fault. result.parts ≡ fault.parts) }
     ensures traces { AreTracesOf played result.traces }
+    // A run is told where one was made.
+    ensures ran { TellsRunBy result.reply → WasMade played }
 {
     match played {
         Ok(finished) => told(alloc, expected, finished),

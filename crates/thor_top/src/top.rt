@@ -1,5 +1,5 @@
 ghost use Rattle.audit_check.specs.declared.disagreement.Disagreement.{Disagreement};
-ghost use Rattle.cluster_core.specs.Histories.{AreHistoriesIf};
+ghost use Rattle.cluster_core.specs.Histories.{AreHistories, AreHistoriesIf};
 ghost use Rattle.outside.specs.Faults.{Rose};
 ghost use Rattle.repo_opening.specs.Same.{AreSame};
 ghost use Rattle.script_parse.specs.declared.refusal.Refusal.{Refusal};
@@ -7,6 +7,7 @@ ghost use Rattle.std.specs.Prelude.{Bool, List, Ok, Some, vec_len, ℕ, ◌≡�
 ghost use Rattle.store_opening.specs.Reading.{ReadAll};
 ghost use Rattle.thor_top.specs.Stages.{IsInTurn};
 ghost use Rattle.top_statement.specs.Kept.{RefusesBy};
+ghost use Rattle.top_statement.specs.Telling.{TellsRunBy};
 ghost use Rattle.top_statement.specs.Top.{IsNoPlan, IsPlan, SaysAccepted, SaysDamaged, SaysDisagrees, SaysDisk, SaysLegal, SaysLimit, SaysNoReport, SaysRefused, SaysRun, SaysSource, SaysWords, told_by};
 ghost use Rattle.top_statement.specs.Written.{Wrote};
 ghost use Rattle.top_words.specs.Words.{plan_of};
@@ -78,6 +79,8 @@ pub fn thor<R: Threads + Wait + Sync, S: Source, K: Sink, P: Parts + Send, G: Ga
     // Each repository's history is sound by the one with which it began, and each item of its trace is exact, where the run is made on one
     // thread and nothing had still to be settled.
     ensures histories { (plan : Plan) → plan_of words.now ≡ Some plan → IsInTurn plan.command → AreHistoriesIf P.disks parts.repositories.items result.traces }
+    // Where a run is told that was made on one thread, each repository has such a history.
+    ensures reported { (plan : Plan) → plan_of words.now ≡ Some plan → IsInTurn plan.command → TellsRunBy result.reply → AreHistories P.disks parts.repositories.items result.traces }
 {
     let runtime = Runtime { rt, gate };
     let StoreParts { repositories } = parts;

@@ -1,3 +1,4 @@
 pub mod AuditLaws
 pub mod BaseLaws
 pub mod StageLaws
+pub mod TellingLaws

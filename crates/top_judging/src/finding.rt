@@ -7,6 +7,7 @@ ghost use Rattle.store_opening.specs.Counts.{HasParts, parts_in};
 ghost use Rattle.store_opening.specs.Reading.{ReadAll};
 ghost use Rattle.top_judging.specs.Stages.{IsJudged, RepliesUnjudged};
 ghost use Rattle.top_statement.specs.Opening.{IsStoredBy};
+ghost use Rattle.top_statement.specs.Telling.{TellsNoRun};
 ghost use Rattle.top_statement.specs.Top.{RepliesTo};
 
 use crate::judging::base_in;
@@ -64,6 +65,8 @@ pub fn find<P: Parts>(
     ensures found { IfOk result (λ j. HasParts P.disks parts.items j.found) }
     ensures stored { IfOk result (λ j. IsStoredBy (ReadAll P.disks parts.items) j.found.store) }
     ensures reply { IfErr result (λ a. IfOk a.reply (RepliesTo (ReadAll P.disks parts.items) plan.now script.now)) }
+    // No run is told then.
+    ensures untold { IfErr result (λ a. TellsNoRun a.reply) }
     ensures parts { IfErr result (λ a. vec_len a.parts ≡ vec_len parts) }
     ensures same { IfErr result (λ a. AreSame P.disks parts.items a.parts.items) }
 {

@@ -9,6 +9,7 @@ use Rattle.top_reply.specs.declared.reply.Reply.TheVariants as reply
 use Rattle.top_reply.specs.declared.status.Status.{Status}
 use Rattle.top_reply.specs.declared.status.Status.TheVariants as status
 use Rattle.top_statement.specs.Kept.{RefusesBy}
+use Rattle.top_statement.specs.Telling.{TellsRunBy}
 use Rattle.top_statement.specs.Written.{Wrote}
 
 -- no reply has these two statuses
@@ -69,3 +70,7 @@ said_of made (Err e) Of same says = tt
 pub refuses_of : (made written : Result Reply NoMemory) → IfOk written (λ r. made ≡ Ok r) → RefusesBy written → RefusesBy made
 refuses_of made (Ok r) same refuses = subst (λ (m : Result Reply NoMemory). RefusesBy m) (sym same) refuses
 refuses_of made (Err e) same refuses = absurd refuses
+
+pub tells_of : (made written : Result Reply NoMemory) → IfOk written (λ r. made ≡ Ok r) → TellsRunBy written → TellsRunBy made
+tells_of made (Ok r) same tells = subst (λ (m : Result Reply NoMemory). TellsRunBy m) (sym same) tells
+tells_of made (Err e) same tells = absurd tells

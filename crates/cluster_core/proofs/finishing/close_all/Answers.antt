@@ -1,4 +1,4 @@
-use Rattle.cluster_core.proofs.Ending.{none_told, told_next, told_right}
+use Rattle.cluster_core.proofs.Ending.{none_told, told_count, told_next, told_right}
 use Rattle.cluster_core.proofs.Seating.{number_next, numbered, numbers_left}
 use Rattle.cluster_core.specs.Seated.{AreNumbered}
 use Rattle.std.proofs.Common.{arith, subst, sym, vec_len, ℕ}
@@ -26,3 +26,9 @@ loop-site-preserved g c =
 
 pub returns-clause-right : goal.returns-clause-right
 returns-clause-right g c = told_right g.O.Opening.run _ c.loop-site.traces c.loop-site.invariant.3
+
+pub returns-clause-told : goal.returns-clause-told
+returns-clause-told g c =
+    let inv = c.loop-site.invariant in
+    let all = c.into_iter-site-iterator.ensures.into_iter_gives.1 in
+    told_count g.O.Opening.run (vec_len c.loop-site.parts) (vec_len c.args.sites) c.loop-site.traces (omega (arith, inv.0, c.in-None.ensures.steps.0, all)) inv.3

@@ -8,6 +8,7 @@ use Rattle.top_reply.specs.declared.reply.Reply.{Reply}
 use Rattle.top_statement.specs.Top.{IsForOthers, IsHanded, IsNoPlan, IsPlan, Says, Told, told_by}
 use Rattle.top_words.specs.Words.{Gives, plan_of}
 use Rattle.top_words.specs.declared.command.WordsFault.{WordsFault}
+use Rattle.top_statement.specs.Telling.{TellsRunBy}
 use Rattle.thor_top.proofs.answering.answer.Goals as goal
 
 pub returns-in-Ok-clause-reply : goal.returns-in-Ok-clause-reply
@@ -47,3 +48,12 @@ returns-in-Err-Words-clause-reply g c =
     let before : Told = told_by g.S.Source.left g.S.Source.faults c.args.source.now in
     let none = subst (λ (f : WordsFault). Gives (plan_of words) (Err f)) c.in-Err-Words.field-0-is c.in-Err-Words.ensures in
     subst (λ (q : Result Reply NoMemory). IfOk q (Says D (IsPlan words count) (IsNoPlan words count) before before)) (sym c.untouched.ensures.reply) (no_words words count none, refl)
+
+pub returns-in-Ok-clause-reported : goal.returns-in-Ok-clause-reported
+returns-in-Ok-clause-reported g c = λ p is turn. c.answer_plan.ensures.reported (one_in_turn c.args.words.now c.in-Ok.plan p c.in-Ok.ensures is turn)
+
+pub returns-in-Err-Words-clause-reported : goal.returns-in-Err-Words-clause-reported
+returns-in-Err-Words-clause-reported g c = λ p is turn tells. absurd (subst (λ (q : Result Reply NoMemory). TellsRunBy q) c.untouched.ensures.reply tells)
+
+pub returns-in-Err-NoMemory-clause-reported : goal.returns-in-Err-NoMemory-clause-reported
+returns-in-Err-NoMemory-clause-reported g c = λ p is turn tells. absurd (subst (λ (q : Result Reply NoMemory). TellsRunBy q) c.untouched.ensures.reply tells)

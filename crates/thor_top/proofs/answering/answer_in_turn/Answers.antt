@@ -1,5 +1,8 @@
-use Rattle.std.proofs.Common.{inl}
+use Rattle.std.proofs.Common.{Result, inl, subst}
 use Rattle.thor_top.proofs.HistoryLaws.{told_says, told_writes_not}
+use Rattle.thor_value.specs.declared.memory.NoMemory.{NoMemory}
+use Rattle.top_reply.specs.declared.reply.Reply.{Reply}
+use Rattle.top_statement.specs.Telling.{TellsRunBy}
 use Rattle.thor_top.proofs.answering.answer_in_turn.Goals as goal
 
 pub returns-in-Ok-clause-reply : goal.returns-in-Ok-clause-reply
@@ -16,3 +19,9 @@ returns-in-Err-clause-histories g c = inl c.untold.ensures.traces
 
 pub run_in_turn-requires : goal.run_in_turn-requires
 run_in_turn-requires g c = c.in-Ok.ensures.foretells.sorted
+
+pub returns-in-Ok-clause-reported : goal.returns-in-Ok-clause-reported
+returns-in-Ok-clause-reported g c = c.run_in_turn.ensures.reported c.args.parts.items c.in-Ok.ensures.found
+
+pub returns-in-Err-clause-reported : goal.returns-in-Err-clause-reported
+returns-in-Err-clause-reported g c = λ tells. absurd (c.in-Err.ensures.untold (subst (λ (q : Result Reply NoMemory). TellsRunBy q) c.untold.ensures.reply tells))

@@ -8,6 +8,8 @@ use Rattle.top_judging.specs.Stages.{RepliesUnsettled}
 use Rattle.top_judging.specs.Origins.{RepliesUnreadFor}
 use Rattle.top_reply.specs.declared.reply.Reply.{Reply}
 use Rattle.top_statement.specs.Top.{IsForOthers, IsHanded, RepliesTo, Says, Told, origin_of, told_by}
+use Rattle.top_judging.proofs.TellingLaws.{none_tell, unread_for_tells}
+use Rattle.top_statement.specs.Telling.{TellsNoRun}
 use Rattle.thor_top.proofs.beginning.begin.Goals as goal
 
 pub returns-then-not-are_parts_of-clause-reply : goal.returns-then-not-are_parts_of-clause-reply
@@ -83,3 +85,14 @@ begin_script-requires-clause-store g c =
     let before : Told = told_by g.S.Source.left g.S.Source.faults c.args.source.now in
     let after : Told = told_by g.S.Source.left g.S.Source.faults c.script_of.new.source in
     for_store c.args.plan.now.command c.args.plan.now.repos before after c.in-Ok.script c.in-Ok.ensures.script
+
+pub returns-then-not-are_parts_of-clause-untold : goal.returns-then-not-are_parts_of-clause-untold
+returns-then-not-are_parts_of-clause-untold g c = subst (λ (q : Result Reply NoMemory). TellsNoRun q) (sym c.untouched.ensures.reply) (λ tells. tells)
+
+pub returns-in-Err-clause-untold : goal.returns-in-Err-clause-untold
+returns-in-Err-clause-untold g c =
+    let plan = c.args.plan.now in
+    let before : Told = told_by g.S.Source.left g.S.Source.faults c.args.source.now in
+    let after : Told = told_by g.S.Source.left g.S.Source.faults c.script_of.new.source in
+    subst (λ (q : Result Reply NoMemory). TellsNoRun q) (sym c.untouched-in-Err.ensures.reply)
+    (none_tell c.in-Err.reply (RepliesUnreadFor (origin_of plan.command) plan before after) (unread_for_tells (origin_of plan.command) plan before after) c.in-Err.ensures.reply)

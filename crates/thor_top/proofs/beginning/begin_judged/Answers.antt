@@ -5,6 +5,8 @@ use Rattle.thor_top.specs.Stages.{Foretells, IsPlayed, RepliesRun}
 use Rattle.top_judging.proofs.StageLaws.{err_map, fits_disks, ok_map, unsettled_replies}
 use Rattle.top_judging.specs.Stages.{RepliesUnsettled}
 use Rattle.top_statement.specs.Top.{RepliesTo, running_of}
+use Rattle.top_judging.proofs.TellingLaws.{none_tell, unsettled_tells}
+use Rattle.top_statement.specs.Telling.{TellsNoRun}
 use Rattle.thor_top.proofs.beginning.begin_judged.Goals as goal
 
 pub returns-in-Some-clause-foretells : goal.returns-in-Some-clause-foretells
@@ -39,3 +41,8 @@ checked-answered-requires-clause-command g c = no_form c.args.plan.now.command c
 
 pub returns-in-None-clause-kept : goal.returns-in-None-clause-kept
 returns-in-None-clause-kept g c = λ given has writes. c.checked-answered.ensures.same given has
+
+pub returns-in-Some-clause-untold : goal.returns-in-Some-clause-untold
+returns-in-Some-clause-untold g c =
+    err_map c.run_on.result (λ a. IfOk a.reply RepliesUnsettled) (λ a. TellsNoRun a.reply)
+    (λ a. none_tell a.reply RepliesUnsettled unsettled_tells) c.run_on.ensures.reply

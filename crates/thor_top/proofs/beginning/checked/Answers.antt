@@ -4,6 +4,7 @@ use Rattle.thor_value.specs.declared.memory.NoMemory.{NoMemory}
 use Rattle.top_judging.proofs.StageLaws.{fits_disks}
 use Rattle.top_reply.specs.declared.reply.Reply.{Reply}
 use Rattle.top_statement.specs.Top.{RepliesTo}
+use Rattle.top_statement.specs.Telling.{TellsNoRun}
 use Rattle.thor_top.proofs.beginning.checked.Goals as goal
 
 pub returns-clause-reply : goal.returns-clause-reply
@@ -13,3 +14,6 @@ returns-clause-reply g c = λ given stored.
 
 pub returns-clause-same : goal.returns-clause-same
 returns-clause-same g c = λ given has. rw c.unplayed.ensures.parts (c.into_parts.ensures.parts given has)
+
+pub returns-clause-untold : goal.returns-clause-untold
+returns-clause-untold g c = subst (λ (q : Result Reply NoMemory). TellsNoRun q) (sym c.unplayed.ensures.reply) (λ tells. tells)

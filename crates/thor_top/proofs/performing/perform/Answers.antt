@@ -1,5 +1,5 @@
 use Rattle.thor_top.proofs.ReplyLaws.{audit_writes, check_writes, writes_nothing}
-use Rattle.top_statement.proofs.WrittenLaws.{refuses_of, said_of}
+use Rattle.top_statement.proofs.WrittenLaws.{refuses_of, said_of, tells_of}
 use Rattle.thor_top.proofs.performing.perform.Goals as goal
 
 pub returns-clause-says : goal.returns-clause-says
@@ -20,3 +20,7 @@ returns-clause-audited g c = λ audit. rw c.write_answer.ensures.parts
 
 pub returns-clause-histories : goal.returns-clause-histories
 returns-clause-histories g c = rw c.write_answer.ensures.traces c.answer_in_turn-answered.ensures.histories
+
+pub returns-clause-reported : goal.returns-clause-reported
+returns-clause-reported g c = λ tells. rw c.write_answer.ensures.traces
+    (c.answer_in_turn-answered.ensures.reported (tells_of c.answer_in_turn-answered.result.reply c.write_answer.result.reply c.write_answer.ensures.reply tells))

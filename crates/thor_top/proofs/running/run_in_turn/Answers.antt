@@ -1,10 +1,14 @@
 use Rattle.std.proofs.Common.{vec_len}
-use Rattle.thor_top.proofs.HistoryLaws.{many_of, of_played}
+use Rattle.thor_top.proofs.HistoryLaws.{many_of, of_played, of_told}
 use Rattle.thor_top.proofs.running.run_in_turn.Goals as goal
 
 pub returns-clause-histories : goal.returns-clause-histories
 returns-clause-histories g c = λ given has.
-    of_played g.P.Parts.disks given c.args.run.found.places.items c.args.run.found.mob c.args.run.run.start has c.replied.result.traces c.play-played.result c.replied.ensures.traces c.play-played.ensures.right c.play-played.ensures.found
+    of_played g.P.Parts.disks given c.args.run.found.places.items c.args.run.found.mob c.args.run.run.start has (vec_len c.args.run.found.places) c.args.run.found.places.ok.0 c.replied.result.traces c.play-played.result c.replied.ensures.traces c.play-played.ensures.right c.play-played.ensures.told c.play-played.ensures.found
+
+pub returns-clause-reported : goal.returns-clause-reported
+returns-clause-reported g c = λ given has tells.
+    of_told g.P.Parts.disks given c.args.run.found.places.items c.args.run.found.mob c.args.run.run.start has (vec_len c.args.run.found.places) c.args.run.found.places.ok.0 c.replied.result.traces c.play-played.result (c.replied.ensures.ran tells) c.replied.ensures.traces c.play-played.ensures.right c.play-played.ensures.told c.play-played.ensures.found
 
 pub returns-clause-parts : goal.returns-clause-parts
 returns-clause-parts g c = many_of (λ v. vec_len v) (λ f. f.parts) (λ f. f.parts) c.play-played.result c.replied.result.parts (vec_len c.args.run.found.places) c.play-played.ensures.parts c.play-played.ensures.err c.replied.ensures.ok c.replied.ensures.err

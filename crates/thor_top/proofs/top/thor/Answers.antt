@@ -1,6 +1,6 @@
 use Rattle.thor_top.proofs.ReplyLaws.{gives}
 use Rattle.top_reply.specs.declared.reply.Reply.TheVariants as reply
-use Rattle.top_statement.proofs.WrittenLaws.{refuses_of}
+use Rattle.top_statement.proofs.WrittenLaws.{refuses_of, tells_of}
 use Rattle.thor_top.proofs.top.thor.Goals as goal
 
 pub returns-clause-report : goal.returns-clause-report
@@ -51,3 +51,7 @@ returns-clause-no_report g c = λ line. gives c.answer-answered.result.reply c.w
 
 pub returns-clause-histories : goal.returns-clause-histories
 returns-clause-histories g c = λ p is turn. rw c.write_answer.ensures.traces (c.answer-answered.ensures.histories p is turn)
+
+pub returns-clause-reported : goal.returns-clause-reported
+returns-clause-reported g c = λ p is turn tells. rw c.write_answer.ensures.traces
+    (c.answer-answered.ensures.reported p is turn (tells_of c.answer-answered.result.reply c.write_answer.result.reply c.write_answer.ensures.reply tells))

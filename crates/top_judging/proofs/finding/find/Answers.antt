@@ -2,9 +2,11 @@ use Rattle.std.proofs.Common.{IfOk, Result, subst, sym}
 use Rattle.store_opening.specs.Reading.{ReadAll}
 use Rattle.thor_value.specs.declared.memory.NoMemory.{NoMemory}
 use Rattle.top_judging.proofs.StageLaws.{err_map, ok_map, unjudged_replies, unopened_replies}
+use Rattle.top_judging.proofs.TellingLaws.{none_tell, unjudged_tells, unopened_tells}
 use Rattle.top_judging.specs.Stages.{RepliesUnjudged, RepliesUnopened}
 use Rattle.top_reply.specs.declared.reply.Reply.{Reply}
 use Rattle.top_statement.specs.Opening.{IsStoredBy}
+use Rattle.top_statement.specs.Telling.{TellsNoRun}
 use Rattle.top_statement.specs.Top.{RepliesTo}
 use Rattle.top_judging.proofs.finding.find.Goals as goal
 
@@ -26,3 +28,16 @@ returns-in-Err-clause-reply g c =
     let script = c.args.script.now in
     subst (λ (q : Result Reply NoMemory). IfOk q (RepliesTo D plan script)) (sym c.unplayed.ensures.reply)
     (ok_map c.unopened.result RepliesUnopened (RepliesTo D plan script) (unopened_replies D plan script) c.unopened.ensures)
+
+pub returns-in-Ok-clause-untold : goal.returns-in-Ok-clause-untold
+returns-in-Ok-clause-untold g c =
+    let D = ReadAll g.P.Parts.disks c.args.parts.items in
+    let unjudged = RepliesUnjudged D c.args.plan.now c.args.script.now c.in-Ok.found.store in
+    err_map c.judged_on.result (λ a. IfOk a.reply unjudged) (λ a. TellsNoRun a.reply)
+    (λ a. none_tell a.reply unjudged (unjudged_tells D c.args.plan.now c.args.script.now c.in-Ok.found.store))
+    (c.judged_on.ensures.reply c.args.parts.items c.in-Ok.ensures.found)
+
+pub returns-in-Err-clause-untold : goal.returns-in-Err-clause-untold
+returns-in-Err-clause-untold g c =
+    subst (λ (q : Result Reply NoMemory). TellsNoRun q) (sym c.unplayed.ensures.reply)
+    (none_tell c.unopened.result RepliesUnopened unopened_tells c.unopened.ensures)
