@@ -9,7 +9,9 @@ use Rattle.serial_model.specs.Outcomes.{AreAnswered, AreInClientOrder, AreOfItem
 use Rattle.serial_model.specs.declared.entries.Did.{Did}
 use Rattle.serial_model.specs.declared.entries.What.{What}
 use Rattle.serial_model.specs.declared.outcomes.Ended.{Ended}
+use Rattle.report_parse.specs.declared.report.Backup.{Backup}
 use Rattle.report_parse.specs.declared.report.Line.{Line}
+use Rattle.report_parse.specs.declared.report.Look.{Look}
 use Rattle.report_parse.specs.declared.report.Report.{Report}
 use Rattle.top_history_check.proofs.Answering.{of_items}
 use Rattle.audit_check.specs.Agreement.{Agrees, AreLegalLines, Audits, HasNumber, IsFirstDisagreement, IsFirstEntry, IsFirstItem, IsFirstWrong, IsInOrder, IsRight, history_of}
@@ -114,27 +116,27 @@ module _ (a : Audited) where
   by_lines r history told legal (Err (Disagrees (line.Item index))) right = record { history = history; told = told; legal = legal; place = right.0; index_is = right.1; wrong = right.2 }
   by_lines r history told legal (Err NoMemory) right = tt
 
-  pub answered : (lines : List Line) (ended : List Ended) (history : List Did) (whole : Bool) → IsTold a.clients lines history whole → whole ≡ true → IsLegal a.schemas history a.opened → (x : Result (Unit {0}) AuditFault) → AreRightAll history (all_items a.clients) ended x
-      → Audits a (record { ended = ended; lines = lines }) x
-  answered lines ended history true told is legal x right = by_lines (record { ended = ended; lines = lines }) history told legal x right
-  answered lines ended history false told is legal x right = let bad : false ≡ true = is in cc
+  pub answered : (lines : List Line) (looks : List Look) (backups : List Backup) (ended : List Ended) (history : List Did) (whole : Bool) → IsTold a.clients lines history whole → whole ≡ true → IsLegal a.schemas history a.opened → (x : Result (Unit {0}) AuditFault) → AreRightAll history (all_items a.clients) ended x
+      → Audits a (record { ended = ended; lines = lines; looks = looks; backups = backups }) x
+  answered lines looks backups ended history true told is legal x right = by_lines (record { ended = ended; lines = lines; looks = looks; backups = backups }) history told legal x right
+  answered lines looks backups ended history false told is legal x right = let bad : false ≡ true = is in cc
 
   entry_is : (r : Report) (place : ℕ) (fault : AuditFault) → FaultIs (line.Entry (place + 1)) fault → IsFirstEntry a r.lines (place + 1) → Audits a r (Err fault)
   entry_is r place (Disagrees d) is first = subst (λ (x : Disagreement). IsFirstDisagreement a r x) (sym is) first
   entry_is r place NoMemory is first = tt
 
-  pub unnamed : (lines : List Line) (ended : List Ended) (history : List Did) (whole : Bool) → IsTold a.clients lines history whole → whole ≡ false → IsLegal a.schemas history a.opened → (fault : AuditFault) → FaultIs (line.Entry (length history + 1)) fault
-      → Audits a (record { ended = ended; lines = lines }) (Err fault)
-  unnamed lines ended history true told is legal fault at = let bad : true ≡ false = is in cc
-  unnamed lines ended history false told is legal fault at = entry_is (record { ended = ended; lines = lines }) (length history) fault at (entry_unnamed a lines history told legal)
+  pub unnamed : (lines : List Line) (looks : List Look) (backups : List Backup) (ended : List Ended) (history : List Did) (whole : Bool) → IsTold a.clients lines history whole → whole ≡ false → IsLegal a.schemas history a.opened → (fault : AuditFault) → FaultIs (line.Entry (length history + 1)) fault
+      → Audits a (record { ended = ended; lines = lines; looks = looks; backups = backups }) (Err fault)
+  unnamed lines looks backups ended history true told is legal fault at = let bad : true ≡ false = is in cc
+  unnamed lines looks backups ended history false told is legal fault at = entry_is (record { ended = ended; lines = lines; looks = looks; backups = backups }) (length history) fault at (entry_unnamed a lines history told legal)
 
   first_of : (lines : List Line) (index : ℕ) (place : ℕ) → index ≡ place + 1 → IsFirstEntry a lines (place + 1) → IsFirstEntry a lines index
   first_of lines index place is first = subst (λ (n : ℕ). IsFirstEntry a lines n) (sym is) first
 
-  pub not_legal : (lines : List Line) (ended : List Ended) (history : List Did) (whole : Bool) → IsTold a.clients lines history whole → (fault : AuditFault) → IsLegalOr a history (Err fault) → Audits a (record { ended = ended; lines = lines }) (Err fault)
-  not_legal lines ended history whole told (Disagrees (line.Entry index)) legal = first_of lines index legal.0 legal.1 (entry_not_legal a lines history whole legal.0 told legal.2)
-  not_legal lines ended history whole told (Disagrees (line.Item index)) legal = absurd legal
-  not_legal lines ended history whole told NoMemory legal = tt
+  pub not_legal : (lines : List Line) (looks : List Look) (backups : List Backup) (ended : List Ended) (history : List Did) (whole : Bool) → IsTold a.clients lines history whole → (fault : AuditFault) → IsLegalOr a history (Err fault) → Audits a (record { ended = ended; lines = lines; looks = looks; backups = backups }) (Err fault)
+  not_legal lines looks backups ended history whole told (Disagrees (line.Entry index)) legal = first_of lines index legal.0 legal.1 (entry_not_legal a lines history whole legal.0 told legal.2)
+  not_legal lines looks backups ended history whole told (Disagrees (line.Item index)) legal = absurd legal
+  not_legal lines looks backups ended history whole told NoMemory legal = tt
 
   -- ---- never both, and never two
 

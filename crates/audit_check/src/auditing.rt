@@ -5,7 +5,9 @@ ghost use Rattle.audit_check.specs.Agreement.{Audits};
 ghost use Rattle.audit_check.specs.Items.{AreRightAll};
 ghost use Rattle.audit_check.specs.Lines.{FaultIs, IsLegalOr, IsTold};
 ghost use Rattle.audit_check.specs.declared.disagreement.Disagreement.TheVariants as line;
+ghost use Rattle.report_parse.specs.declared.report.Backup.{Backup};
 ghost use Rattle.report_parse.specs.declared.report.Line.{Line};
+ghost use Rattle.report_parse.specs.declared.report.Look.{Look};
 ghost use Rattle.serial_model.specs.History.{IsLegal};
 ghost use Rattle.serial_model.specs.Outcomes.{all_items};
 ghost use Rattle.serial_model.specs.Replays.{AreMade};
@@ -77,7 +79,7 @@ fn audit_legal(
 ) -> Result<(), AuditFault>
     requires performed { ArePerformed script.now.clients told.now.history }
     requires legal { IsLegal script.now.schemas told.now.history script.now.opened }
-    ensures { (lines : List Line) → IsTold script.now.clients lines told.now.history told.now.is_whole → Audits script.now (record { ended = ended.now; lines = lines }) result }
+    ensures { (lines : List Line) (looks : List Look) (backups : List Backup) → IsTold script.now.clients lines told.now.history told.now.is_whole → Audits script.now (record { ended = ended.now; lines = lines; looks = looks; backups = backups }) result }
 {
     if !told.is_whole {
         return Err(entry_at(told.history.len()));
@@ -95,7 +97,7 @@ fn audit_told(
     requires made { AreMade script.now.schemas }
     requires sorted { IsSorted script.now.opened.objects }
     requires performed { ArePerformed script.now.clients told.now.history }
-    ensures { (lines : List Line) → IsTold script.now.clients lines told.now.history told.now.is_whole → Audits script.now (record { ended = ended.now; lines = lines }) result }
+    ensures { (lines : List Line) (looks : List Look) (backups : List Backup) → IsTold script.now.clients lines told.now.history told.now.is_whole → Audits script.now (record { ended = ended.now; lines = lines; looks = looks; backups = backups }) result }
 {
     match is_legal(alloc, script, &told.history) {
         Ok(()) => audit_legal(alloc, script, told, ended),

@@ -13,7 +13,7 @@ pub record AreTold (run : Run) (n : ℕ) (ts : List Trace) : Type 0 where
   pub right : AreRight run 0 ts
   pub count : length ts ≡ n
 
-pub none_told : {E : Type 0} (run : Run) (ts : List Trace) (n : ℕ) → ts ≡ [] → n ≡ 0 → IfOk (Ok {E = E} ts) (AreTold run n)
+pub none_told : (run : Run) (ts : List Trace) (n : ℕ) → ts ≡ [] → n ≡ 0 → AreTold run n ts
 none_told run ts n none count = subst (λ (us : List Trace). AreTold run n us) (sym none) (record { right = tt; count = sym count })
 
 pub told_next : {E : Type 0} (run : Run) (before after : Result (List Trace) E) (n m : ℕ) (t : Trace) (number : ℕ) → IfOk after (λ more. IsOkAnd before (λ ts. more ≡ ts ++ t ∷ [])) → IfOk before (AreTold run n) → number ≡ n → m ≡ n + 1 → IsRightTrace run number t → IfOk after (AreTold run m)

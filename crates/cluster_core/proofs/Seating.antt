@@ -1,13 +1,13 @@
 -- Repositories at their places, one more of them at a time.
-use Rattle.cluster_core.specs.Seated.{AreBegun, AreNumbered, AreOpen, AreRecovered, AreRight, AreSeated, IsRecoveredAt, IsSeatedAt}
+use Rattle.cluster_core.specs.Seated.{AreBegun, AreNumbered, AreOpen, AreRecovered, AreRight, AreSeated, IsOpen, IsRecoveredAt, IsSeatedAt}
 use Rattle.cluster_core.specs.declared.seat.Seat.{Seat}
 use Rattle.cluster_port.specs.Lent.{AreInPlace}
 use Rattle.disk_trait.specs.Disks.{Disks}
 use Rattle.repo_site.specs.Run.{Run}
 use Rattle.repo_site.specs.Sited.{IsRightTrace, Sited}
 use Rattle.repo_trace.specs.declared.trace.Trace.{Trace}
-use Rattle.std.proofs.Common.{Err, IfOk, List, None, Ok, OnOk, Result, Some, [], ap, append_assoc, arith, length, refl, subst, suc, sym, zero, ℕ, ◌++◌, ◌+◌, ◌∙◌, ◌∷◌, ◌≡◌}
-use Rattle.std.proofs.lemmas.List.{append-nil}
+use Rattle.std.proofs.Common.{Err, IfOk, List, None, Ok, OnOk, Result, Some, [], ap, append_assoc, arith, drop, false, get_or, length, refl, subst, suc, sym, true, zero, ℕ, ◌++◌, ◌+◌, ◌<◌, ◌∙◌, ◌∷◌, ◌≡◌}
+use Rattle.std.proofs.lemmas.List.{append-nil, drop_more}
 use Rattle.std.specs.List.{slice_get}
 use Rattle.std.specs.Prelude.{IsOk}
 use Rattle.std.specs.Vec.Iter.{into_iter_items, into_iter_steps}
@@ -74,6 +74,10 @@ module _ {P O : Type 0} where
   pub none_seated : (n : ℕ) (xs : List (Seat P O)) → length xs ≡ 0 → AreSeated n xs
   none_seated n xs none = subst (AreSeated n) (sym (none_in xs none)) tt
 
+  -- where one is open and those behind it are, those from its place on are
+  pub open_more : (xs : List (Seat P O)) (i : ℕ) (x : Seat P O) → i < length xs → x ≡ get_or xs i x → IsOpen x → AreOpen (drop (i + 1) xs) → AreOpen (drop i xs)
+  open_more xs i x within is here others = subst AreOpen (sym (drop_more xs i x within)) (subst IsOpen is here, others)
+
   -- the first of those that are left
   pub seated_first : (n : ℕ) (xs rest : List (Seat P O)) (x : Seat P O) → xs ≡ x ∷ rest → AreSeated n xs → IsSeatedAt n x
   seated_first n xs rest x is s = (subst (AreSeated n) is s).0
@@ -121,7 +125,7 @@ module _ {P : Type 0} where
 
   pub recovered_next : {E : Type 0} (disks : P → Disks) (before after : Result (Unit {0}) E) (xs : List (Closed P)) (x : Closed P) → OnOk before (AreRecovered disks xs) → OnOk after (IsOk before) → OnOk after (IsRecoveredAt disks x) → OnOk after (AreRecovered disks (xs ++ x ∷ []))
   recovered_next disks before (Err e) xs x r was last = tt
-  recovered_next disks (Err e) (Ok u) xs x r was last = absurd was
+  recovered_next disks (Err e) (Ok u) xs x r was last = absurd (let no : false ≡ true = was in cc)
   recovered_next disks (Ok v) (Ok u) xs x r was last = recovered_more disks xs x r last
 
   pub recovered_all : {E : Type 0} (disks : P → Disks) (opened : Result (Unit {0}) E) (yielded rest all : List (Closed P)) → yielded ++ rest ≡ all → rest ≡ [] → OnOk opened (AreRecovered disks yielded) → OnOk opened (AreRecovered disks all)
@@ -131,7 +135,7 @@ module _ {P : Type 0} where
 
 pub on_ok_of : {X Y E F : Type 0} (before : Result X E) (after : Result Y F) (Q : Type 0) → OnOk before Q → OnOk after (IsOk before) → OnOk after Q
 on_ok_of before (Err e) Q q was = tt
-on_ok_of (Err e) (Ok y) Q q was = absurd was
+on_ok_of (Err e) (Ok y) Q q was = absurd (let no : false ≡ true = was in cc)
 on_ok_of (Ok x) (Ok y) Q q was = q
 
 pub at_ok : {X E : Type 0} (r : Result X E) (x : X) (Q : Type 0) → r ≡ Ok x → OnOk r Q → Q

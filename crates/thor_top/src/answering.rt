@@ -39,7 +39,7 @@ pub(crate) fn answer_in_turn<S: Source, P: Parts>(
     ensures reported { TellsRunBy result.reply → AreHistories P.disks parts.items result.traces }
 {
     match begin(alloc, plan, source, parts) {
-        Ok(run) => run_in_turn(alloc, run),
+        Ok(found_run) => run_in_turn(alloc, found_run),
         Err(answered) => untold(alloc, answered),
     }
 }
@@ -76,7 +76,7 @@ fn answer_on_threads<R: Threads + Wait + Sync, S: Source, P: Parts + Send, G: Ga
     ensures kept { WritesNothing plan.now.command result.reply → AreSame P.disks parts.items result.parts.items }
 {
     match begin(alloc, plan, source, parts) {
-        Ok(run) => run_on_threads(alloc, runtime, run, plan.mob),
+        Ok(found_run) => run_on_threads(alloc, runtime, found_run, plan.mob),
         Err(answered) => answered,
     }
 }

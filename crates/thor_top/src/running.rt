@@ -52,7 +52,7 @@ pub(crate) fn run_on_threads<R: Threads + Wait + Sync, P: Parts + Send, G: Gate 
     run: FoundRun<P>,
     mob: u32,
 ) -> Answered<P>
-    requires { IsSorted run.expected.opened.store.objects }
+    requires sorted { IsSorted run.expected.opened.store.objects }
     ensures reply { IfOk result.reply (IsToldOf run.expected) }
     ensures parts { vec_len result.parts ≡ parts_in run.found }
 {

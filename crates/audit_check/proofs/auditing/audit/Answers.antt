@@ -13,5 +13,5 @@ audit_told-requires-clause-performed c =
 pub returns : goal.returns
 returns c =
     let told = c.in_ok-told.told in
-    c.audit_told.ensures c.args.report.lines
+    c.audit_told.ensures c.args.report.lines c.args.report.looks c.args.report.backups
     (subst (λ (cs : List (List What)). IsTold cs c.args.report.lines told.history told.is_whole) c.as_slice.ensures c.in_ok-told.ensures)

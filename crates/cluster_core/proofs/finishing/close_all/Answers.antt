@@ -21,7 +21,7 @@ loop-site-preserved g c =
       omega (arith, inv.0, next.1, c.push_reserved.ensures.len),
       omega (arith, inv.1, next.1, c.push_reserved.ensures.len, c.push_reserved.ensures.capacity),
       numbers_left (vec_len c.loop-site.parts) (vec_len c.push_reserved.new.self) (into_iter_items c.loop-site.site-iterator) (into_iter_items c.next.new.self) c.in-Some.site next.0 (omega (arith, c.push_reserved.ensures.len)) inv.2,
-      told_next g.O.Opening.run c.loop-site.traces c.with_trace.result (vec_len c.loop-site.parts) (vec_len c.push_reserved.new.self) c.close-part.result.1 c.in-Some.site.number c.with_trace.ensures inv.3 number (omega (arith, c.push_reserved.ensures.len)) c.close-part.ensures,
+      told_next g.O.Opening.run c.loop-site.traces c.with_trace-traces.result (vec_len c.loop-site.parts) (vec_len c.push_reserved.new.self) c.close-part.result.1 c.in-Some.site.number c.with_trace-traces.ensures inv.3 number (omega (arith, c.push_reserved.ensures.len)) c.close-part.ensures,
     )
 
 pub returns-clause-right : goal.returns-clause-right

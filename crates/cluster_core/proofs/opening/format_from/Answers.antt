@@ -1,11 +1,17 @@
 use Rattle.cluster_core.proofs.Seating.{length_more, seated_first, seated_left, seated_next}
 use Rattle.cluster_core.specs.Seated.{IsSeatedAt}
-use Rattle.std.proofs.Common.{arith, length, subst, sym, ℕ, ◌≡◌}
+use Rattle.repo_site.specs.Sited.{BeginsNew}
+use Rattle.std.proofs.Common.{arith, length, subst, sym, vec_len, ℕ, ◌≡◌}
 use Rattle.std.specs.Vec.Iter.{into_iter_items}
 use Rattle.cluster_core.proofs.opening.format_from.Goals as goal
 
-pub format_behind-requires-clause-seated : goal.format_behind-requires-clause-seated
-format_behind-requires-clause-seated g c =
+pub format_behind-seat-requires-clause-begins : goal.format_behind-seat-requires-clause-begins
+format_behind-seat-requires-clause-begins g c =
+    let repos : c.len-repos.result ≡ vec_len c.args.seats = omega (arith, c.len-repos.ensures, c.args.seats.ok.0) in
+    subst (λ (k : ℕ). BeginsNew g.O.Opening.run c.len-place.result k c.args.setup.now c.args.mob) (sym repos) (c.requires.begins c.len-place.result)
+
+pub format_behind-seat-requires-clause-seated : goal.format_behind-seat-requires-clause-seated
+format_behind-seat-requires-clause-seated g c =
     let inv = c.loop-seat.invariant in
     let next = c.in-Some.ensures.steps in
     let place : c.len-place.result ≡ length c.loop-seat.done.items = omega (arith, c.len-place.ensures, c.loop-seat.done.ok.0) in

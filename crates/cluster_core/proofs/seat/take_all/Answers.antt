@@ -1,7 +1,19 @@
-use Rattle.cluster_core.proofs.Seating.{length_more, open_left, placed_next, seated_left}
-use Rattle.std.proofs.Common.{arith}
+use Rattle.cluster_core.proofs.Seating.{length_more, none_placed, open_left, placed_next, seated_left}
+use Rattle.cluster_core.specs.Seated.{AreOpen, AreSeated}
+use Rattle.std.proofs.Common.{arith, length, subst, sym, ℕ, ◌≡◌}
 use Rattle.std.specs.Vec.Iter.{into_iter_items}
 use Rattle.cluster_core.proofs.seat.take_all.Goals as goal
+
+pub loop-seat-init : goal.loop-seat-init
+loop-seat-init g c =
+    let all = c.into_iter-seat-iterator.ensures.into_iter_gives in
+    let none : length c.args.room.items ≡ 0 = omega (arith, c.requires.empty, c.args.room.ok.0) in (
+      omega (arith, c.requires.empty),
+      omega (arith, c.requires.empty, c.requires.room, all.1),
+      none_placed c.args.room.items none,
+      subst (λ (n : ℕ). AreSeated n (into_iter_items c.into_iter-seat-iterator.result)) (sym none) (subst (AreSeated 0) (sym all.0) c.requires.seated),
+      subst AreOpen (sym all.0) c.requires.open,
+    )
 
 pub loop-seat-preserved : goal.loop-seat-preserved
 loop-seat-preserved g c =

@@ -38,7 +38,7 @@ pub returns-in-Err-Words-clause-histories : goal.returns-in-Err-Words-clause-his
 returns-in-Err-Words-clause-histories g c = λ p is turn. inl c.untouched.ensures.traces
 
 pub returns-in-Err-NoMemory-clause-histories : goal.returns-in-Err-NoMemory-clause-histories
-returns-in-Err-NoMemory-clause-histories g c = λ p is turn. inl c.untouched.ensures.traces
+returns-in-Err-NoMemory-clause-histories g c = λ p is turn. inl c.untouched-in-Err-NoMemory.ensures.traces
 
 pub returns-in-Err-Words-clause-reply : goal.returns-in-Err-Words-clause-reply
 returns-in-Err-Words-clause-reply g c =
@@ -56,4 +56,4 @@ pub returns-in-Err-Words-clause-reported : goal.returns-in-Err-Words-clause-repo
 returns-in-Err-Words-clause-reported g c = λ p is turn tells. absurd (subst (λ (q : Result Reply NoMemory). TellsRunBy q) c.untouched.ensures.reply tells)
 
 pub returns-in-Err-NoMemory-clause-reported : goal.returns-in-Err-NoMemory-clause-reported
-returns-in-Err-NoMemory-clause-reported g c = λ p is turn tells. absurd (subst (λ (q : Result Reply NoMemory). TellsRunBy q) c.untouched.ensures.reply tells)
+returns-in-Err-NoMemory-clause-reported g c = λ p is turn tells. absurd (subst (λ (q : Result Reply NoMemory). TellsRunBy q) c.untouched-in-Err-NoMemory.ensures.reply tells)

@@ -6,10 +6,10 @@ use Rattle.top_statement.specs.Telling.{TellsRunBy}
 use Rattle.thor_top.proofs.answering.answer_in_turn.Goals as goal
 
 pub returns-in-Ok-clause-reply : goal.returns-in-Ok-clause-reply
-returns-in-Ok-clause-reply g c = told_says _ c.in-Ok.run.expected c.run_in_turn.result.reply c.in-Ok.ensures.foretells c.in-Ok.ensures.fails c.run_in_turn.ensures.reply
+returns-in-Ok-clause-reply g c = told_says _ c.in-Ok.found_run.expected c.run_in_turn.result.reply c.in-Ok.ensures.foretells c.in-Ok.ensures.fails c.run_in_turn.ensures.reply
 
 pub returns-in-Ok-clause-kept : goal.returns-in-Ok-clause-kept
-returns-in-Ok-clause-kept g c = λ writes. absurd (told_writes_not c.args.plan.now.command c.in-Ok.run.expected c.run_in_turn.result.reply c.in-Ok.ensures.played c.run_in_turn.ensures.reply writes)
+returns-in-Ok-clause-kept g c = λ writes. absurd (told_writes_not c.args.plan.now.command c.in-Ok.found_run.expected c.run_in_turn.result.reply c.in-Ok.ensures.played c.run_in_turn.ensures.reply writes)
 
 pub returns-in-Ok-clause-histories : goal.returns-in-Ok-clause-histories
 returns-in-Ok-clause-histories g c = c.run_in_turn.ensures.histories c.args.parts.items c.in-Ok.ensures.found

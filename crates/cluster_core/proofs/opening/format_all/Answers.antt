@@ -1,0 +1,7 @@
+use Rattle.cluster_core.proofs.opening.format_all.Goals as goal
+use Rattle.repo_site.specs.Sited.{BeginsNew}
+use Rattle.std.proofs.Common.{subst, sym, ℕ}
+
+pub format_from-requires-in_default-Ok-clause-begins : goal.format_from-requires-in_default-Ok-clause-begins
+format_from-requires-in_default-Ok-clause-begins g c = λ n.
+    subst (λ (repos : ℕ). BeginsNew g.O.Opening.run n repos c.args.setup.now c.args.mob) (sym c.format_from.ensures.count) (c.requires.begins n)
