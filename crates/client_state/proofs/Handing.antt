@@ -6,7 +6,7 @@ use Rattle.session_outbox.specs.declared.answers.Verdict.{Verdict}
 use Rattle.std.proofs.Common.{Bool, List, [], ap, refl, ℕ, ◌++◌, ◌∷◌, ◌≡◌}
 use Rattle.std.proofs.lemmas.Option.{same_Some}
 use Rattle.std.specs.List.{slice_get}
-use Rattle.std.specs.Prelude.{Some, remove}
+use Rattle.std.specs.Prelude.{Some, insert, remove}
 
 -- no participant is to be told
 pub none_handed : (v : Verdict) (to : List ℕ) (ds : List Duty) → to ≡ [] → handed v to ds ≡ ds
@@ -28,6 +28,11 @@ some_behind v (r ∷ rs) forgets ds other = refl
 pub first_duty : (ds : List Duty) (d : Duty) → slice_get ds 0 ≡ Some d → ds ≡ d ∷ remove ds 0
 first_duty [] d h = cc
 first_duty (x ∷ ds) d h = ap (λ (y : Duty). y ∷ ds) (same_Some x d h)
+
+-- a duty is put before all others
+pub put_before : (ds : List Duty) (d : Duty) → insert ds 0 d ≡ d ∷ ds
+put_before [] d = refl
+put_before (x ∷ ds) d = refl
 
 -- the first participant is told
 pub first_told : (rs : List ℕ) (r : ℕ) → slice_get rs 0 ≡ Some r → rs ≡ r ∷ remove rs 0

@@ -1,5 +1,6 @@
 pub mod Calling
 pub mod Causes
+pub mod Evaluating
 pub mod Handing
 pub mod Learning
 pub mod Links

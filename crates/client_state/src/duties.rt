@@ -119,7 +119,7 @@ impl Duties {
     }
 
     /// A duty comes before all others.
-    #[tactic(auto, using(crate::proofs::Owing::put_first))]
+    #[tactic(auto, using(crate::proofs::Owing::put_first, crate::proofs::Handing::put_before))]
     fn put_first(&mut self, duty: Duty) -> Result<(), NoMemory>
         ensures owed { OnOk result (calls_of_all self.new.verdicts ≤ calls_of_all self.old.verdicts + calls_of duty) }
         ensures first { OnOk result (self.new.verdicts ≡ duty ∷ self.old.verdicts) }

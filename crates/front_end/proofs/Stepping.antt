@@ -34,7 +34,7 @@ use Rattle.client_state.specs.declared.transaction.Transaction.{Transaction}
 use Rattle.front_end.proofs.Receiving as receiving
 use Rattle.front_end.proofs.Spending as spending
 use Rattle.front_end.specs.Moving.{course_of, tries_of}
-use Rattle.front_end.specs.Stepping.{ClientHands, ClientSteps, IsFinished, IsForgotten, IsSentMore, SameVerdicts, StepsFrom, TakesStep, present_of}
+use Rattle.front_end.specs.Stepping.{AsksBy, AsksEach, AsksOnce, ClientHands, ClientSteps, IsFinished, IsFinishedSo, IsForgotten, IsSentMore, SameVerdicts, StepsFrom, TakesStep, present_of}
 use Rattle.front_end.specs.declared.client.Client.{Client}
 use Rattle.front_end.specs.declared.front_end.FrontEnd.{FrontEnd}
 use Rattle.paused_eval.specs.declared.copies.Copies.{Copies}
@@ -44,7 +44,7 @@ use Rattle.session_outbox.specs.declared.answers.Asked.TheVariants as answers
 use Rattle.session_outbox.specs.declared.answers.At.{At}
 use Rattle.session_outbox.specs.declared.answers.Verdict.{Verdict}
 use Rattle.session_outbox.specs.declared.message.Message.{Message}
-use Rattle.std.proofs.Common.{Bool, List, [], ap, false, inl, inr, refl, subst, sym, true, ◌≡◌, ◌∙◌, ℕ}
+use Rattle.std.proofs.Common.{Bool, List, [], ap, false, inl, inr, refl, subst, sym, true, ◌++◌, ◌≡◌, ◌∙◌, ℕ}
 use Rattle.std.proofs.lemmas.Option.{same_Some}
 use Rattle.std.specs.List.{list_any}
 use Rattle.std.specs.Option.{option_map}
@@ -176,7 +176,7 @@ module _ (shows : Bool) (item : Present) (old new : View) (before after : Held) 
   pub by_finish_so : (r : ℕ) (v : Verdict) (answered : Bool) → (shows ≡ true → IsFinished old new r v answered) → HoldsLess before after → StaysPending a z before after → TellsNext r v.tx v.commit answered d e → Quiet → So
   by_finish_so r v answered call less stays tells quiet = λ w. record { moves = Finished r v.tx v.commit (call w).result (call w).call less; pends = stays; tries = quiet; hands = inl (subst (λ (b : Bool). TellsNext r v.tx v.commit b d e) (call w).answered_is tells) }
 
-  pub by_help_so : (r : ℕ) (v : Verdict) → (shows ≡ true → (answered : Bool) × IsFinished old new r v answered) → HoldsLess before after → StaysPending a z before after → TellsRefuser r v.tx v.commit d e → Quiet → So
+  pub by_help_so : (r : ℕ) (v : Verdict) → (shows ≡ true → IsFinishedSo old new r v) → HoldsLess before after → StaysPending a z before after → TellsRefuser r v.tx v.commit d e → Quiet → So
   by_help_so r v call less stays tells quiet = λ w. record { moves = Finished r v.tx v.commit (call w).1.result (call w).1.call less; pends = stays; tries = quiet; hands = inr tells }
 
   pub by_forget_so : (t : Ts) → (shows ≡ true → IsForgotten old new t) → HoldsLess before after → StaysPending a z before after → ForgetsNext t.repo t d e → Quiet → So
@@ -460,3 +460,16 @@ put_there links after r l is k there = by (slice_get links r) (sym (at_here (λ 
     by : (o : Option Link) → option_map (λ (x : Link). l) o ≡ Some k → k ≡ l
     by None h = cc
     by (Some x) h = sym (same_Some l k h)
+
+-- ---- behind the last step
+
+module _ (shows : Bool) (repos : ℕ) where
+  pub asks_none : (old : View) (f : FrontEnd) → AsksEach shows repos old old f f
+  asks_none old f = record { calls = []; asks = (refl, refl) }
+
+  one_more_by : (old mid new : View) (f g h : FrontEnd) (calls : List (View × FrontEnd)) → AsksBy shows repos old f calls mid g → AsksOnce shows repos mid new g h → AsksBy shows repos old f (calls ++ (new, h) ∷ []) new h
+  one_more_by old mid new f g h [] same once = (subst (λ (k : FrontEnd). AsksOnce shows repos old new k h) same.1 (subst (λ (v : View). AsksOnce shows repos v new g h) same.0 once), (refl, refl))
+  one_more_by old mid new f g h (s ∷ ss) asks once = (asks.0, one_more_by s.0 mid new s.1 g h ss asks.1 once)
+
+  pub asks_more : (old mid new : View) (f g h : FrontEnd) → AsksEach shows repos old mid f g → AsksOnce shows repos mid new g h → AsksEach shows repos old new f h
+  asks_more old mid new f g h asks once = record { calls = asks.calls ++ (new, h) ∷ []; asks = one_more_by old mid new f g h asks.calls asks.asks once }

@@ -3,10 +3,12 @@ use Rattle.client_items.specs.Courses.{who_next}
 use Rattle.client_items.specs.Ending.{GoesBy}
 use Rattle.client_items.specs.declared.news.News.TheVariants as news
 use Rattle.client_items.specs.declared.news.News.{News}
+use Rattle.client_port.specs.Acting.{ActsIf}
 use Rattle.client_port.specs.Views.{View}
 use Rattle.client_port.specs.Works.{Does, FinishWork, ForgetWork}
 use Rattle.client_state.specs.Handing.{HandsIf, is_answered}
 use Rattle.base_reasons.specs.declared.reason.Reason.TheVariants as reasons
+use Rattle.client_state.specs.Moving.{MovesIf}
 use Rattle.client_state.specs.Pending.{IsPreparing, Pending, pending_in}
 use Rattle.client_state.specs.Reading.{phase_reads}
 use Rattle.client_state.specs.Stepping.{Present, SendsMore, StepsSoIf}
@@ -15,7 +17,8 @@ use Rattle.client_state.specs.declared.duties.Helping.{Helping}
 use Rattle.client_state.specs.declared.phase.Phase.{Phase}
 use Rattle.client_state.specs.declared.requests.Sending.{Sending}
 use Rattle.client_state.specs.declared.transaction.Transaction.{Transaction}
-use Rattle.front_end.specs.Moving.{course_of, tries_of}
+use Rattle.front_end.specs.Moving.{course_of, held_of, tries_of}
+use Rattle.front_end.specs.Showing.{ItemsShown}
 use Rattle.front_end.specs.declared.client.Client.{Client}
 use Rattle.front_end.specs.declared.front_end.FrontEnd.{FrontEnd}
 use Rattle.front_end.specs.declared.rule.Counted.TheVariants as counted
@@ -25,7 +28,7 @@ use Rattle.front_end.specs.declared.rule.Rule.{Rule}
 use Rattle.serial_model.specs.declared.outcomes.Cause.TheVariants as cause
 use Rattle.session_outbox.specs.declared.answers.At.{At}
 use Rattle.session_outbox.specs.declared.answers.Verdict.{Verdict}
-use Rattle.std.specs.Prelude.{Bool, Contains, List, None, Option, Result, Some, true, ℕ, ◌≡◌}
+use Rattle.std.specs.Prelude.{Bool, Contains, List, None, Option, Result, Some, [], true, ℕ, ◌∷◌, ◌≡◌}
 use Rattle.thor_value.specs.declared.names.Oref.{Oref}
 use Rattle.thor_value.specs.declared.names.Ts.{Ts}
 use Rattle.repo_refusals.specs.declared.refusal.Refusal.{Refusal}
@@ -80,6 +83,10 @@ pub record IsFinished (old new : View) (r : ℕ) (v : Verdict) (answered : Bool)
   pub call : Does old new r result (FinishWork v.tx v.commit result)
   pub answered_is : answered ≡ is_answered result
 
+-- The same, where it isn't told whether it has answered.
+abbrev pub IsFinishedSo : View → View → ℕ → Verdict → Type 0
+IsFinishedSo old new r v = (answered : Bool) × IsFinished old new r v answered
+
 -- The coordinator was to forget the transaction.
 pub record IsForgotten (old new : View) (t : Ts) : Type 0 where
   pub result : Result (Unit {0}) Refusal
@@ -110,3 +117,20 @@ pub record TakesStep (shows : Bool) (old new : View) (f g : FrontEnd) : Type 0 w
   pub came : News
   pub steps : ClientSteps shows (present_of f) old new f.client g.client came
   pub goes : GoesBy (tries_of f) came (course_of f) (course_of g)
+
+-- ---- behind the last step
+
+-- The client has asked about an Unknown item, or has called nothing.
+pub record AsksOnce (shows : Bool) (repos : ℕ) (old new : View) (f g : FrontEnd) : Type 0 where
+  pub acts : ActsIf shows old new
+  pub moves : MovesIf shows old new (held_of f) (held_of g)
+  pub shown : ItemsShown shows old new repos f g
+
+-- It has asked so by these calls, one behind the other: what was shown behind each, and what it was then.
+abbrev pub AsksBy : Bool → ℕ → View → FrontEnd → List (View × FrontEnd) → View → FrontEnd → Type 0
+AsksBy shows repos old f [] new g = (new ≡ old) × (g ≡ f)
+AsksBy shows repos old f (s ∷ ss) new g = AsksOnce shows repos old s.0 f s.1 × AsksBy shows repos s.0 s.1 ss new g
+
+pub record AsksEach (shows : Bool) (repos : ℕ) (old new : View) (f g : FrontEnd) : Type 0 where
+  pub calls : List (View × FrontEnd)
+  pub asks : AsksBy shows repos old f calls new g

@@ -363,10 +363,20 @@ impl Client {
         ensures writes { unsent self.old.phase ≡ None → ClientWrites self.new }
         ensures rises { Rises self.old.held self.new.held }
     {
-        if self.is_in_session(sending.at) && !self.held.holds_written(&sending.request) {
+        if !self.holds_there(&sending) {
             return Err(NoMemory);
         }
         self.prepare(port, sending)
+    }
+
+    /// Whether the client has copies of all that a request writes and hasn't created, where it goes out in the session that there is.
+    fn holds_there(&self, sending: &Sending) -> bool
+        ensures { IsTrue result → HoldsThere sending.now self.now.held.links.items self.now.held.cache.cache }
+    {
+        if !self.is_in_session(sending.at) {
+            return true;
+        }
+        self.held.holds_written(&sending.request)
     }
 
     /// Has a participant prepare. Where it refuses, the try ends, and its coordinator is to abort.

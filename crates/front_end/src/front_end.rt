@@ -53,7 +53,7 @@ impl FrontEnd {
     ghost use Rattle.front_end.specs.Moving.{GoesOn, Keeps, MovesOn, course_of, held_of, left_of, pending_of, standing_of, steps_left, tries_of, uncounted};
     ghost use Rattle.front_end.specs.Rules.{MayFollow};
     ghost use Rattle.front_end.specs.Showing.{GoesShown, ItemsShown};
-    ghost use Rattle.front_end.specs.Stepping.{HelpsBy, TakesStep};
+    ghost use Rattle.front_end.specs.Stepping.{AsksEach, HelpsBy, TakesStep};
     ghost use Rattle.front_end.specs.declared.front_end.Step.TheVariants as step;
     ghost use Rattle.client_items.specs.Courses.{Goes, IsInOrder};
     ghost use Rattle.client_items.specs.Ending.{EndsBy, GoesBy, ends_try};
@@ -301,6 +301,7 @@ impl FrontEnd {
     /// Asks once for each Unknown item. What is left for the client to do doesn't rise.
     pub fn last<Q: Port>(&mut self, port: &mut Q, opened: &Opened) -> Result<(), NoMemory>
         ensures keeps { OnOk result (Keeps (left_of self.old) (left_of self.new)) }
+        ensures asks { OnOk result (AsksEach Q.shows opened.now.repos (Q.view port.old) (Q.view port.new) self.old self.new) }
         ensures rises { Rises (held_of self.old) (held_of self.new) }
     {
         for repo in 0..REPOSITORIES {

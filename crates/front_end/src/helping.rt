@@ -3,12 +3,12 @@
 ghost use Rattle.client_state.specs.Pending.{pending_in};
 ghost use Rattle.client_state.specs.Stepping.{Present, StepsSoIf};
 ghost use Rattle.client_state.specs.declared.duties.Duties.{Duties};
-ghost use Rattle.front_end.specs.Stepping.{ClientSteps, IsFinished};
+ghost use Rattle.front_end.specs.Stepping.{ClientSteps, IsFinishedSo};
 ghost use Rattle.front_end.specs.Writing.{ClientWrites};
 ghost use Rattle.client_state.specs.Learning.{Rises};
 ghost use Rattle.front_end.specs.Showing.{ShownIf};
 ghost use Rattle.client_port.specs.Acting.{ActsIf};
-ghost use Rattle.std.specs.Prelude.{Bool, IfOk, None, OnOk, Some, true, ◌≡◌};
+ghost use Rattle.std.specs.Prelude.{IfOk, None, OnOk, Some, true, ◌≡◌};
 
 use crate::client::Client;
 use client_items::{Learnt, News, Opened};
@@ -78,7 +78,7 @@ impl Client {
 /// Hands a verdict to a repository. A refusal leaves it to whoever asks later.
 fn finish<Q: Port>(port: &mut Q, verdict: Verdict, repo: u8) -> Result<(), NoMemory>
     ensures acts { ActsIf Q.shows (Q.view port.old) (Q.view port.new) }
-    ensures told { OnOk result (Q.shows ≡ true → (answered : Bool) × IsFinished (Q.view port.old) (Q.view port.new) repo verdict answered) }
+    ensures told { OnOk result (Q.shows ≡ true → IsFinishedSo (Q.view port.old) (Q.view port.new) repo verdict) }
 {
     match port.finish(repo, &verdict) {
         Ok(_) => Ok(()),
