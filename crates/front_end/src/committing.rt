@@ -25,21 +25,10 @@ ghost use Rattle.std.specs.Prelude.{IfOk, OnOk, ℕ, ◌≡◌, None, [], IsTrue
 use crate::client::Client;
 use client_items::{News, Opened};
 use client_port::Port;
-use client_state::{Drew, Phase, Sending, Sent, Transaction};
+use client_state::{Drew, Phase, Sending, Sent, Transaction, has_stopped};
 use repo_refusals::Refusal;
 use session_outbox::At;
 use thor_value::{NoMemory, Repos, Sequence, Ts, Who};
-
-/// Whether the call stopped: what it was to do may still come.
-fn has_stopped(refusal: Refusal) -> bool
-    ensures stopped { IsTrue result → HasStopped refusal }
-    ensures other { IsTrue (not result) → HasStopped refusal → ⊥ }
-{
-    match refusal {
-        Refusal::Stopped { .. } => true,
-        Refusal::Reason(_) | Refusal::Down { .. } | Refusal::Damaged { .. } | Refusal::NoMemory => false,
-    }
-}
 
 impl Client {
     /// Draws the transaction, or begins a session that it lacks at a participant.

@@ -68,7 +68,8 @@ impl Client {
         match take_next(&mut to) {
             Some(repo) => {
                 let told = tell(port, repo, &verdict)?;
-                self.duties.keep_behind(verdict, to, forgets_behind(forgets, told))
+                self.duties
+                    .keep_behind(verdict, to, forgets_behind(forgets, told))
             }
             None => Ok(()),
         }
