@@ -3,9 +3,11 @@ use Rattle.client_state.specs.Handing.{handed, kept_behind, told_all}
 use Rattle.client_state.specs.declared.duties.Duty.TheVariants.{Finish}
 use Rattle.client_state.specs.declared.duties.Duty.{Duty}
 use Rattle.session_outbox.specs.declared.answers.Verdict.{Verdict}
-use Rattle.std.proofs.Common.{Bool, List, [], ap, refl, ℕ, ◌++◌, ◌∷◌, ◌≡◌}
+use Rattle.std.proofs.Common.{Bool, List, [], ap, refl, true, ℕ, ◌++◌, ◌∷◌, ◌≡◌, ◌∙◌}
 use Rattle.std.proofs.lemmas.Option.{same_Some}
+use Rattle.std.proofs.lemmas.Slice.Eq.{bytes_eq-Decides}
 use Rattle.std.specs.List.{slice_get}
+use Rattle.std.specs.Str.{bytes_eq}
 use Rattle.std.specs.Prelude.{Some, insert, remove}
 
 -- no participant is to be told
@@ -38,3 +40,7 @@ put_before (x ∷ ds) d = refl
 pub first_told : (rs : List ℕ) (r : ℕ) → slice_get rs 0 ≡ Some r → rs ≡ r ∷ remove rs 0
 first_told [] r h = cc
 first_told (x ∷ rs) r h = ap (λ (y : ℕ). y ∷ rs) (same_Some x r h)
+
+-- all participants have prepared it
+pub all_prepared : (participants behind others : List ℕ) (coordinator : ℕ) → participants ≡ coordinator ∷ behind → bytes_eq behind others ≡ true → participants ≡ coordinator ∷ others
+all_prepared participants behind others coordinator e same = e ∙ ap (λ (rs : List ℕ). coordinator ∷ rs) ((bytes_eq-Decides behind others).0 same)

@@ -207,11 +207,17 @@ impl Transaction {
     }
 
     /// Whether all participants have prepared it: the coordinator, and behind it these in their order.
+    #[tactic(auto, using(crate::proofs::Handing::all_prepared))]
     pub fn is_prepared_by(&self, coordinator: u8, others: &Repos) -> bool
         ensures { IsTrue result → self.now.participants ≡ coordinator ∷ others.now }
     {
         match self.participants.as_slice().split_first() {
-            Some((first, behind)) => *first == coordinator && behind == others.as_slice(),
+            Some((first, behind)) => {
+                if *first != coordinator {
+                    return false;
+                }
+                behind == others.as_slice()
+            }
             None => false,
         }
     }
