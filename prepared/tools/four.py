@@ -35,12 +35,15 @@ while True:
         edit = "edit" in (os.readlink(f"/proc/{p}/cwd") if os.path.exists(f"/proc/{p}/cwd") else "")
         found.append(((2 if edit else -1 if w[1] == "build" or n in ("simulation", "model_schedules", "thor_shell", "test_top") else 0), -chain(n), -int(p) if False else int(p), n, w[1]))
     found.sort(key=lambda it: (it[0], it[1]))
+    names = []
+    for it in found:
+        if it[3] + it[4] not in names: names.append(it[3] + it[4])
     for i, (_, c, p, n, k) in enumerate(found):
         try:
-            if i < most:
-                if p in stopped: os.kill(p, signal.SIGCONT); stopped.discard(p)
+            if n + k in names[:most]:
+                if p in stopped or open(f"/proc/{p}/stat").read().rsplit(")", 1)[1].split()[0] == "T": os.kill(p, signal.SIGCONT); stopped.discard(p)
             elif p not in stopped: os.kill(p, signal.SIGSTOP); stopped.add(p)
         except OSError: stopped.discard(p)
     with open("/work/help/four.log", "w") as o:
-        for i, it in enumerate(found): print("run " if i < most else "wait", it[4], it[3], round(-it[1], 1), file=o)
+        for i, it in enumerate(found): print("run " if it[3] + it[4] in names[:most] else "wait", it[4], it[3], round(-it[1], 1), file=o)
     time.sleep(3)

@@ -1,0 +1,5 @@
+//! Stand-in.
+#![tactic(auto)]
+
+/// A port.
+pub trait Port {}

@@ -1,0 +1,4 @@
+pub mod Begun
+pub mod Happening
+pub mod Run
+pub mod Sited

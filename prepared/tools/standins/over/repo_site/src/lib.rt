@@ -1,0 +1,8 @@
+//! Stand-in.
+#![tactic(auto)]
+
+mod opening;
+mod site;
+
+pub use opening::Opening;
+pub use site::Site;
