@@ -84,7 +84,14 @@ fn printed(alloc: Global, ended: &Ends, lines: Lines) -> Result<Text, NoMemory> 
 /// Whether a text is a report of which the same is printed.
 fn is_printed_again(alloc: Global, text: &[u8]) -> bool {
     match read_report(alloc, text) {
-        Ok(Report { ended, lines, .. }) => match printed(alloc, &ended, lines) {
+        Ok(
+            Report {
+                ended,
+                lines,
+                looks: _,
+                backups: _,
+            },
+        ) => match printed(alloc, &ended, lines) {
             Ok(again) => again.as_slice() == text,
             Err(_) => false,
         },
