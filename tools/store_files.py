@@ -9,8 +9,9 @@ import pathlib
 import typing
 
 OPEN = 1  # a gate: any other byte is closed
-MAGIC, FORMAT = b"TP", 2  # a page's first bytes; the format of a page and of a checkpoint
-PAGE_BYTES = 16_384
+MAGIC, FORMAT = b"TP", 2  # a page's first bytes; the format of a page and of a checkpoint, as they are written
+SIZES = {1: 4_096, 2: 16_384}  # the bytes of a page, by the format that its store's checkpoint has
+PAGE_BYTES = SIZES[FORMAT]
 TEXT_BYTES = 32  # of a text
 SLOTS = 12  # of a page
 PAGES = 65_536  # of a repository
@@ -82,6 +83,7 @@ class Object:
     values: list  # each an int, a Name, a str for a text, or None for null
     place: Place
     places: list  # where each value begins
+    bytes: bytes = b""
 
 
 @dataclasses.dataclass
@@ -101,6 +103,7 @@ class Request:
     fault: str
     others: list  # repositories
     place: Place
+    raw: bytes = b""
 
 
 @dataclasses.dataclass
@@ -212,6 +215,7 @@ class Bytes:
         for _ in range(count):
             found.places.append(self.here())
             found.values.append(self.value())
+        found.bytes = self.data[place.at - self.place.at : self.read]
         return found
 
     def pair(self):
@@ -233,7 +237,9 @@ class Bytes:
         reads, writes = self.list(self.name, "names that were read"), self.list(self.pair, "objects that were written")
         fresh = self.list(self.name, "new names")
         answer, fault = self.answer()
-        return Request(stamp, client, index, session, kind, text, epoch, upto, reads, writes, fresh, answer, fault, self.others(), place)
+        others = self.others()
+        raw = self.data[place.at - self.place.at : self.read]
+        return Request(stamp, client, index, session, kind, text, epoch, upto, reads, writes, fresh, answer, fault, others, place, raw)
 
     def answer(self):
         if self.one_of({0: False, 1: True}, "the kind of an answer"):
@@ -281,8 +287,9 @@ class State:
 
     def __init__(self, bytes_):
         place = bytes_.here()
-        if bytes_.number(1, "the format") != FORMAT:
-            raise Wrong(place, f"a checkpoint's format is {FORMAT}, and this one is another")
+        self.format = bytes_.number(1, "the format")
+        if self.format not in SIZES:
+            raise Wrong(place, f"a checkpoint's format is 1 or 2, and this one is {self.format}")
         self.place = place
         self.repo, self.repos = bytes_.number(1, "the repository"), bytes_.number(1, "the number of repositories")
         self.life, self.count = bytes_.number(4, "the life"), bytes_.number(8, "the count of entries", END)
@@ -376,17 +383,17 @@ def bodies_behind(bytes_):
         yield gate, bytes_.piece(bytes_.number(4, "the length of a record"), "a record")
 
 
-def page_place(page, side):
-    """Where a side of a page begins in its file."""
-    return (2 * page + side) * PAGE_BYTES
+def page_place(page, side, format=FORMAT):
+    """Where a side of a page begins in its file, in a store of this format."""
+    return (2 * page + side) * SIZES[format]
 
 
-def page_of(data, file, page, side, tell):
+def page_of(data, file, page, side, tell, format=FORMAT):
     """The objects of a page by slot; what is wrong is told, as a Wrong."""
-    bytes_ = Bytes(data, Place(file, page_place(page, side)))
+    bytes_ = Bytes(data, Place(file, page_place(page, side, format)))
     found, before = {}, -1
     try:
-        count = page_head(bytes_, page)
+        count = page_head(bytes_, page, format)
         for _ in range(count):
             place = bytes_.here()
             slot, length = bytes_.number(1, "a slot", SLOTS), bytes_.number(2, "the length of an object")
@@ -397,17 +404,17 @@ def page_of(data, file, page, side, tell):
         rest = bytes_.here()
         other = bytes_.take(bytes_.left(), "zeros").lstrip(b"\0")
         if other:
-            raise Wrong(Place(file, page_place(page, side) + PAGE_BYTES - len(other)), f"behind the objects of page {page}, from byte {rest.at} on, all bytes have to be zeros, and this one is {other[0]:02x}")
+            raise Wrong(Place(file, page_place(page, side, format) + SIZES[format] - len(other)), f"behind the objects of page {page}, from byte {rest.at} on, all bytes have to be zeros, and this one is {other[0]:02x}")
     except Wrong as wrong:
         tell(wrong)
     return found
 
 
-def page_head(bytes_, page):
+def page_head(bytes_, page, format):
     """The count of objects of a page."""
     place = bytes_.here()
-    if bytes_.take(PAGE_BYTES, "a page")[:3] != MAGIC + bytes([FORMAT]):
-        raise Wrong(place, f"a page begins with 54 50 02, and this one, page {page}, with {bytes_.data[:3].hex(' ')}")
+    if bytes_.take(SIZES[format], "a page")[:3] != MAGIC + bytes([format]):
+        raise Wrong(place, f"a page begins with 54 50 0{format} in this store, and this one, page {page}, with {bytes_.data[:3].hex(' ')}")
     bytes_.read = 3
     count, place = bytes_.number(1, "the count of objects"), bytes_.here()
     number = bytes_.number(4, "the page's number")
@@ -492,8 +499,8 @@ class Repository:
             with open(self.folder / name, "rb") as file:
                 self.sizes.append(os.fstat(file.fileno()).st_size)
                 for page, side in sorted(self.state.sides.items()):
-                    file.seek(page_place(page, side))
-                    self.pages[page] = page_of(file.read(PAGE_BYTES), name, page, side, self.tell)
+                    file.seek(page_place(page, side, self.state.format))
+                    self.pages[page] = page_of(file.read(SIZES[self.state.format]), name, page, side, self.tell, self.state.format)
         except FileNotFoundError:
             self.sizes.append(None)
             if self.state.sides:

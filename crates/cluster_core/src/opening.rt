@@ -14,7 +14,8 @@ use crate::settling::settle_all;
 use class_defs::{Schemas, Setup};
 use disk_trait::Parts;
 use front_end::{FrontEnd, Items, Opened};
-use repo_opening::{Known, Unopened, number_at};
+use recovery::migrate;
+use repo_opening::{Known, Unopened, fault_of, number_at};
 use repo_site::{Opening, Site};
 use std::alloc::Global;
 use store_opening::{Closed, ClusterFault, Found};
@@ -23,7 +24,8 @@ use thor_value::{NoMemory, both};
 impl<P: Parts, O: Opening> Cluster<P, O> {
     /// Opens what was found, with the clients of a plan.
     ///
-    /// A fresh store is formatted, repositories 1 and up first; otherwise each repository begins a life, and then
+    /// A fresh store is formatted, repositories 1 and up first; otherwise each repository, where it is of the older format, is
+    /// moved into the newer one, and begins a life. Then
     /// each transaction that was left prepared is settled by its coordinator. Before all repositories were read
     /// and checked nothing is written. Want of memory, too, where the plan's start isn't that of the store, or a
     /// number of the plan isn't in its range.
@@ -251,7 +253,7 @@ fn seat_closed<P: Parts, O: Opening>(
     seats
 }
 
-/// Opens every repository of a store, rising. Behind one that can't be opened the others aren't.
+/// Opens every repository of a store, rising, each by itself. Behind one that can't be opened the others aren't.
 fn open_all<P: Parts, O: Opening>(
     alloc: Global,
     places: Vec<Closed<P>>,
@@ -329,7 +331,7 @@ fn open_numbered<P: Parts, O: Opening>(
     }
 }
 
-/// Opens the repository of a number, of so many, that was recovered.
+/// Opens the repository of a number, of so many, that was recovered: one of the older format is moved into the newer one first.
 #[tactic(auto, using(crate::proofs::Recovered::recovered_says))]
 fn open_known<P: Parts, O: Opening>(
     alloc: Global,
@@ -341,8 +343,14 @@ fn open_known<P: Parts, O: Opening>(
     ensures seated { IsSeatedAt number result.0 }
     ensures recovered { IsRecovered (P.disks known.parts) known.recovered }
 {
-    let (parts, recovered) = known.into_recovered();
-    Seat::of(number, Site::open(alloc, parts, recovered, number, repos))
+    let (mut parts, recovered) = known.into_recovered();
+    match migrate(alloc, &mut parts, recovered) {
+        Ok(recovered) => Seat::of(number, Site::open(alloc, parts, recovered, number, repos)),
+        Err(fault) => (
+            Seat::Closed(Closed::Parts(parts)),
+            Err(fault_of(number, fault)),
+        ),
+    }
 }
 
 /// Formats every repository of a store that was found fresh.

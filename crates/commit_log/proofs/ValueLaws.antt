@@ -2,9 +2,9 @@
 use Rattle.std.proofs.Common.{◌≡◌, Bool, List, Option, Some, None, [], ◌∷◌, cond, false, true, ℕ, refl, sym, ap, ◌∙◌}
 use Rattle.std.specs.BTreeMap.{insert_entry}
 use Rattle.std.specs.List.{filter, fold}
-use Rattle.std.specs.Option.{option_and_then, option_or}
+use Rattle.std.specs.Option.{is_some, option_and_then, option_or}
 use Rattle.std.specs.Ordering.{eq_by_cmp, is_eq, nat_cmp}
-use Rattle.std.specs.Prelude.{nat_eq, not}
+use Rattle.std.specs.Prelude.{nat_eq, not, ◌&&◌}
 use Rattle.std.specs.declared.cmp.Ordering.{Ordering}
 use Rattle.std.specs.declared.cmp.Ordering.TheVariants.{Equal, Greater, Less}
 use Rattle.std.proofs.lemmas.Bool.{eqb-true}
@@ -12,6 +12,7 @@ use Rattle.std.proofs.lemmas.Map.Lookups.{exact_unsigned}
 use Rattle.thor_value.proofs.FiniteMap.{get-insert}
 use Rattle.std.proofs.lemmas.Cmp.{nat_cmp_total, tied_itself, nat_eq_equiv}
 use Rattle.thor_value.proofs.NameOrders.{oref_exact, oref_total}
+use Rattle.thor_value.specs.FiniteMap.{Set, add, empty, get, has}
 use Rattle.thor_value.specs.Names.{oref_cmp, same_oref}
 use Rattle.thor_value.specs.declared.names.Oref.{Oref}
 use Rattle.thor_value.specs.declared.names.Ts.{Ts}
@@ -19,11 +20,12 @@ use Rattle.thor_value.specs.declared.values.Obj.{Obj}
 use Rattle.log_entries.specs.declared.entry.Entry.TheVariants.{Decided, Finished, Life, One, Prepared, Upgraded}
 use Rattle.log_entries.specs.declared.entry.Entry.{Entry}
 use Rattle.log_entries.specs.declared.request.Request.{Request}
+use Rattle.log_codec.specs.Checkpoint.{StateFits, are_new}
 use Rattle.log_codec.specs.declared.body.Body.TheVariants.{Entry as AnEntry, Installed}
 use Rattle.log_codec.specs.declared.body.Body.{Body}
 use Rattle.log_codec.specs.declared.state.State.{State}
 use Rattle.commit_log.specs.Recovered.{after, buffered, changed, closed, decided, is_off, kept_by, request_at}
-use Rattle.commit_log.specs.Values.{last_behind, last_write, object_in, side_of, value, on_page, Pages, writes_if, writes_of, written_last}
+use Rattle.commit_log.specs.Values.{HasPaged, last_behind, last_write, migrated, object_in, side_of, value, on_page, Pages, writes_if, writes_of, written_last}
 
 equal : (o : Ordering) → is_eq o ≡ true → o ≡ Equal
 equal Less h = cc
@@ -175,3 +177,52 @@ installed_says_the_same pages s page side holds x = by (nat_eq x.page page) refl
 -- An entry's writes are said behind it, and everything else as before.
 pub entry_says_its_writes : (pages : Pages) (s : State) (e : Entry) (x : Oref) → value pages (after s (AnEntry e)) x ≡ option_or (written_last x (object_in s.mob x) (writes_of s e)) (on_page pages s.installed x)
 entry_says_its_writes pages s e x = ap (λ (o : Option Obj). option_or o (on_page pages (changed s e).installed x)) (behind_is s (AnEntry e) x) ∙ ap (λ (i : List (ℕ × ℕ)). option_or (written_last x (object_in s.mob x) (writes_of s e)) (on_page pages i x)) (same_sides s e)
+
+-- ---- migrations
+
+true_by : (o : Option (Unit {0})) (b : Bool) → is_some o ≡ true → is_some (cond b (Some (tt {0})) o) ≡ true
+true_by o true is = refl
+true_by o false is = is
+
+still_seen : (seen : Set oref_cmp) (v x : Oref) → has seen x ≡ true → has (add seen v) x ≡ true
+still_seen seen v x is = ap (λ o. is_some o) (get-insert oref_total seen v (tt {0}) x) ∙ true_by (get seen x) (eq_by_cmp oref_cmp x v) is
+
+now_seen : (seen : Set oref_cmp) (v : Oref) → has (add seen v) v ≡ true
+now_seen seen v = ap (λ o. is_some o) (get-insert oref_total seen v (tt {0}) v) ∙ ap (λ b. is_some (cond b (Some (tt {0})) (get seen v))) (ap is_eq (tied_itself oref_total v))
+
+new_parts : (b : Bool) (rest : Bool) → (not b && rest) ≡ true → (b ≡ false) × (rest ≡ true)
+new_parts true rest is = cc
+new_parts false rest is = (refl, is)
+
+-- a name that was seen isn't in a list of new ones
+seen_none : (ws : List (Oref × Obj)) (x : Oref) (seen : Set oref_cmp) → are_new seen ws ≡ true → has seen x ≡ true → object_in ws x ≡ None
+seen_none [] x seen new is = refl
+seen_none (w ∷ ws) x seen new is = by (new_parts (has seen w.0) (are_new (add seen w.0) ws) new) (same_oref x w.0) refl
+  where
+    by : (has seen w.0 ≡ false) × (are_new (add seen w.0) ws ≡ true) → (b : Bool) → same_oref x w.0 ≡ b → cond b (Some w.1) (object_in ws x) ≡ None
+    by parts true same =
+        let clash : true ≡ false = sym is ∙ ap (has seen) (same_name x w.0 same) ∙ parts.0 in
+        cc
+    by parts false apart = seen_none ws x (add seen w.0) parts.1 (still_seen seen w.0 x is)
+
+-- of a list in which no name stands twice the last write under a name is the one that is found
+last_is_first : (ws : List (Oref × Obj)) (x : Oref) (found : Option Obj) (seen : Set oref_cmp) → are_new seen ws ≡ true → written_last x found ws ≡ option_or (object_in ws x) found
+last_is_first [] x found seen new = refl
+last_is_first (w ∷ ws) x found seen new = by (new_parts (has seen w.0) (are_new (add seen w.0) ws) new) (same_oref x w.0) refl
+  where
+    by : (has seen w.0 ≡ false) × (are_new (add seen w.0) ws ≡ true) → (b : Bool) → same_oref x w.0 ≡ b → written_last x (cond b (Some w.1) found) ws ≡ option_or (cond b (Some w.1) (object_in ws x)) found
+    by parts false apart = last_is_first ws x found (add seen w.0) parts.1
+    by parts true same =
+        last_is_first ws x (Some w.1) (add seen w.0) parts.1
+        ∙ ap (λ (o : Option Obj). option_or o (Some w.1)) (seen_none ws x (add seen w.0) parts.1 (ap (has (add seen w.0)) (same_name x w.0 same) ∙ now_seen seen w.0))
+
+or_none : (o : Option Obj) → option_or o None ≡ o
+or_none None = refl
+or_none (Some v) = refl
+
+pub migrated_says_the_same : (pages : Pages) (paged : List (Oref × Obj)) (s : State) → StateFits s → HasPaged pages s.installed paged → (x : Oref) → value pages (migrated paged s) x ≡ value pages s x
+migrated_says_the_same pages paged s fits stands x =
+    or_none (object_in (fold buffered paged s.mob) x)
+    ∙ object_in-writes s.mob paged x
+    ∙ last_is_first s.mob x (object_in paged x) empty fits.mob_distinct
+    ∙ ap (λ (o : Option Obj). option_or (object_in s.mob x) o) (sym (stands x))

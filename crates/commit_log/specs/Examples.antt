@@ -13,11 +13,12 @@ use Rattle.log_entries.specs.declared.request.Request.{Request}
 use Rattle.log_codec.specs.declared.body.Body.TheVariants.{Entry as AnEntry}
 use Rattle.log_codec.specs.declared.body.Body.{Body}
 use Rattle.log_codec.specs.declared.state.State.{State}
+use Rattle.page_format.specs.declared.format.StoreFormat.TheVariants.{Two}
 use Rattle.commit_log.specs.Recovered.{after}
 
 -- repository 0 of two, new: its pages 0 have been installed
 abbrev pub new_state : State
-new_state = record { format = 2; repo = 0; repos = 2; life = 0; count = 0; threshold = zero_ts; next_page = 1; classes = []; roots = []; upgrades = []; installed = (0, 0) ∷ []; mob = []; prepared = []; kept = []; alone = [] }
+new_state = record { format = Two; repo = 0; repos = 2; life = 0; count = 0; threshold = zero_ts; next_page = 1; classes = []; roots = []; upgrades = []; installed = (0, 0) ∷ []; mob = []; prepared = []; kept = []; alone = [] }
 
 abbrev pub at : ℕ → ℕ → Ts
 at time repo = record { time = time; repo = repo; life = 1 }

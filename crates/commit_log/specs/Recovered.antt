@@ -17,6 +17,7 @@ use Rattle.log_entries.specs.declared.request.Kind.TheVariants.{App, Transform, 
 use Rattle.log_entries.specs.declared.request.Kind.{Kind}
 use Rattle.log_entries.specs.declared.request.Request.{Request}
 use Rattle.log_frame.specs.Log.{Opened, read_log}
+use Rattle.page_format.specs.declared.format.StoreFormat.{StoreFormat}
 use Rattle.log_codec.specs.Checkpoint.{state_format}
 use Rattle.log_codec.specs.Format.{value_of}
 use Rattle.log_codec.specs.Grammar.{body_format}
@@ -141,6 +142,12 @@ can_follow s (Installed page side) = true
 -- all names of a state are of its repository, and no transaction is both prepared and decided
 abbrev pub is_whole : State → Bool
 is_whole s = are_of s.repo s.mob && list_all (λ q. are_of s.repo q.writes) s.prepared && list_all (λ t. not (is_some (request_at s.prepared t))) s.kept
+
+-- ---- formats
+
+-- a state with this format in the place of its own: the same objects are said to lie on pages of this format
+abbrev pub in_format : StoreFormat → State → State
+in_format format s = record s { format = format }
 
 -- ---- logs
 

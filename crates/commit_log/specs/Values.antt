@@ -14,7 +14,9 @@ use Rattle.log_entries.specs.declared.request.Request.{Request}
 use Rattle.log_codec.specs.declared.body.Body.TheVariants.{Entry as AnEntry, Installed}
 use Rattle.log_codec.specs.declared.body.Body.{Body}
 use Rattle.log_codec.specs.declared.state.State.{State}
-use Rattle.commit_log.specs.Recovered.{after, request_at}
+use Rattle.commit_log.specs.Recovered.{after, buffered, request_at}
+use Rattle.page_format.specs.declared.format.StoreFormat.TheVariants.{Two}
+use Rattle.std.specs.List.{fold}
 
 -- what the pages have: the object under a name on a side of its page
 abbrev pub Pages : Type 0
@@ -35,6 +37,17 @@ on_page pages installed x = option_and_then (λ side. pages x.page side x) (side
 -- The object under a name: the buffered one, or else the one on the side in use.
 abbrev pub value : Pages → State → Oref → Option Obj
 value pages s x = option_or (object_in s.mob x) (on_page pages s.installed x)
+
+-- ---- what a migration makes of a state
+
+-- the objects on the pages that are installed, page by page
+abbrev pub HasPaged : Pages → List (ℕ × ℕ) → List (Oref × Obj) → Type 0
+HasPaged pages installed paged = (x : Oref) → on_page pages installed x ≡ object_in paged x
+
+-- The state of the newer format that says the same of the same objects: no page is installed. The buffer has the objects of the
+-- pages, each in its place with the newer value that the buffer had of it, and behind them the buffer's other objects.
+abbrev pub migrated : List (Oref × Obj) → State → State
+migrated paged s = record s { format = Two; installed = []; mob = fold buffered paged s.mob }
 
 -- ---- by the last write
 

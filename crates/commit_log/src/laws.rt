@@ -6,7 +6,7 @@ ghost use Rattle.std.specs.Option.{option_or};
 ghost use Rattle.std.specs.Prelude.{List, None, Option, Some, ◌<◌, ◌≡◌, ℕ};
 ghost use Rattle.thor_value.specs.declared.names.Oref.{Oref};
 ghost use Rattle.log_entries.specs.declared.entry.Entry.{Entry};
-ghost use Rattle.log_codec.specs.Checkpoint.{state_format};
+ghost use Rattle.log_codec.specs.Checkpoint.{StateFits, state_format};
 ghost use Rattle.log_codec.specs.Format.{value_of};
 ghost use Rattle.log_codec.specs.Grammar.{body_format};
 ghost use Rattle.log_codec.specs.declared.body.Body.{Body};
@@ -15,7 +15,8 @@ ghost use Rattle.log_codec.specs.declared.state.State.{State};
 ghost use Rattle.log_frame.specs.Log.{Opened, new_log, with_body};
 ghost use Rattle.commit_log.specs.Opening.{IsTorn};
 ghost use Rattle.commit_log.specs.Recovered.{after, next, sequence_end, stands, state_in, whole};
-ghost use Rattle.commit_log.specs.Values.{Pages, last_write, object_in, on_page, value, writes_of, written_last};
+ghost use Rattle.thor_value.specs.declared.values.Obj.{Obj};
+ghost use Rattle.commit_log.specs.Values.{HasPaged, Pages, last_write, migrated, object_in, on_page, value, writes_of, written_last};
 
 /// Behind one record more a log stands for the state with that record put behind it, where it can come next, and
 /// else for nothing. A log that begins with a state, and has no record yet, stands for it, where a log can begin so.
@@ -38,6 +39,11 @@ pub fn entries_say_their_writes()
 /// Where a side has what is said of its page, that it comes into use changes nothing of what is said.
 pub fn installs_say_the_same()
     ensures { (pages : Pages) (s : State) (page side : ℕ) → ((y : Oref) → y.page ≡ page → pages y.page side y ≡ value pages s y) → (x : Oref) → value pages (after s (Installed page side)) x ≡ value pages s x }
+{}
+
+/// A migration changes nothing of what is said: what stood on installed pages stands in the buffer, below what the buffer had.
+pub fn migrations_say_the_same()
+    ensures { (pages : Pages) (paged : List (Oref × Obj)) (s : State) → StateFits s → HasPaged pages s.installed paged → (x : Oref) → value pages (migrated paged s) x ≡ value pages s x }
 {}
 
 /// Where a log disk is damaged the disks stand for no state.

@@ -12,6 +12,6 @@ pub use fault::FindFault;
 pub use finding::open_logs;
 pub use laws::{
     damaged_logs_stand_for_nothing, entries_say_their_writes, installs_say_the_same, logs_grow,
-    values_are_last_writes,
+    migrations_say_the_same, values_are_last_writes,
 };
 pub use open_log::CommitLog;

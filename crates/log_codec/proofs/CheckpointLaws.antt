@@ -1,5 +1,5 @@
 -- The format of a checkpoint is exact.
-use Rattle.std.proofs.Common.{◌≡◌, ℕ, suc, ◌^◌, Bool, true, false, cond, ltb, leb, eqb, List, [], ◌∷◌, map, Option, Some, None, refl, sym, ap, ◌∙◌, arith}
+use Rattle.std.proofs.Common.{◌≡◌, ℕ, zero, suc, ◌^◌, Bool, true, false, cond, ltb, leb, eqb, List, [], ◌∷◌, map, Option, Some, None, refl, sym, ap, ◌∙◌, arith}
 use Rattle.std.specs.Prelude.{◌&&◌, ◌↔◌, IfSome, IsSome}
 use Rattle.std.specs.List.{AllByRecursion}
 use Rattle.std.specs.Ordering.{nat_cmp}
@@ -11,15 +11,18 @@ use Rattle.thor_value.specs.FiniteMap.{empty}
 use Rattle.thor_value.specs.Names.{ts_cmp}
 use Rattle.thor_value.specs.declared.names.Ts.{Ts}
 use Rattle.class_defs.specs.declared.store.Root.{Root}
+use Rattle.page_format.specs.Formats.{format_number}
 use Rattle.page_format.specs.Pages.{Rises}
+use Rattle.page_format.specs.declared.format.StoreFormat.{StoreFormat}
+use Rattle.page_format.specs.declared.format.StoreFormat.TheVariants.{One, Two}
 use Rattle.page_format.specs.Sides.{SideFits, SidesFit}
 use Rattle.log_entries.specs.RequestForm.{RequestFits}
 use Rattle.log_entries.specs.declared.request.Request.{Request}
 use Rattle.log_codec.specs.Format.{Format, ◌then◌, list, made, u8_format, u16_format, u32_format, u64_format}
 use Rattle.log_codec.specs.Grammar.{obj_format, oref_format, request_format, rise, ts_format}
-use Rattle.log_codec.specs.Checkpoint.{RootFits, StampFits, StateFits, StateParts, alone_format, are_new, are_sides, client_of, count_format, head_format, kept_format, kept_state_format, mob_format, pages_format, prepared_format, root_format, sides_format, state_format, state_of, state_parts, texts_format, tx_of, version_format}
+use Rattle.log_codec.specs.Checkpoint.{RootFits, StampFits, StateFits, StateParts, alone_format, are_new, are_sides, behind_version, client_of, count_format, head_format, kept_format, kept_state_format, mob_format, pages_format, prepared_format, root_format, sides_format, state_format, state_of, state_parts, texts_format, tx_of, version_format}
 use Rattle.log_codec.specs.declared.state.State.{State}
-use Rattle.log_codec.proofs.Exact.{IsExactFormat, TakesBytes, exact_list, exact_made, exact_of_those, exact_such, exact_then, exact_u8, exact_u16, exact_u32, exact_u64, list_takes, then_takes, u32_takes}
+use Rattle.log_codec.proofs.Exact.{IsExactFormat, TakesBytes, exact_choice, exact_list, exact_made, exact_none, exact_of_those, exact_only, exact_such, exact_then, exact_u8, exact_u16, exact_u32, exact_u64, list_takes, then_takes, u32_takes}
 use Rattle.log_codec.proofs.Grammars.{any_bytes, exact_oref, exact_request, exact_text, exact_ts, exact_writes, request_takes, ts_takes, u8_takes}
 use Rattle.log_codec.proofs.RiseLaws.{rise_from_sorted, sorted_from_rise}
 
@@ -46,9 +49,30 @@ exact_texts =
 
 -- ---- the numbers at the head
 
+each_version : (k : ℕ) → IsExactFormat (behind_version k)
+each_version zero = exact_none
+each_version (suc zero) = exact_only One
+each_version (suc (suc zero)) = exact_only Two
+each_version (suc (suc (suc n))) = exact_none
+
+own_version : (k : ℕ) (w : StoreFormat) → (behind_version k).Fits w → format_number w ≡ k
+own_version zero w h = absurd h
+own_version (suc zero) w h = ap format_number h
+own_version (suc (suc zero)) w h = ap format_number h
+own_version (suc (suc (suc n))) w h = absurd h
+
 exact_version : IsExactFormat version_format
 unfolding version_format
-exact_version = exact_such (λ n. eqb n 2) u8_format exact_u8
+exact_version = exact_choice format_number behind_version each_version own_version
+
+any_version : (w : StoreFormat) → (behind_version (format_number w)).Fits w
+any_version One = refl
+any_version Two = refl
+
+-- each format of a store has its byte
+pub version_fits : (w : StoreFormat) → version_format.Fits w
+unfolding version_format
+version_fits w = any_version w
 
 exact_count : IsExactFormat count_format
 unfolding count_format
@@ -154,7 +178,7 @@ Parts = head_format then texts_format then kept_state_format
 state_fits : (s : State) → StateFits s → Parts.Fits (state_parts s)
 unfolding version_format count_format pages_format sides_format mob_format prepared_format kept_format alone_format root_format request_format
 state_fits s h = (
-  ((tt, ap (λ (n : ℕ). eqb n 2) h.version), (tt, (tt, (h.life, ((omega (arith, h.count), lt-ltb s.count (2 ^ 62) h.count), (h.threshold, (omega (arith, h.next_page), le-leb s.next_page 65536 h.next_page))))))),
+  (any_version s.format, (tt, (tt, (h.life, ((omega (arith, h.count), lt-ltb s.count (2 ^ 62) h.count), (h.threshold, (omega (arith, h.next_page), le-leb s.next_page 65536 h.next_page))))))),
   (
     (any_bytes s.classes, (h.roots, texts_any s.upgrades)),
     (
@@ -176,7 +200,6 @@ state_fits s h = (
 state_has : (s : State) → Parts.Fits (state_parts s) → StateFits s
 unfolding version_format count_format pages_format sides_format mob_format prepared_format kept_format alone_format root_format request_format
 state_has s p = record {
-  version = eqb-true s.format 2 p.0.0.1;
   life = p.0.1.1.1.0;
   count = ltb-true s.count (2 ^ 62) p.0.1.1.1.1.0.1;
   threshold = p.0.1.1.1.1.1.0;

@@ -1,5 +1,5 @@
 -- The format of a checkpoint.
-use Rattle.std.specs.Prelude.{map, suc, ◌≡◌, ◌<◌, ◌≤◌, ◌^◌, ◌&&◌, ℕ, Bool, true, not, nat_eq, nat_lt, nat_le, IsTrue, List, [], ◌∷◌, Some}
+use Rattle.std.specs.Prelude.{map, suc, zero, ◌≡◌, ◌<◌, ◌≤◌, ◌^◌, ◌&&◌, ℕ, Bool, true, not, nat_eq, nat_lt, nat_le, IsTrue, List, [], ◌∷◌, Some}
 use Rattle.std.specs.List.{AllByRecursion}
 use Rattle.std.specs.List.Sorted.{IsStrictlySortedBy}
 use Rattle.std.specs.Ordering.{nat_cmp}
@@ -10,10 +10,13 @@ use Rattle.thor_value.specs.declared.names.Oref.{Oref}
 use Rattle.thor_value.specs.declared.names.Ts.{Ts}
 use Rattle.thor_value.specs.declared.values.Obj.{Obj}
 use Rattle.class_defs.specs.declared.store.Root.{Root}
+use Rattle.page_format.specs.Formats.{format_number}
 use Rattle.page_format.specs.Sides.{SidesFit}
+use Rattle.page_format.specs.declared.format.StoreFormat.{StoreFormat}
+use Rattle.page_format.specs.declared.format.StoreFormat.TheVariants.{One, Two}
 use Rattle.log_entries.specs.RequestForm.{RequestFits, WriteFits}
 use Rattle.log_entries.specs.declared.request.Request.{Request}
-use Rattle.log_codec.specs.Format.{Format, ◌then◌, list, made, of_those, such_that, u8_format, u16_format, u32_format, u64_format}
+use Rattle.log_codec.specs.Format.{Format, ◌then◌, choice, list, made, no_format, of_those, only, such_that, u8_format, u16_format, u32_format, u64_format}
 use Rattle.log_codec.specs.Grammar.{obj_format, oref_format, request_format, rise, ts_format}
 use Rattle.log_codec.specs.declared.state.State.{State}
 
@@ -43,9 +46,15 @@ RootFits r = (r.class < 2 ^ 16) × OrefFits r.oref
 unfoldable pub root_format : Format Root
 root_format = of_those RootFits (made (λ p. record { name = p.0; class = p.1.0; oref = p.1.1 }) (λ r. Some (r.name, (r.class, r.oref))) (list u8_format then u16_format then oref_format))
 
--- the format's own number
-unfoldable pub version_format : Format ℕ
-version_format = such_that (λ n. nat_eq n 2) u8_format
+-- the format of a store, by its number
+abbrev pub behind_version : ℕ → Format StoreFormat
+behind_version zero = no_format
+behind_version (suc zero) = only One
+behind_version (suc (suc zero)) = only Two
+behind_version (suc (suc (suc n))) = no_format
+
+unfoldable pub version_format : Format StoreFormat
+version_format = choice format_number behind_version
 
 -- a count of entries
 unfoldable pub count_format : Format ℕ
@@ -71,7 +80,7 @@ unfoldable pub alone_format : Format (List (ℕ × Ts))
 alone_format = such_that (λ singles. rise nat_cmp (map client_of singles)) (list (u8_format then ts_format))
 
 abbrev pub StateParts : Type 0
-StateParts = (ℕ × (ℕ × (ℕ × (ℕ × (ℕ × (Ts × ℕ)))))) × ((List ℕ × (List Root × List (List ℕ))) × (List (ℕ × ℕ) × (List (Oref × Obj) × (List Request × (List Ts × List (ℕ × Ts))))))
+StateParts = (StoreFormat × (ℕ × (ℕ × (ℕ × (ℕ × (Ts × ℕ)))))) × ((List ℕ × (List Root × List (List ℕ))) × (List (ℕ × ℕ) × (List (Oref × Obj) × (List Request × (List Ts × List (ℕ × Ts))))))
 
 abbrev pub state_of : StateParts → State
 state_of p =
@@ -96,7 +105,7 @@ state_of p =
 abbrev pub state_parts : State → StateParts
 state_parts s = ((s.format, (s.repo, (s.repos, (s.life, (s.count, (s.threshold, s.next_page)))))), ((s.classes, (s.roots, s.upgrades)), (s.installed, (s.mob, (s.prepared, (s.kept, s.alone))))))
 
-abbrev pub head_format : Format (ℕ × (ℕ × (ℕ × (ℕ × (ℕ × (Ts × ℕ))))))
+abbrev pub head_format : Format (StoreFormat × (ℕ × (ℕ × (ℕ × (ℕ × (Ts × ℕ))))))
 head_format = version_format then u8_format then u8_format then u32_format then count_format then ts_format then pages_format
 
 abbrev pub texts_format : Format (List ℕ × (List Root × List (List ℕ)))
@@ -111,7 +120,6 @@ StampFits a = TsFits a.1
 -- The states that have a spelling: each number is one of the formats, and what is a set stands in rising
 -- order, the buffered objects in an order of their own.
 pub record StateFits (s : State) : Type 0 where
-  pub version : s.format ≡ 2
   pub life : s.life < 2 ^ 32
   pub count : s.count < 2 ^ 62
   pub threshold : TsFits s.threshold

@@ -19,14 +19,11 @@ use crate::spelled::Spelled;
 use crate::state::{Alones, Requests, State};
 use crate::wholes::{read_whole, short_text};
 use class_defs::{Root, Roots};
-use page_format::Sides;
+use page_format::{Sides, StoreFormat};
 use std::alloc::Global;
 use thor_value::{
     NoMemory, Obj, Oref, OrefMap, PAGES, Sequence, Stamps, Text, Texts, Ts, Writes, both,
 };
-
-/// The format of a store, as a checkpoint tells it.
-const FORMAT: u8 = 2;
 
 /// The end of the counts of entries.
 const COUNT_END: u64 = 1 << 62;
@@ -52,15 +49,27 @@ impl Spelled for Root {
     }
 }
 
-#[tactic(auto, unfolding(crate::specs::Checkpoint::version_format))]
-fn read_version(alloc: Global, bytes: &[u8]) -> Result<(u8, &[u8]), BodyFault>
-    ensures { Gives (λ x. (x.0, x.1.now)) result (version_format.reading bytes.now) }
-{
-    let (version, rest) = u8::read(alloc, bytes)?;
-    if version == FORMAT {
-        Ok((version, rest))
-    } else {
-        Err(BodyFault::NotOne)
+impl Spelled for StoreFormat {
+    ghost use Rattle.log_codec.specs.Checkpoint.{version_format};
+
+    ghost format = { version_format };
+
+    #[tactic(auto, unfolding(crate::specs::Checkpoint::version_format))]
+    fn read(alloc: Global, bytes: &[u8]) -> Result<(StoreFormat, &[u8]), BodyFault> {
+        let (number, rest) = u8::read(alloc, bytes)?;
+        match number {
+            1 => Ok((StoreFormat::One, rest)),
+            2 => Ok((StoreFormat::Two, rest)),
+            _ => Err(BodyFault::NotOne),
+        }
+    }
+
+    #[tactic(auto, unfolding(crate::specs::Checkpoint::version_format))]
+    fn put(&self, out: &mut Text) -> Result<(), NoMemory> {
+        match self {
+            StoreFormat::One => out.push(1),
+            StoreFormat::Two => out.push(2),
+        }
     }
 }
 
@@ -214,13 +223,13 @@ fn read_reached(alloc: Global, bytes: &[u8]) -> Result<(Reached, &[u8]), BodyFau
 }
 
 /// The numbers of a state.
-type Head = (u8, (u8, (u8, (u32, Reached))));
+type Head = (StoreFormat, (u8, (u8, (u32, Reached))));
 
 /// Reads the numbers of a state.
 fn read_head(alloc: Global, bytes: &[u8]) -> Result<(Head, &[u8]), BodyFault>
     ensures { Gives (λ x. (x.0, x.1.now)) result (head_format.reading bytes.now) }
 {
-    let (format, rest) = read_version(alloc, bytes)?;
+    let (format, rest) = StoreFormat::read(alloc, bytes)?;
     let (repo, rest) = u8::read(alloc, rest)?;
     let (repos, rest) = u8::read(alloc, rest)?;
     let (life, rest) = u32::read(alloc, rest)?;
@@ -308,12 +317,14 @@ impl Spelled for State {
 }
 
 /// Puts the format, the repository and its life.
-#[tactic(auto, unfolding(crate::specs::Checkpoint::version_format), using(std::proofs::Common::append_assoc))]
+#[tactic(auto, using(std::proofs::Common::append_assoc, crate::proofs::CheckpointLaws::version_fits))]
 fn put_numbers(state: &State, out: &mut Text) -> Result<(), NoMemory>
     requires { StateFits state.now }
     ensures { OnOk result (out.new ≡ out.old ++ (version_format.spelling state.now.format ++ (u8_format.spelling state.now.repo ++ (u8_format.spelling state.now.repos ++ u32_format.spelling state.now.life)))) }
 {
-    out.extend_from_slice(&[state.format, state.repo, state.repos])?;
+    state.format.put(out)?;
+    state.repo.put(out)?;
+    state.repos.put(out)?;
     state.life.put(out)
 }
 

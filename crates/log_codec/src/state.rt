@@ -2,7 +2,7 @@
 
 use class_defs::Roots;
 use log_entries::Request;
-use page_format::Sides;
+use page_format::{Sides, StoreFormat};
 use thor_value::{Sequence, Stamps, Text, Texts, Ts, Writes};
 
 /// Requests.
@@ -14,8 +14,8 @@ pub type Alones = Sequence<(u8, Ts)>;
 /// The state for which a log stands, as a checkpoint spells it.
 #[derive(Debug, Drop)]
 pub struct State {
-    /// The format of the store: 2.
-    pub format: u8,
+    /// The format of the store: of its pages, and of this checkpoint.
+    pub format: StoreFormat,
     /// The repository's number.
     pub repo: u8,
     /// How many repositories the store has.

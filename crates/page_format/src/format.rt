@@ -3,6 +3,11 @@
 ghost use Rattle.std.specs.Prelude.{◌≡◌, ◌≤◌};
 ghost use Rattle.page_format.specs.Formats.{format_number, page_size_in};
 
+use crate::walk::PAGE;
+
+/// The bytes of a page of an older store.
+pub const OLDER_PAGE: usize = 4096;
+
 /// The format of a store: of its checkpoint and of its pages. Pages of both formats say the same, in the same slots.
 #[derive(Clone, Copy, Debug, PartialEq, Eq)]
 pub enum StoreFormat {
@@ -27,10 +32,11 @@ impl StoreFormat {
     pub fn page_bytes(self) -> usize
         ensures size { result ≡ page_size_in self }
         ensures least { 4096 ≤ result }
+        ensures most { result ≤ 16384 }
     {
         match self {
-            StoreFormat::One => 4096,
-            StoreFormat::Two => 16384,
+            StoreFormat::One => OLDER_PAGE,
+            StoreFormat::Two => PAGE,
         }
     }
 }

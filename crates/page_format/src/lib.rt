@@ -10,7 +10,7 @@ mod splice;
 mod walk;
 
 pub use fault::{Damaged, Full};
-pub use format::StoreFormat;
+pub use format::{OLDER_PAGE as OLDER_PAGE_BYTES, StoreFormat};
 pub use image::PageImage;
 pub use page::{Page, pages_are_apart, twelve_objects_fit};
 pub use sides::{Room, Sides};

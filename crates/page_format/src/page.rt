@@ -54,7 +54,7 @@ impl Page {
         // NoPage comes only where the bytes spell no page.
         ensures damaged { IsErrOf result Damaged.NoPage → (c : Contents) → PageFits c → bytes.now ≡ page_bytes c → ⊥ }
     {
-        Page::read(alloc, StoreFormat::Two, bytes)
+        Page::parse_in(alloc, StoreFormat::Two, bytes)
     }
 
     /// The page that the bytes spell in the older format, all of the bytes. They are 4,096 where they are such a page.
@@ -66,11 +66,11 @@ impl Page {
         // NoPage comes only where the bytes spell no page of that format.
         ensures damaged { IsErrOf result Damaged.NoPage → (c : Contents) → PageFitsIn FormatOne c → bytes.now ≡ page_bytes_in FormatOne c → ⊥ }
     {
-        Page::read(alloc, StoreFormat::One, bytes)
+        Page::parse_in(alloc, StoreFormat::One, bytes)
     }
 
-    /// The page that the bytes spell in a format.
-    fn read(alloc: Global, format: StoreFormat, bytes: &[u8]) -> Result<Page, Damaged>
+    /// The page that the bytes spell in a format, all of the bytes.
+    pub fn parse_in(alloc: Global, format: StoreFormat, bytes: &[u8]) -> Result<Page, Damaged>
         ensures found { IfOk result (λ page. PageFitsIn format page × (bytes.now ≡ page_bytes_in format page)) }
         ensures only { (c : Contents) → PageFitsIn format c → bytes.now ≡ page_bytes_in format c → Parsed result c }
         ensures damaged { IsErrOf result Damaged.NoPage → (c : Contents) → PageFitsIn format c → bytes.now ≡ page_bytes_in format c → ⊥ }

@@ -110,6 +110,7 @@ module _ (disk put : List ℕ) (page side : ℕ) (contents : Contents) (number :
     is = ap (λ (n : ℕ). take n (drop (place_of page side) (written disk (place_of page side) put))) (sym put_size) ∙ written_here disk (place_of page side) put ∙ is;
     number_is = number;
     objects = objects;
+    room = objects.fits.objects.room;
   }
 
   pub outside_written : Outside (place_of page side) page_size disk (written disk (place_of page side) put)

@@ -1,15 +1,25 @@
 -- Two sides of each page on one disk (this project's; Lampson's and Sturgis's careful replacement, 1979): one
 -- is in use, and the other is written.
 use Rattle.std.specs.Prelude.{◌≡◌, ℕ, ◌+◌, ◌-◌, ◌*◌, ◌≤◌, List, length, take, drop, Option, Some, None}
+use Rattle.page_format.specs.Formats.{page_size_in}
 use Rattle.page_format.specs.Pages.{Contents, page_size}
 use Rattle.page_format.specs.Sides.{side_in_use}
+use Rattle.page_format.specs.declared.format.StoreFormat.{StoreFormat}
 use Rattle.page_store.specs.Objects.{Spells, empty_page}
 
--- where a side of a page begins: the two sides of a page stand beside one another, and pages behind one another
+-- where a side of a page begins, in a store of a format: the two sides of a page stand beside one another, and pages
+-- behind one another
+abbrev pub place_in : StoreFormat → ℕ → ℕ → ℕ
+place_in format page side = (2 * page + side) * page_size_in format
+
+-- what stands there
+abbrev pub side_bytes_in : StoreFormat → List ℕ → ℕ → ℕ → List ℕ
+side_bytes_in format disk page side = take (page_size_in format) (drop (place_in format page side) disk)
+
+-- the same in the format that is written
 abbrev pub place_of : ℕ → ℕ → ℕ
 place_of page side = (2 * page + side) * page_size
 
--- what stands there
 abbrev pub side_bytes : List ℕ → ℕ → ℕ → List ℕ
 side_bytes disk page side = take page_size (drop (place_of page side) disk)
 

@@ -6,5 +6,6 @@ mod fault;
 mod objects;
 mod store;
 
+pub use device::{place_in, read_side_in};
 pub use fault::StoreFault;
 pub use store::{PageStore, empty_pages_have_objects};

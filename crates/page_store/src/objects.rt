@@ -3,23 +3,24 @@
 ghost use Rattle.std.specs.Prelude.{◌≡◌, ◌↔◌, Ok, None, IfOk, IfSome, IsTrue};
 ghost use Rattle.std.specs.List.{AllByRecursion};
 ghost use Rattle.page_format.specs.Pages.{Contents};
-ghost use Rattle.page_store.specs.Objects.{IsObjectAt, Spells, SpellsObject};
+ghost use Rattle.page_store.specs.Objects.{IsObjectAt, SpellsIn, SpellsObject};
 
 use object_codec::{ObjFault, read_obj};
-use page_format::{Damaged, Page};
+use page_format::{Damaged, Page, StoreFormat};
 use std::alloc::Global;
 use thor_value::{NoMemory, SLOTS};
 
-/// The page of objects with a number that the bytes spell, or `None` where they spell none.
+/// The page of objects with a number that the bytes spell in a format, or `None` where they spell none.
 pub(crate) fn page_of_objects(
     alloc: Global,
+    format: StoreFormat,
     bytes: &[u8],
     number: u32,
 ) -> Result<Option<Page>, NoMemory>
-    ensures found { IfOk result (λ found. IfSome found (Spells bytes.now number)) }
-    ensures none { result ≡ Ok None → (page : Contents) → Spells bytes.now number page → ⊥ }
+    ensures found { IfOk result (λ found. IfSome found (SpellsIn format bytes.now number)) }
+    ensures none { result ≡ Ok None → (page : Contents) → SpellsIn format bytes.now number page → ⊥ }
 {
-    let page = match Page::parse(alloc, bytes) {
+    let page = match Page::parse_in(alloc, format, bytes) {
         Ok(page) => page,
         Err(Damaged::NoPage) => return Ok(None),
         Err(Damaged::NoMemory) => return Err(NoMemory),

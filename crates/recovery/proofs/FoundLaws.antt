@@ -3,14 +3,13 @@ use Rattle.std.proofs.Common.{◌≡◌, [], List, None, Ok, Err, Option, Result
 use Rattle.std.specs.Option.{IsSome, option_and_then, option_map, option_map_or}
 use Rattle.disk_trait.specs.Disks.{Disks}
 use Rattle.repo_state.specs.Keeps.{IsUnread, Keeps}
-use Rattle.repo_state.specs.Said.{said}
 use Rattle.log_codec.specs.declared.state.State.{State}
 use Rattle.log_frame.specs.Log.{Opened, Place, Stands}
 use Rattle.page_format.specs.Pages.{Contents}
 use Rattle.page_store.specs.Sides.{ReachesSides}
 use Rattle.page_store.specs.Store.{Agrees, Store, page_in}
 use Rattle.recovery.specs.Damage.{Fault, IsDamaged}
-use Rattle.recovery.specs.Found.{IsRecovered}
+use Rattle.recovery.specs.Found.{IsRecovered, recorded}
 use Rattle.recovery.specs.Reopening.{reopens, reopens_in}
 use Rattle.recovery.specs.declared.fault.RecoverFault.{RecoverFault}
 use Rattle.recovery.specs.declared.recovered.Recovered.{Recovered}
@@ -28,13 +27,13 @@ recovered_keeps None (Some x) is = absurd is
 recovered_keeps (Some f) None is = absurd is
 recovered_keeps (Some f) (Some x) is = is.2
 
-pub recovered_holds : (disks : Disks) (found : Option Found) (r : Option Recovered) → IsRecovered found r → ((s : State) → IfSome found (λ f. state_in (log_of f) ≡ Some s → Holds disks f.0 s)) → IfSome r (λ x. Holds disks x.log (said x.state))
+pub recovered_holds : (disks : Disks) (found : Option Found) (r : Option Recovered) → IsRecovered found r → ((s : State) → IfSome found (λ f. state_in (log_of f) ≡ Some s → Holds disks f.0 s)) → IfSome r (λ x. Holds disks x.log (recorded x))
 recovered_holds disks None None is holds = tt
 recovered_holds disks None (Some x) is holds = absurd is
 recovered_holds disks (Some f) None is holds = absurd is
-recovered_holds disks (Some f) (Some x) is holds = subst (λ (p : Place). Holds disks p (said x.state)) (sym is.0) (holds (said x.state) is.1)
+recovered_holds disks (Some f) (Some x) is holds = subst (λ (p : Place). Holds disks p (recorded x)) (sym is.0) (holds (recorded x) is.1)
 
-pub recovered_stands : (images : ℕ → List ℕ) (found : Option Found) (r : Option Recovered) → IsRecovered found r → stands images ≡ option_and_then (λ f. state_in (log_of f)) found → stands images ≡ option_map (λ x. said x.state) r
+pub recovered_stands : (images : ℕ → List ℕ) (found : Option Found) (r : Option Recovered) → IsRecovered found r → stands images ≡ option_and_then (λ f. state_in (log_of f)) found → stands images ≡ option_map recorded r
 recovered_stands images None None is stood = stood
 recovered_stands images None (Some x) is stood = absurd is
 recovered_stands images (Some f) None is stood = absurd is
@@ -56,7 +55,7 @@ inner_damaged images None d place fault there stood = cc
 inner_damaged images (Some f) d place fault there stood = inr (log_of f, (subst (λ (n : ℕ). Stands (images n) (log_of f)) (sym fault.0) stood, fault.1))
 
 -- pages that were not read agree with each disk that has their sides
-unread_agree : (pages : Store) → IsUnread pages → (disk : List ℕ) → ReachesSides pages.sides disk → Agrees pages disk
+pub unread_agree : (pages : Store) → IsUnread pages → (disk : List ℕ) → ReachesSides pages.sides disk → Agrees pages disk
 unread_agree pages unread disk reaches = record {
   reaches = reaches;
   held = λ page contents is. (let none : page_in [] page ≡ Some contents = subst (λ (held : List (ℕ × Option Contents)). page_in held page ≡ Some contents) unread.none_held is in cc);

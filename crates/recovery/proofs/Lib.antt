@@ -3,3 +3,8 @@ pub mod Replayed
 pub mod FoundLaws
 pub mod Lost
 pub mod Reopened
+pub mod Aside
+pub mod Paging
+pub mod Migrated
+pub mod PagedObjects
+pub mod Moving

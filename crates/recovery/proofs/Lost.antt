@@ -13,7 +13,9 @@ use Rattle.log_codec.specs.declared.state.State.{State}
 use Rattle.log_frame.specs.Log.{Opened}
 use Rattle.repo_state.specs.Said.{said}
 use Rattle.commit_log.specs.Opening.{Found, log_of}
-use Rattle.commit_log.specs.Recovered.{after, after_body, can_follow, is_whole, next, replayed, sequence_end, stands, state_in, whole}
+use Rattle.page_format.specs.declared.format.StoreFormat.TheVariants.{Two}
+use Rattle.recovery.proofs.Aside.{recorded_none}
+use Rattle.commit_log.specs.Recovered.{after, after_body, can_follow, in_format, is_whole, next, replayed, sequence_end, stands, state_in, whole}
 use Rattle.recovery.proofs.Replayed.{replayed_is}
 use Rattle.recovery.specs.Damage.{CantHold, CantPut, Fault, IsBroken, IsNoBody, IsUnheld, NoBody, NoCheckpoint, NoSequence, put_on}
 
@@ -76,7 +78,7 @@ unheld_in s bodies (inl broken) = ap (λ (o : Option State). fold put_on o bodie
 unheld_in s bodies (inr cant) = cant_follow (whole s) bodies cant.at (said cant.held) (AnEntry cant.entry) cant.so_far cant.is cant.refused
 
 unheld_none : (o : Opened) → IsUnheld o → replayed o.head o.bodies ≡ None
-unheld_none o unheld = replayed_is o.head o.bodies unheld.state unheld.bodies unheld.head unheld.records ∙ unheld_in unheld.state unheld.bodies unheld.unfit
+unheld_none o unheld = replayed_is o.head o.bodies unheld.state unheld.bodies unheld.head unheld.records ∙ recorded_none unheld.state unheld.bodies (unheld_in (in_format Two unheld.state) unheld.bodies unheld.unfit)
 
 -- ---- by what is wrong
 

@@ -16,8 +16,9 @@ use Rattle.log_codec.specs.declared.body.Body.TheVariants.{Entry as AnEntry}
 use Rattle.log_codec.specs.declared.body.Body.{Body}
 use Rattle.log_codec.specs.declared.state.State.{State}
 use Rattle.log_frame.specs.Log.{Opened, Stands}
+use Rattle.page_format.specs.declared.format.StoreFormat.TheVariants.{Two}
 use Rattle.commit_log.specs.Opening.{IsTorn}
-use Rattle.commit_log.specs.Recovered.{is_whole, next, sequence_end, whole}
+use Rattle.commit_log.specs.Recovered.{in_format, is_whole, next, sequence_end, whole}
 
 -- the place of the gate behind some records of a log with this head
 abbrev pub gate_behind : ℕ → List (List ℕ) → ℕ
@@ -63,14 +64,14 @@ pub record IsBroken (s : State) : Type 0 where
   pub unfit : IsUnfit s
   pub not_whole : IsTrue (is_whole s) → ⊥
 
--- An open log can't be taken into memory: its checkpoint is none that a repository leaves, or one of its records can't come
--- behind those before it.
+-- An open log can't be taken into memory, which has no format: its checkpoint is none that a repository leaves, or one of its
+-- records can't come behind those before it.
 pub record IsUnheld (o : Opened) : Type 0 where
   pub state : State
   pub head : value_of state_format o.head ≡ Some state
   pub bodies : List Body
   pub records : map (value_of body_format) o.bodies ≡ map Some bodies
-  pub unfit : IsBroken state ⊎ CantPut (whole state) bodies
+  pub unfit : IsBroken (in_format Two state) ⊎ CantPut (whole (in_format Two state)) bodies
 
 -- What is wrong at a place of an open log.
 pub data Fault (o : Opened) (place : ℕ) : Type 0 where

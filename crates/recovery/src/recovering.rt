@@ -16,12 +16,13 @@ ghost use Rattle.log_frame.specs.Log.{Stands};
 ghost use Rattle.page_store.specs.Sides.{ReachesSides};
 ghost use Rattle.page_store.specs.Store.{Agrees};
 ghost use Rattle.recovery.specs.Damage.{CantPut, Counted, Fault, IsBroken, IsDamaged, put_on};
-ghost use Rattle.recovery.specs.Found.{IsRecovered};
+ghost use Rattle.page_format.specs.declared.format.StoreFormat.TheVariants.{Two};
+ghost use Rattle.recovery.specs.Found.{IsRecovered, recorded};
 ghost use Rattle.recovery.specs.Reopening.{prepares_kept, reopened, reopens, reopens_in};
 ghost use Rattle.recovery.specs.declared.fault.RecoverFault.TheVariants.{Damaged, Failed, NoMemory as OutOfMemory};
 ghost use Rattle.commit_log.specs.Holds.{Holds};
 ghost use Rattle.commit_log.specs.Opening.{IsFresh, IsTorn, log_of};
-ghost use Rattle.commit_log.specs.Recovered.{next, stands, state_in, whole};
+ghost use Rattle.commit_log.specs.Recovered.{in_format, next, stands, state_in, whole};
 
 use crate::bodies::{first_gate, read_bodies, read_head};
 use crate::fault::{RecoverFault, found_fault};
@@ -31,6 +32,7 @@ use disk_trait::Parts;
 use log_codec::{Body, State};
 use log_entries::Entry;
 use log_frame::Records;
+use page_format::StoreFormat;
 use repo_state::{HeldState, HoldFault};
 use std::alloc::Global;
 use thor_value::{Sequence, Text};
@@ -56,8 +58,8 @@ pub fn recover<P: Parts>(
     ensures keeps { IfOk result (λ found. IfSome found (λ r. Keeps r.state)) }
     ensures limit { IfOk result (λ found. IfSome found (λ r. r.state.objects.mob.limit ≡ mob_limit)) }
     ensures pages { IfOk result (λ found. IfSome found (λ r. (disk : List ℕ) → ReachesSides r.state.objects.pages.sides disk → Agrees r.state.objects.pages disk)) }
-    ensures holds { IfOk result (λ found. IfSome found (λ r. Holds (P.disks parts.new) r.log (said r.state))) }
-    ensures found { (images : ℕ → List ℕ) → ReadsAs (P.disks parts.old) images → IfOk result (λ found. stands images ≡ option_map (λ r. said r.state) found) }
+    ensures holds { IfOk result (λ found. IfSome found (λ r. Holds (P.disks parts.new) r.log (recorded r))) }
+    ensures found { (images : ℕ → List ℕ) → ReadsAs (P.disks parts.old) images → IfOk result (λ found. stands images ≡ option_map recorded found) }
     ensures reopens { (images : ℕ → List ℕ) → ReadsAs (P.disks parts.old) images → IfOk result (λ found. IfSome found (λ r. r.reopens ≡ reopens images)) }
     ensures fresh { (images : ℕ → List ℕ) → ReadsAs (P.disks parts.old) images → result ≡ Ok None → IsFresh images }
     ensures damaged { (images : ℕ → List ℕ) (d place : ℕ) → ReadsAs (P.disks parts.old) images → IsErrOf result (Damaged d place) → IsDamaged images d place }
@@ -90,10 +92,11 @@ fn replay_found(
         None => Ok(None),
         Some((log, head, records)) => {
             let replayed = replay(alloc, &log, &head, &records, mob_limit)?;
-            let (state, count, reopens) = replayed;
+            let (state, format, count, reopens) = replayed;
             Ok(Some(Recovered {
                 state,
                 log,
+                format,
                 count,
                 reopens,
             }))
@@ -101,32 +104,33 @@ fn replay_found(
     }
 }
 
-// The state of a log's checkpoint and its records, with the checkpoint's count, and whether a record prepares what
-// is decided.
+// The state of a log's checkpoint and its records, with the checkpoint's format and count, and whether a record prepares
+// what is decided.
 fn replay(
     alloc: Global,
     log: &CommitLog,
     head: &Text,
     records: &Records,
     mob_limit: u32,
-) -> Result<(HeldState, u64, bool), RecoverFault>
-    ensures state { IfOk result (λ r. state_in (log_of (log.now, head.now, records.now)) ≡ Some (said r.0)) }
+) -> Result<(HeldState, StoreFormat, u64, bool), RecoverFault>
+    ensures state { IfOk result (λ r. state_in (log_of (log.now, head.now, records.now)) ≡ Some (in_format r.1 (said r.0))) }
     ensures keeps { IfOk result (λ r. Keeps r.0) }
     ensures unread { IfOk result (λ r. IsUnread r.0.objects.pages) }
     ensures limit { IfOk result (λ r. r.0.objects.mob.limit ≡ mob_limit) }
-    ensures count { IfOk result (λ r. Counted head.now r.1) }
-    ensures reopens { IfOk result (λ r. r.2 ≡ reopens_in (log_of (log.now, head.now, records.now))) }
+    ensures count { IfOk result (λ r. Counted head.now r.2) }
+    ensures reopens { IfOk result (λ r. r.3 ≡ reopens_in (log_of (log.now, head.now, records.now))) }
     ensures damaged { (d place : ℕ) → IsErrOf result (Damaged d place) → (d ≡ log.now.disk) × Fault (log_of (log.now, head.now, records.now)) place }
     ensures failed { (d : ℕ) → IsErrOf result (Failed d) → ⊥ }
 {
     let disk = disk_of(log)?;
     let state = read_head(alloc, disk, head)?;
+    let format = state.format;
     let count = state.count;
     let first = first_gate(head);
     let bodies = read_bodies(alloc, disk, first, records.as_slice())?;
     let mut reopens = false;
     let held = hold_on(alloc, disk, state, &bodies, mob_limit, &mut reopens)?;
-    Ok((held, count, reopens))
+    Ok((held, format, count, reopens))
 }
 
 // The disk of a log whose sequence is one that a log can have.
@@ -158,9 +162,9 @@ fn hold_on(
     ensures keeps { IfOk result Keeps }
     ensures unread { IfOk result (λ held. IsUnread held.objects.pages) }
     ensures limit { IfOk result (λ held. held.objects.mob.limit ≡ mob_limit) }
-    ensures said { IfOk result (λ held. fold put_on (whole state) bodies.now ≡ Some (said held)) }
-    ensures reopens { OnOk result (reopens.new ≡ (reopens.old || reopened (whole state) (map Some bodies.now))) }
-    ensures damaged { (d place : ℕ) → IsErrOf result (Damaged d place) → (d ≡ disk) × (place ≡ 0) × (IsBroken state ⊎ CantPut (whole state) bodies.now) }
+    ensures said { IfOk result (λ held. fold put_on (whole (in_format Two state)) bodies.now ≡ Some (said held)) }
+    ensures reopens { OnOk result (reopens.new ≡ (reopens.old || reopened (whole (in_format Two state)) (map Some bodies.now))) }
+    ensures damaged { (d place : ℕ) → IsErrOf result (Damaged d place) → (d ≡ disk) × (place ≡ 0) × (IsBroken (in_format Two state) ⊎ CantPut (whole (in_format Two state)) bodies.now) }
     ensures failed { (d : ℕ) → IsErrOf result (Failed d) → ⊥ }
 {
     match hold(alloc, state, bodies, mob_limit, reopens) {
@@ -183,9 +187,9 @@ fn hold(
     ensures keeps { IfOk result Keeps }
     ensures unread { IfOk result (λ held. IsUnread held.objects.pages) }
     ensures limit { IfOk result (λ held. held.objects.mob.limit ≡ mob_limit) }
-    ensures said { IfOk result (λ held. fold put_on (whole state) bodies.now ≡ Some (said held)) }
-    ensures reopens { OnOk result (reopens.new ≡ (reopens.old || reopened (whole state) (map Some bodies.now))) }
-    ensures unfit { result ≡ Err Unfit → IsBroken state ⊎ CantPut (whole state) bodies.now }
+    ensures said { IfOk result (λ held. fold put_on (whole (in_format Two state)) bodies.now ≡ Some (said held)) }
+    ensures reopens { OnOk result (reopens.new ≡ (reopens.old || reopened (whole (in_format Two state)) (map Some bodies.now))) }
+    ensures unfit { result ≡ Err Unfit → IsBroken (in_format Two state) ⊎ CantPut (whole (in_format Two state)) bodies.now }
 {
     let mut held = HeldState::of(alloc, state, mob_limit)?;
     put_all(&mut held, bodies.as_slice(), reopens)?;

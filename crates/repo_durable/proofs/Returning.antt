@@ -16,6 +16,8 @@ use Rattle.log_codec.specs.declared.body.Body.TheVariants.{Entry as AnEntry, Ins
 use Rattle.log_codec.specs.declared.state.State.{State}
 use Rattle.log_frame.specs.Log.{Opened, Place, read_log}
 use Rattle.mob_flusher.specs.Map.{Kept}
+use Rattle.page_format.specs.declared.format.StoreFormat.TheVariants as written
+use Rattle.page_format.specs.declared.format.StoreFormat.{StoreFormat}
 use Rattle.page_store.specs.Sides.{ReachesSides, side_bytes}
 use Rattle.repo_durable.proofs.Remembering.{comes_back, comes_behind, comes_installed}
 use Rattle.repo_durable.proofs.Pages.{one_disk, reads_of, tells_before, tells_on}
@@ -28,6 +30,7 @@ use Rattle.repo_durable.specs.declared.agreement.Numbers.{Numbers}
 use Rattle.repo_durable.specs.declared.stable.Phase.TheVariants.{Down, Torn, Up}
 use Rattle.repo_durable.specs.declared.stable.Phase.{Phase}
 use Rattle.repo_durable.specs.declared.stable.Stable.{Stable}
+use Rattle.commit_log.proofs.Formats.{format_stays}
 use Rattle.commit_log.specs.Holds.{Holds}
 use Rattle.commit_log.specs.Opening.{IsFresh}
 use Rattle.commit_log.specs.Recovered.{after, chosen, closed, decided, kept_by, opened_without, stands, state_in}
@@ -132,6 +135,29 @@ none_lacks old read log h s pending more holds left says tells lacks =
     let one = says.each tells got.0 (more.images got.0 there) in
     let here : stands got.0 ≡ Some s = log_says read log s holds on got.0 (λ d within. there d (omega (arith, within))) in
     lacks (got.0 2) (got.1 2 (omega arith)) (subst (λ (t : State). ReachesSides t.installed (got.0 2)) (one_state one.state s (stands got.0) one.stands here) one.reaches)
+
+-- what is held is of the format that is written, and so is what the disks say
+one_format : (h : Held) (pending : Option Entry) (s : State) → IsOneOf h pending s → s.format ≡ written.Two
+one_format h None s is = elim is [
+  | inl back ↦ ap (λ (z : State). z.format) back.rest
+  | inr installing ↦ ap (λ (z : State). z.format) installing.says.rest ∙ format_stays (said h) (Installed installing.page installing.side)
+]
+one_format h (Some e) s is = elim is [
+  | inl back ↦ ap (λ (z : State). z.format) back.rest
+  | inr behind ↦ ap (λ (z : State). z.format) behind.rest ∙ format_stays (said h) (AnEntry e)
+]
+
+never_both : (f : StoreFormat) → f ≡ written.One → f ≡ written.Two → ⊥
+never_both f older newer = cc
+
+pub none_older : (old read : Disks) (log : Place) (h : Held) (s : State) (pending : Option Entry) → LeavesNoMore old read → Holds read log s → ((bytes : ℕ → List ℕ) → ReadsAs read bytes → MayLeaveAll read read.time bytes) → ImagesSay old h pending → TellsAll old → s.format ≡ written.One → ⊥
+none_older old read log h s pending more holds left says tells older =
+    let on = more.goes_on tells in
+    let got = reads_of read on in
+    let there = left got.0 got.1 in
+    let one = says.each tells got.0 (more.images got.0 there) in
+    let here : stands got.0 ≡ Some s = log_says read log s holds on got.0 (λ d within. there d (omega (arith, within))) in
+    never_both s.format older (ap (λ (z : State). z.format) (sym (one_state one.state s (stands got.0) one.stands here)) ∙ one_format h pending one.state one.says)
 
 -- ---- which of the two it is
 

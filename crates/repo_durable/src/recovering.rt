@@ -1,13 +1,15 @@
 //! How a repository that is down comes up.
 
 ghost use Rattle.disk_trait.specs.AllDisks.{NoFault};
-ghost use Rattle.std.specs.Prelude.{◌≡◌, IfErr, IfOk, IsErrOf, OnErr, OnOk, Option, false, true, ℕ};
+ghost use Rattle.std.specs.Prelude.{◌≡◌, ◌⊎◌, IfErr, IfOk, IsErrOf, OnErr, OnOk, Option, false, true, ℕ};
 ghost use Rattle.log_entries.specs.declared.entry.Entry.{Entry as AnyEntry};
 ghost use Rattle.disk_trait.specs.AllDisks.{GoesOn, SameContent, TellsAll};
 ghost use Rattle.disk_trait.specs.Disks.{WhereTold};
 ghost use Rattle.repo_state.specs.Keeps.{Keeps};
 ghost use Rattle.repo_state.specs.Said.{said};
+ghost use Rattle.page_format.specs.declared.format.StoreFormat.TheVariants.{One};
 ghost use Rattle.page_store.specs.Sides.{ReachesSides};
+ghost use Rattle.recovery.specs.Found.{recorded};
 ghost use Rattle.repo_durable.specs.Agreeing.{CanEnter, IsTaken};
 ghost use Rattle.disk_trait.specs.Fused.{armed};
 ghost use Rattle.repo_durable.specs.Failing.{HasFailed, is_stopped};
@@ -26,6 +28,7 @@ use crate::stable::{Phase, Stable};
 use commit_log::CommitLog;
 use disk_trait::{Outage, Parts, content_is_left, restart_all};
 use log_entries::Entry;
+use page_format::StoreFormat;
 use recovery::{Recovered, recover};
 use repo_refusals::Refusal;
 use repo_state::HeldState;
@@ -139,7 +142,8 @@ impl<P: Parts> Stable<P> {
         }
     }
 
-    /// Crashes the disks and reads what they stand for.
+    /// Crashes the disks and reads what they stand for. They are of the format that is written: a repository that was opened
+    /// has been moved into it.
     #[tactic(auto, using(crate::proofs::Returning::more_run, crate::proofs::Returning::more_then))]
     fn recover(&mut self, alloc: Global, pick: u64) -> Result<Recovered, Refusal>
         ensures phase { self.new.phase ≡ self.old.phase }
@@ -166,9 +170,39 @@ impl<P: Parts> Stable<P> {
         let found = recover(alloc, &mut self.parts, mob_limit);
         content_is_left(&self.parts);
         match found {
-            Ok(Some(recovered)) => self.reached(recovered),
+            Ok(Some(recovered)) => self.current(recovered),
             Ok(None) => Err(Refusal::Damaged { repo, place: 0 }),
             Err(fault) => Err(of_recovery(repo, fault)),
+        }
+    }
+
+    /// What was recovered, where it is of the format that is written and the disk of pages reaches the installed sides.
+    fn current(&mut self, recovered: Recovered) -> Result<Recovered, Refusal>
+        requires stands { Holds (disks_of P.disks self.old) recovered.log (recorded recovered) }
+        requires keeps { Keeps recovered.state }
+        requires pages { AgreesWhere recovered.state.objects.pages }
+        ensures phase { self.new.phase ≡ self.old.phase }
+        ensures held { held_of self.new ≡ held_of self.old }
+        ensures limit { IfOk result (λ r. r.state.objects.mob.limit ≡ recovered.state.objects.mob.limit) }
+        ensures fault { IfErr result (λ r. is_fault r ≡ true) }
+        ensures opened { IfOk result (λ r. IsOpen (disks_of P.disks self.new) r.log r.state) }
+        ensures content { SameContent (disks_of P.disks self.old) (disks_of P.disks self.new) }
+        ensures stands { IfOk result (λ r. Holds (disks_of P.disks self.new) r.log (said r.state)) }
+        ensures crash { LeavesNoMore (disks_of P.disks self.old) (disks_of P.disks self.new) }
+        ensures same { IfOk result (λ r. said r.state ≡ recorded recovered) }
+        ensures goes { GoesOn (disks_of P.disks self.old) (disks_of P.disks self.new) }
+        ensures stopped { (r : ℕ) → IsErrOf result (IsStopped r) → HasFailed (disks_of P.disks self.old).faults (disks_of P.disks self.new).faults }
+        ensures steady { OnOk result (NoFault (disks_of P.disks self.old) (disks_of P.disks self.new)) }
+        ensures quiet { IfErr result (λ r. is_stopped r ≡ false → NoFault (disks_of P.disks self.old) (disks_of P.disks self.new)) }
+        ensures damaged { (r place : ℕ) → IsErrOf result (IsDamaged r place) → (recovered.format ≡ One) ⊎ WhereTold (disks_of P.disks self.old) 2 (λ disk. ReachesSides recovered.state.objects.pages.sides disk → ⊥) }
+    {
+        let repo = self.repo();
+        match recovered.format {
+            StoreFormat::Two => self.reached(recovered),
+            StoreFormat::One => {
+                drop(recovered);
+                Err(Refusal::Damaged { repo, place: 0 })
+            }
         }
     }
 

@@ -24,7 +24,6 @@ none_sorted cmp = tt
 
 -- what a state has that is empty but for its roots and pages
 pub record IsBare (s : State) : Type 0 where
-  pub format : s.format ≡ 2
   pub life : s.life ≡ 0
   pub count : s.count ≡ 0
   pub threshold : s.threshold ≡ first_ts
@@ -38,7 +37,6 @@ pub record IsBare (s : State) : Type 0 where
 
 pub bare_fits : (s : State) → IsBare s → StateFits s
 bare_fits s is = record {
-  version = is.format;
   life = subst (λ (n : ℕ). n < 2 ^ 32) (sym is.life) (omega arith);
   count = subst (λ (n : ℕ). n < 2 ^ 62) (sym is.count) (omega arith);
   threshold = subst TsFits (sym is.threshold) (record { time = omega arith; repo = omega arith; life = omega arith });

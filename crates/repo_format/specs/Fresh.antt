@@ -6,6 +6,7 @@ use Rattle.class_defs.specs.declared.store.Setup.{Setup}
 use Rattle.repo_state.specs.Said.{said}
 use Rattle.repo_state.specs.declared.held.Held.{Held}
 use Rattle.log_codec.specs.declared.state.State.{State}
+use Rattle.page_format.specs.declared.format.StoreFormat.TheVariants.{Two}
 use Rattle.std.specs.List.{fold}
 use Rattle.std.specs.Prelude.{List, [], cond, max, nat_eq, ◌++◌, ◌+◌, ◌∷◌, ◌≡◌, ℕ}
 use Rattle.thor_value.specs.declared.names.Ts.{Ts}
@@ -35,7 +36,7 @@ first_ts = record { time = 0; repo = 0; life = 0 }
 abbrev pub first_state : ℕ → ℕ → Setup → List (ℕ × ℕ) → State
 first_state repo repos setup installed =
     record {
-      format = 2;
+      format = Two;
       repo = repo;
       repos = repos;
       life = 0;

@@ -23,7 +23,7 @@ use crate::state::first_state;
 use class_defs::Setup;
 use commit_log::CommitLog;
 use disk_trait::{Disk, Parts};
-use page_format::Sides;
+use page_format::{Sides, StoreFormat};
 use recovery::Recovered;
 use repo_durable::{OpenCause, OpenFault, Stable};
 use repo_state::HeldState;
@@ -114,6 +114,7 @@ fn begin_log<P: Parts>(
         Ok(state) => Ok(Recovered {
             state,
             log,
+            format: StoreFormat::Two,
             count: 0,
             reopens: false,
         }),

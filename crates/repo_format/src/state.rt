@@ -9,7 +9,7 @@ ghost use Rattle.repo_format.specs.Fresh.{joined_texts, classes_text, first_stat
 use class_defs::{Class, Root, Setup};
 use log_codec::{Alones, Requests, State};
 use method_parse::print_class;
-use page_format::Sides;
+use page_format::{Sides, StoreFormat};
 use std::alloc::Global;
 use thor_value::{NoMemory, Stamps, Text, Texts, TryCopy, Ts, Writes};
 
@@ -27,7 +27,7 @@ pub(crate) fn first_state(
 {
     let _ = installed.as_slice();
     Ok(State {
-        format: 2,
+        format: StoreFormat::Two,
         repo,
         repos,
         life: 0,

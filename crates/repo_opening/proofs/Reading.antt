@@ -1,66 +1,50 @@
 -- The disk of pages is read beside an open log.
 use Rattle.repo_opening.specs.Same.{Same}
-use Rattle.repo_opening.specs.Recovered.{AgreesWhere, HasBytes, IsRecovered, Stays}
+use Rattle.repo_opening.specs.Recovered.{AgreesWhere, HasBytes, IsHeld, IsRecovered}
+use Rattle.disk_trait.specs.Disks.{WhereTold}
+use Rattle.recovery.specs.Found.{recorded}
+use Rattle.recovery.proofs.Moving.{holds_on}
+use Rattle.recovery.specs.Paged.{AreObjectPages, ArePaged, HasRoom, HasSides, Stays}
 use Rattle.repo_opening.proofs.Syncing.{same_beside, same_content, same_then}
-use Rattle.disk_trait.specs.AllDisks.{AllSettled, LeavesAll, MayLeaveAll, ReadsAs, SameContent}
+use Rattle.disk_trait.specs.AllDisks.{LeavesAll, MayLeaveAll, ReadsAs, SameContent}
 use Rattle.disk_trait.specs.Disks.{Disks}
-use Rattle.disk_trait.proofs.Runs.{alone_none, alone_then}
-use Rattle.disk_trait.proofs.Several.{content_stays, settled_still}
 use Rattle.log_codec.specs.declared.state.State.{State}
 use Rattle.log_frame.specs.Log.{Place}
-use Rattle.page_format.specs.Pages.{page_size}
-use Rattle.page_store.specs.Sides.{ReachesSides, place_of}
+use Rattle.page_format.specs.Formats.{page_size_in}
+use Rattle.page_format.specs.declared.format.StoreFormat.{StoreFormat}
+use Rattle.page_store.specs.Sides.{place_in}
 use Rattle.recovery.specs.declared.recovered.Recovered.{Recovered}
 use Rattle.repo_state.specs.Keeps.{Keeps}
-use Rattle.repo_state.specs.Said.{said}
 use Rattle.commit_log.proofs.Holding.{is_log, stands_of}
 use Rattle.commit_log.specs.Holds.{Holds, beside}
 use Rattle.commit_log.specs.Recovered.{stands}
-use Rattle.std.proofs.Common.{IfSome, List, None, Option, Some, [], ap, arith, cond, length, refl, subst, sym, ◌+◌, ◌<◌, ◌∙◌, ◌≡◌, ◌∷◌, ◌≤◌, ℕ}
+use Rattle.std.proofs.Common.{IfSome, List, None, Option, Some, [], ap, arith, refl, subst, sym, ◌+◌, ◌<◌, ◌∙◌, ◌≡◌, ◌≤◌, ℕ}
 use Rattle.class_defs.specs.Stored.{Objects}
-use Rattle.repo_opening.specs.Paged.{ArePaged, PutsPaged, PutsStored}
+use Rattle.repo_opening.specs.Paged.{PutsPaged, PutsStored}
 use Rattle.std.proofs.lemmas.Option.{same_Some}
-use Rattle.std.specs.FinMap.{nat_cmp-IsAntisymmetric}
-use Rattle.std.specs.Ordering.{is_eq, nat_cmp}
-use Rattle.std.specs.declared.cmp.Ordering.TheVariants.{Equal, Greater, Less}
-use Rattle.std.specs.declared.cmp.Ordering.{Ordering}
 
-pub stays_none : (disks : Disks) → Stays disks disks
-stays_none disks = record { alone = alone_none disks 2; content = refl; crash = λ image left. left }
-
-pub stays_then : (old mid new : Disks) → Stays old mid → Stays mid new → Stays old new
-stays_then old mid new first then = record {
-  alone = alone_then old mid new 2 first.alone then.alone;
-  content = then.content ∙ first.content;
-  crash = λ image left. first.crash image (then.crash image left);
-}
-
-pub settled_on : (old new : Disks) → Stays old new → AllSettled old → AllSettled new
-settled_on old new stays settled = settled_still old new 2 (omega arith) stays.alone stays.content stays.crash settled
-
--- the log holds what it held
-pub holds_on : (old new : Disks) (log : Place) (s : State) → Stays old new → Holds old log s → Holds new log s
-holds_on old new log s stays holds =
-    let same = content_stays old new 2 stays.alone stays.content in
-    record {
-      within = holds.within;
-      settled = settled_on old new stays holds.settled;
-      agrees = λ bytes told. holds.agrees bytes (sym (same log.disk) ∙ told);
-      told = λ bytes other told beside_told opened stood. holds.told bytes other (sym (same log.disk) ∙ told) (sym (same (beside log.disk)) ∙ beside_told) opened stood;
-    }
-
--- what was found is recovered
-pub found_is : (disks : Disks) (found : Option Recovered) → IfSome found (λ r. Holds disks r.log (said r.state)) → IfSome found (λ r. Keeps r.state) → IfSome found (λ r. AgreesWhere r.state.objects.pages) → IfSome found (IsRecovered disks)
+-- what was found is held
+pub found_is : (disks : Disks) (found : Option Recovered) → IfSome found (λ r. Holds disks r.log (recorded r)) → IfSome found (λ r. Keeps r.state) → IfSome found (λ r. AgreesWhere r.state.objects.pages) → IfSome found (IsHeld disks)
 found_is disks None holds keeps pages = tt
-found_is disks (Some r) holds keeps pages = record { state = said r.state; said = refl; holds = holds; keeps = keeps; pages = pages }
+found_is disks (Some r) holds keeps pages = record { holds = holds; keeps = keeps; pages = pages }
 
-pub recovered_on : (old new : Disks) (r : Recovered) → Stays old new → IsRecovered old r → IsRecovered new r
-recovered_on old new r stays known = record {
-  state = known.state;
-  said = known.said;
-  holds = holds_on old new r.log known.state stays known.holds;
+-- and recovered once its pages are read
+pub recovered_on : (old new : Disks) (r : Recovered) → Stays old new → WhereTold new 2 (HasSides r.format r.state.objects.pages.sides) → WhereTold new 2 (AreObjectPages r.format r.state.repo r.state.objects.pages.sides) → IsHeld old r → IsRecovered new r
+recovered_on old new r stays sides paged known = record {
+  state = recorded r;
+  said = refl;
+  holds = holds_on old new r.log (recorded r) stays known.holds;
   keeps = known.keeps;
   pages = known.pages;
+  sides = sides;
+  paged = paged;
+}
+
+-- the pages that were read are pages of objects
+pub has_pages : (r : Recovered) (repo : ℕ) (sides : List (ℕ × ℕ)) (disk : List ℕ) (old new : Objects) → sides ≡ r.state.objects.pages.sides → r.state.repo ≡ repo → PutsPaged r.format repo disk sides old new → AreObjectPages r.format r.state.repo r.state.objects.pages.sides disk
+has_pages r repo sides disk old new same number puts = record {
+  objects = puts.objects;
+  paged = subst (λ (n : ℕ). ArePaged r.format n disk r.state.objects.pages.sides puts.objects) (sym number) (subst (λ (qs : List (ℕ × ℕ)). ArePaged r.format repo disk qs puts.objects) same puts.paged);
 }
 
 -- what the disks that are read stand for is what is held
@@ -73,7 +57,7 @@ holds_reads disks log s holds images reads =
     let h = holds.told (images d) (images (beside d)) here (reads (beside d) (omega (arith, other))) agrees.opened agrees.stands in
     stands_of d images agrees.opened s holds.within agrees.stands h.under h.state
 
-pub recovered_reads : (disks : Disks) (r : Recovered) → IsRecovered disks r → (images : ℕ → List ℕ) → ReadsAs disks images → stands images ≡ Some (said r.state)
+pub recovered_reads : (disks : Disks) (r : Recovered) → IsRecovered disks r → (images : ℕ → List ℕ) → ReadsAs disks images → stands images ≡ Some (recorded r)
 recovered_reads disks r known images reads = holds_reads disks r.log known.state known.holds images reads ∙ ap (λ (s : State). Some s) known.said
 
 pub reads_on : (old new : Disks) → SameContent old new → (images : ℕ → List ℕ) → ReadsAs old images → ReadsAs new images
@@ -83,18 +67,9 @@ reads_on old new same images reads d within = same d ∙ reads d within
 pub bytes_on : (old new : Disks) (n : ℕ) → Stays old new → HasBytes old n → HasBytes new n
 bytes_on old new n stays has = record { told = λ bytes is. has.told bytes (sym stays.content ∙ is) }
 
--- the one side that is looked up
-one_side : (p s q t n : ℕ) (o : Ordering) → nat_cmp q p ≡ o → place_of p s + page_size ≤ n → cond (is_eq o) (Some s) None ≡ Some t → place_of q t + page_size ≤ n
-one_side p s q t n Less is within found = cc
-one_side p s q t n Greater is within found = cc
-one_side p s q t n Equal is within found =
-    let there : q ≡ p = nat_cmp-IsAntisymmetric q p is in
-    let here : s ≡ t = cc in
-    subst (λ (x : ℕ). place_of q x + page_size ≤ n) here (subst (λ (x : ℕ). place_of x s + page_size ≤ n) (sym there) within)
-
--- a disk that is long enough reaches one installed side
-pub reaches_one : (page side : ℕ) (disk : List ℕ) → place_of page side + page_size ≤ length disk → ReachesSides ((page, side) ∷ []) disk
-reaches_one page side disk within = λ q t found. one_side page side q t (length disk) (nat_cmp q page) refl within found
+-- the disk of pages has room for a side, where it has so many bytes
+pub room_is : (format : StoreFormat) (disks : Disks) (installed : ℕ × ℕ) (n : ℕ) → HasBytes disks n → place_in format installed.0 installed.1 + page_size_in format ≤ n → HasRoom format disks installed
+room_is format disks installed n has within = record { told = λ disk told. subst (λ (m : ℕ). place_in format installed.0 installed.1 + page_size_in format ≤ m) (has.told disk told) within }
 
 -- what was read alone is as it was
 pub same_on : (old new : Disks) → Stays old new → Same old new
@@ -109,12 +84,12 @@ pub same_read : (old synced recovered new : Disks) → Same old synced → SameC
 same_read old synced recovered new first content run stays = same_then old recovered new (same_recovered old synced recovered first content run) (same_on recovered new stays)
 
 -- the objects of the pages of what was recovered
-pub stored_is : (images : ℕ → List ℕ) (r : Recovered) (repo : ℕ) (old new : Objects) → stands images ≡ Some (said r.state) → r.state.repo ≡ repo → PutsPaged repo (images 2) r.state.objects.pages.sides old new → PutsStored images old new
+pub stored_is : (images : ℕ → List ℕ) (r : Recovered) (repo : ℕ) (old new : Objects) → stands images ≡ Some (recorded r) → r.state.repo ≡ repo → PutsPaged r.format repo (images 2) r.state.objects.pages.sides old new → PutsStored images old new
 stored_is images r repo old new is number puts = record {
   objects = puts.objects;
   paged = λ s other.
-      let same : said r.state ≡ s = same_Some (said r.state) s (sym is ∙ other) in
-      subst (λ (t : State). ArePaged t.repo (images 2) t.installed puts.objects) same (subst (λ n. ArePaged n (images 2) r.state.objects.pages.sides puts.objects) (sym number) puts.paged);
+      let same : recorded r ≡ s = same_Some (recorded r) s (sym is ∙ other) in
+      subst (λ (t : State). ArePaged t.format t.repo (images 2) t.installed puts.objects) same (subst (λ n. ArePaged r.format n (images 2) r.state.objects.pages.sides puts.objects) (sym number) puts.paged);
   put = puts.put;
 }
 

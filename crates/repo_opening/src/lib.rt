@@ -10,4 +10,4 @@ mod unopened;
 pub use known::Known;
 pub use repository::{Read, read_repository};
 pub use settled::Settled;
-pub use unopened::{Unopened, number_at};
+pub use unopened::{Unopened, fault_of, number_at};

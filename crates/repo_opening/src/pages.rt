@@ -1,35 +1,40 @@
 //! The installed pages of a repository, read once for the checks of an opening.
 
-ghost use Rattle.object_codec.specs.Spelling.{ObjFits, obj_bytes};
-ghost use Rattle.page_store.specs.Objects.{HasObjects, SpellsObject};
-ghost use Rattle.page_store.specs.Sides.{place_of};
-ghost use Rattle.repo_opening.specs.Paged.{PutsOne, PutsPaged, PutsSide, PutsSlots};
-ghost use Rattle.repo_opening.specs.Recovered.{HasBytes, Stays};
-ghost use Rattle.std.specs.Prelude.{IfOk, List, OnOk, Some, [], ◌∷◌, ◌≡◌, ℕ};
+ghost use Rattle.disk_trait.specs.Disks.{WhereTold};
+ghost use Rattle.page_format.specs.Formats.{page_size_in};
+ghost use Rattle.page_store.specs.Sides.{place_in};
+ghost use Rattle.recovery.specs.Paged.{HasSide, HasSides, Stays};
+ghost use Rattle.repo_opening.specs.Paged.{PutsPaged, PutsSide};
+ghost use Rattle.repo_opening.specs.Recovered.{HasBytes};
+ghost use Rattle.std.specs.Prelude.{IfOk, List, OnOk, Some, ◌+◌, ◌≡◌, ◌≤◌, ℕ};
+ghost use Rattle.thor_value.specs.FiniteMap.{overwrite};
 
 use crate::unopened::{Unopened, outage_of};
 use disk_trait::{Disk, Parts};
-use object_codec::read_obj;
-use page_format::{PAGE_BYTES, Page, Sides};
-use page_store::{PageStore, StoreFault};
+use page_format::{Sides, StoreFormat};
+use page_store::{StoreFault, place_in};
+use recovery::read_objects;
 use std::alloc::Global;
-use thor_value::{NoMemory, Obj, Oref, OrefMap};
+use thor_value::{NoMemory, Obj, OrefMap, Writes};
 
-/// Puts the objects of all installed pages into a map, and answers the page behind the last one that has any.
+/// Puts the objects of all installed pages into a map, and answers the page behind the last one that has any. Their sides are at
+/// the places that the format of the store tells.
 pub(crate) fn read_pages<P: Parts>(
     alloc: Global,
     parts: &mut P,
+    format: StoreFormat,
     repo: u8,
     installed: &Sides,
     objects: &mut OrefMap<Obj>,
 ) -> Result<u32, Unopened>
     ensures stays { Stays (P.disks parts.old) (P.disks parts.new) }
-    ensures paged { (disk : List ℕ) → (P.disks parts.old).content 2 ≡ Some disk → OnOk result (PutsPaged repo disk installed.now objects.old objects.new) }
+    ensures sides { OnOk result (WhereTold (P.disks parts.new) 2 (HasSides format installed.now)) }
+    ensures paged { (disk : List ℕ) → (P.disks parts.old).content 2 ≡ Some disk → OnOk result (PutsPaged format repo disk installed.now objects.old objects.new) }
 {
     let mut behind = 0;
     let size = length_of(parts, repo)?;
     for page in installed.as_slice() {
-        let has_objects = read_side(alloc, parts, repo, *page, size, objects)?;
+        let has_objects = read_side(alloc, parts, format, repo, *page, size, objects)?;
         if has_objects {
             behind = page.0.saturating_add(1);
         }
@@ -39,9 +44,11 @@ pub(crate) fn read_pages<P: Parts>(
 
 /// Puts the objects of an installed page into a map, where the disk has so many bytes. It answers whether the
 /// page has any.
+#[tactic(auto, using(recovery::proofs::Moving::stays_none))]
 fn read_side<P: Parts>(
     alloc: Global,
     parts: &mut P,
+    format: StoreFormat,
     repo: u8,
     installed: (u32, u8),
     size: u64,
@@ -49,58 +56,48 @@ fn read_side<P: Parts>(
 ) -> Result<bool, Unopened>
     requires { HasBytes (P.disks parts.old) size }
     ensures stays { Stays (P.disks parts.old) (P.disks parts.new) }
-    ensures side { (disk : List ℕ) → (P.disks parts.old).content 2 ≡ Some disk → OnOk result (PutsSide repo disk installed objects.old objects.new) }
+    ensures within { OnOk result (WhereTold (P.disks parts.new) 2 (λ disk. HasSide format disk installed)) }
+    ensures side { (disk : List ℕ) → (P.disks parts.old).content 2 ≡ Some disk → OnOk result (PutsSide format repo disk installed objects.old objects.new) }
 {
-    let (number, side) = installed;
-    let place = place_of(number, side);
-    if size < place + PAGE_BYTES as u64 {
+    check_room(format, repo, installed, size)?;
+    match read_objects(alloc, parts, format, repo, installed) {
+        Ok(found) => {
+            let has_objects = !found.is_empty();
+            put_objects(objects, found)?;
+            Ok(has_objects)
+        }
+        Err(fault) => Err(fault_of(repo, fault)),
+    }
+}
+
+/// Whether a disk of so many bytes has room for a side.
+fn check_room(
+    format: StoreFormat,
+    repo: u8,
+    installed: (u32, u8),
+    size: u64,
+) -> Result<(), Unopened>
+    ensures { OnOk result (place_in format installed.0 installed.1 + page_size_in format ≤ size) }
+{
+    let place = place_in(format, installed.0, installed.1);
+    if size < place + format.page_bytes() as u64 {
         return Err(Unopened::Damaged {
             repo,
             disk: Disk::Pages.number(),
             place,
         });
     }
-    let sides = one_side(alloc, number, side)?;
-    let pages = PageStore::new(alloc, &sides);
-    drop(sides);
-    let mut pages = pages?;
-    match pages.read(parts, number) {
-        Ok(page) => {
-            let taken = take_whole(alloc, repo, page, objects);
-            drop(pages);
-            taken
-        }
-        Err(fault) => {
-            drop(pages);
-            Err(fault_of(repo, fault))
-        }
-    }
+    Ok(())
 }
 
-/// Puts the objects of a page into a map, and answers whether the page has any.
-fn take_whole(
-    alloc: Global,
-    repo: u8,
-    page: &Page,
-    objects: &mut OrefMap<Obj>,
-) -> Result<bool, Unopened>
-    requires { HasObjects page.now }
-    ensures { OnOk result (PutsSlots repo page.now.number page.now.objects.pairs objects.old objects.new) }
+/// Puts objects into a map.
+fn put_objects(objects: &mut OrefMap<Obj>, found: Writes) -> Result<(), NoMemory>
+    ensures { OnOk result (objects.new ≡ overwrite objects.old found) }
 {
-    take_page(alloc, repo, page, objects)?;
-    Ok(page.len() > 0)
-}
-
-/// One installed page. Sides are 0 or 1.
-fn one_side(alloc: Global, page: u32, side: u8) -> Result<Sides, NoMemory>
-    ensures { IfOk result (λ sides. sides ≡ (page, side) ∷ []) }
-{
-    if side > 1 {
-        return Err(NoMemory);
+    for (name, object) in found.into_vec() {
+        objects.insert(name, object)?;
     }
-    let mut sides = Sides::new(alloc);
-    sides.put(page, side)?;
-    Ok(sides)
+    Ok(())
 }
 
 /// How many bytes the disk of pages has.
@@ -114,13 +111,6 @@ fn length_of<P: Parts>(parts: &mut P, repo: u8) -> Result<u64, Unopened>
     }
 }
 
-/// Where a side of a page begins on the disk.
-fn place_of(page: u32, side: u8) -> u64
-    ensures { result ≡ place_of page side }
-{
-    (2 * u64::from(page) + u64::from(side)) * PAGE_BYTES as u64
-}
-
 fn fault_of(repo: u8, fault: StoreFault) -> Unopened {
     match fault {
         StoreFault::Failed => Unopened::Failed { repo },
@@ -130,55 +120,5 @@ fn fault_of(repo: u8, fault: StoreFault) -> Unopened {
             place,
         },
         StoreFault::NoMemory => Unopened::NoMemory,
-    }
-}
-
-/// Puts the objects of a page into a map.
-#[tactic(auto, using(crate::proofs::Paging::no_slots, crate::proofs::Paging::more_slots, crate::proofs::Paging::all_slots))]
-fn take_page(
-    alloc: Global,
-    repo: u8,
-    page: &Page,
-    objects: &mut OrefMap<Obj>,
-) -> Result<(), NoMemory>
-    requires { HasObjects page.now }
-    ensures { OnOk result (PutsSlots repo page.now.number page.now.objects.pairs objects.old objects.new) }
-{
-    for rank in 0..page.len() {
-        take_rank(alloc, repo, page, rank, objects)?;
-    }
-    Ok(())
-}
-
-/// Puts the object at a rank of a page into a map. The page has that many.
-fn take_rank(
-    alloc: Global,
-    repo: u8,
-    page: &Page,
-    rank: u8,
-    objects: &mut OrefMap<Obj>,
-) -> Result<(), NoMemory>
-    requires { HasObjects page.now }
-    ensures { OnOk result (PutsOne repo page.now rank objects.old objects.new) }
-{
-    let Some((slot, bytes)) = page.nth(rank) else {
-        return Err(NoMemory);
-    };
-    let oref = Oref {
-        repo,
-        page: page.number(),
-        slot,
-    };
-    objects.insert(oref, object_of(alloc, bytes)?)
-}
-
-/// The object that the bytes in a slot of a page of objects are.
-fn object_of(alloc: Global, bytes: &[u8]) -> Result<Obj, NoMemory>
-    requires { SpellsObject bytes.now }
-    ensures { IfOk result (λ object. (bytes.now ≡ obj_bytes object) × ObjFits object) }
-{
-    match read_obj(alloc, bytes) {
-        Ok((object, _)) => Ok(object),
-        Err(_) => Err(NoMemory),
     }
 }

@@ -1,7 +1,7 @@
 //! One repository, as an opening finds it on its disks.
 
 ghost use Rattle.disk_trait.specs.Numbers.{number};
-ghost use Rattle.repo_opening.specs.Recovered.{Finds, IsRecovered};
+ghost use Rattle.repo_opening.specs.Recovered.{Finds, IsHeld};
 ghost use Rattle.repo_opening.specs.Same.{Same};
 ghost use Rattle.repo_opening.specs.Paged.{PutsStored};
 ghost use Rattle.disk_trait.specs.AllDisks.{AllSettled, ReadsAs};
@@ -64,7 +64,7 @@ pub fn read_repository<P: Parts>(
         return Ok(None);
     };
     let sides = recovered.state.objects().pages().sides();
-    let behind = match read_pages(alloc, parts, repo, sides, objects) {
+    let behind = match read_pages(alloc, parts, recovered.format, repo, sides, objects) {
         Ok(behind) => behind,
         Err(fault) => {
             drop(recovered);
@@ -103,7 +103,7 @@ fn recover_one<P: Parts>(
     mob: u32,
 ) -> Result<Option<Recovered>, Unopened>
     requires { AllSettled (P.disks parts.old) }
-    ensures found { IfOk result (λ found. IfSome found (IsRecovered (P.disks parts.new))) }
+    ensures found { IfOk result (λ found. IfSome found (IsHeld (P.disks parts.new))) }
     ensures settled { AllSettled (P.disks parts.new) }
     ensures same { Same (P.disks parts.old) (P.disks parts.new) }
     ensures fresh { (images : ℕ → List ℕ) → ReadsAs (P.disks parts.old) images → result ≡ Ok None → IsFresh images }

@@ -24,7 +24,7 @@ impl From<NoMemory> for Unopened {
 }
 
 /// A repository's fault as one of the store.
-pub(crate) fn fault_of(repo: u8, fault: RecoverFault) -> Unopened {
+pub fn fault_of(repo: u8, fault: RecoverFault) -> Unopened {
     match fault {
         RecoverFault::Failed { disk: _ } => Unopened::Failed { repo },
         RecoverFault::Damaged { disk, place } => Unopened::Damaged { repo, disk, place },

@@ -14,6 +14,9 @@ use Rattle.log_entries.specs.RequestForm.{RequestFits}
 use Rattle.log_entries.specs.declared.request.Request.{Request}
 use Rattle.log_codec.specs.Checkpoint.{RootFits, StampFits, StateFits, client_of, tx_of}
 use Rattle.log_codec.specs.declared.state.State.{State}
+use Rattle.page_format.specs.declared.format.StoreFormat.{StoreFormat}
+use Rattle.page_format.specs.declared.format.StoreFormat.TheVariants.{Two}
+use Rattle.commit_log.specs.Recovered.{in_format}
 use Rattle.mob_buffer.specs.Buffer.{AreOf}
 use Rattle.thor_value.proofs.NameOrders.{ts_exact, ts_total}
 use Rattle.thor_value.specs.FiniteMap.{Map, get, has, insert}
@@ -229,11 +232,14 @@ alone_made repo prepared decisions singles c to = sym (append_nil c.alone.pairs)
     append_nil [] = refl
     append_nil (e ∷ es) = ap (λ (fs : List (ℕ × Ts)). e ∷ fs) (append_nil es)
 
-pub same_made : (s : State) (i : List (ℕ × ℕ)) (m : List (Oref × Obj)) (p : List Request) (k : List Ts) (a : List (ℕ × Ts)) → s.format ≡ 2 → i ≡ s.installed → m ≡ s.mob → p ≡ s.prepared → k ≡ s.kept → a ≡ s.alone → record s { format = 2; installed = i; mob = m; prepared = p; kept = k; alone = a } ≡ s
-same_made s i m p k a format installed mob prepared kept alone =
-    ap (λ (x : ℕ). record s { format = x; installed = i; mob = m; prepared = p; kept = k; alone = a }) (sym format)
-    ∙ ap (λ (x : List (ℕ × ℕ)). record s { installed = x; mob = m; prepared = p; kept = k; alone = a }) installed
-    ∙ ap (λ (x : List (Oref × Obj)). record s { mob = x; prepared = p; kept = k; alone = a }) mob
-    ∙ ap (λ (x : List Request). record s { prepared = x; kept = k; alone = a }) prepared
-    ∙ ap (λ (x : List Ts). record s { kept = x; alone = a }) kept
-    ∙ ap (λ (x : List (ℕ × Ts)). record s { alone = x }) alone
+pub same_made : (s : State) (i : List (ℕ × ℕ)) (m : List (Oref × Obj)) (p : List Request) (k : List Ts) (a : List (ℕ × Ts)) → i ≡ s.installed → m ≡ s.mob → p ≡ s.prepared → k ≡ s.kept → a ≡ s.alone → record s { format = Two; installed = i; mob = m; prepared = p; kept = k; alone = a } ≡ in_format Two s
+same_made s i m p k a installed mob prepared kept alone =
+    ap (λ (x : List (ℕ × ℕ)). record s { format = Two; installed = x; mob = m; prepared = p; kept = k; alone = a }) installed
+    ∙ ap (λ (x : List (Oref × Obj)). record s { format = Two; mob = x; prepared = p; kept = k; alone = a }) mob
+    ∙ ap (λ (x : List Request). record s { format = Two; prepared = x; kept = k; alone = a }) prepared
+    ∙ ap (λ (x : List Ts). record s { format = Two; kept = x; alone = a }) kept
+    ∙ ap (λ (x : List (ℕ × Ts)). record s { format = Two; alone = x }) alone
+
+-- a state of the format that is written is taken as it is
+pub own_format : (s : State) → s.format ≡ Two → in_format Two s ≡ s
+own_format s is = ap (λ (f : StoreFormat). in_format f s) (sym is)

@@ -46,7 +46,6 @@ alone_keys (a ∷ singles) = ap (λ (ks : List ℕ). a.0 ∷ ks) (alone_keys sin
 
 pub state_fits : (h : Held) → Keeps h → h.count < 2 ^ 62 → SidesFit h.objects.pages.sides → AreDistinct h.objects.mob.objects → StateFits (spelled h)
 state_fits h keeps count sides distinct = record {
-  version = refl;
   life = keeps.life;
   count = count;
   threshold = keeps.threshold;

@@ -1,5 +1,6 @@
 -- The state of a log that a repository keeps in memory.
 use Rattle.log_codec.specs.declared.state.State.{State}
+use Rattle.page_format.specs.declared.format.StoreFormat.TheVariants.{Two}
 use Rattle.two_phase.specs.Lists.{kept_decisions, open_requests}
 use Rattle.repo_state.specs.declared.held.Held.{Held}
 
@@ -7,7 +8,7 @@ use Rattle.repo_state.specs.declared.held.Held.{Held}
 abbrev pub said : Held → State
 said h =
     record {
-      format = 2;
+      format = Two;
       repo = h.repo;
       repos = h.repos;
       life = h.life;

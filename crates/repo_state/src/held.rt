@@ -16,7 +16,7 @@ use class_defs::Roots;
 use log_codec::{Alones, Requests, State};
 use log_entries::{Entry, Kind, Request};
 use mob_flusher::ObjectStore;
-use page_format::Sides;
+use page_format::{Sides, StoreFormat};
 use std::alloc::Global;
 use thor_value::{NoMemory, Stamps, Text, Texts, TryCopy, Ts, Writes, both};
 use two_phase::Table;
@@ -216,7 +216,7 @@ impl Held {
         let ((classes, roots, upgrades), (installed, mob)) = held;
         let (prepared, kept, alone) = standing;
         Ok(State {
-            format: 2,
+            format: StoreFormat::Two,
             repo: self.repo,
             repos: self.repos,
             life: self.life,

@@ -9,5 +9,6 @@ mod state;
 mod writes;
 
 pub use fault::HoldFault;
+pub use making::merged;
 pub use state::HeldState;
 pub use writes::later_of;

@@ -1,6 +1,6 @@
 //! A checkpoint's state taken into memory.
 
-ghost use Rattle.std.specs.List.{AllByRecursion, list_all};
+ghost use Rattle.std.specs.List.{AllByRecursion, fold, list_all};
 ghost use Rattle.std.specs.List.Sorted.{IsStrictlySortedBy};
 ghost use Rattle.std.specs.Map.{keys_of};
 ghost use Rattle.std.specs.Option.{is_some};
@@ -8,7 +8,7 @@ ghost use Rattle.std.specs.Ordering.{nat_cmp};
 ghost use Rattle.std.specs.Prelude.{◌≡◌, Err, List, [], map, not, IfOk, IsTrue, None, OnOk, ℕ};
 ghost use Rattle.log_entries.specs.RequestForm.{RequestFits, WriteFits};
 ghost use Rattle.log_entries.specs.declared.request.Request.{Request as ARequest};
-ghost use Rattle.commit_log.specs.Recovered.{are_of, request_at};
+ghost use Rattle.commit_log.specs.Recovered.{are_of, buffered, request_at};
 ghost use Rattle.repo_state.specs.Keeps.{IsUnread, TableFits};
 ghost use Rattle.repo_state.specs.Making.{AlonesTo, IsTableOf, KeepsTo, OpensTo};
 ghost use Rattle.repo_state.specs.declared.fault.HoldFault.TheVariants.{Unfit};
@@ -21,6 +21,7 @@ ghost use Rattle.two_phase.specs.Contents.{Contents};
 ghost use Rattle.two_phase.specs.Lists.{kept_decisions, open_requests};
 
 use crate::fault::HoldFault;
+use crate::spelling::copy_of;
 use crate::writes::are_of;
 use log_codec::{Alones, Requests};
 use mob_buffer::Mob;
@@ -28,7 +29,7 @@ use mob_flusher::ObjectStore;
 use page_format::Sides;
 use page_store::PageStore;
 use std::alloc::Global;
-use thor_value::{NoMemory, Stamps, Writes};
+use thor_value::{NoMemory, Stamps, Writes, both};
 use two_phase::Table;
 
 /// A table of these transactions. `Unfit` where one is both prepared and kept, or a prepared one writes
@@ -127,6 +128,24 @@ pub(crate) fn objects_of(
     let pages = PageStore::new(alloc, installed)?;
     let buffer = buffer_of(alloc, repo, mob, mob_limit)?;
     Ok(ObjectStore::new(alloc, pages, buffer))
+}
+
+/// The objects of a buffer that has older ones and then takes newer ones: each newer one stands in the place of the one under its
+/// name, or behind the last.
+#[tactic(auto, using(crate::proofs::Buffers::put_all_is))]
+pub fn merged(alloc: Global, repo: u8, older: Writes, newer: &Writes) -> Result<Writes, NoMemory>
+    requires older { AreOf repo older }
+    requires distinct { AreDistinct older }
+    requires newer { AreOf repo newer.now }
+    ensures merged { IfOk result (λ objects. objects ≡ fold buffered older newer.now) }
+    ensures distinct { IfOk result AreDistinct }
+{
+    let mut buffer = buffer_of(alloc, repo, older, u32::MAX)?;
+    let loaded = buffer.load_all(newer);
+    let (buffer, _) = both(buffer, loaded)?;
+    let objects = copy_of(alloc, &buffer);
+    drop(buffer);
+    objects
 }
 
 // A buffer of these objects, in their order.

@@ -11,11 +11,12 @@ ghost use Rattle.log_codec.specs.declared.body.Body.TheVariants.{Entry as AnEntr
 ghost use Rattle.mob_flusher.specs.Images.{IsFlushed, ShowsImage};
 ghost use Rattle.mob_flusher.specs.Map.{Has, SameMap};
 ghost use Rattle.mob_flusher.specs.declared.store.Flushed.TheVariants.{Installed as AnInstall, Nothing};
+ghost use Rattle.page_format.specs.declared.format.StoreFormat.TheVariants.{Two};
 ghost use Rattle.page_store.specs.Objects.{HasObjects};
 ghost use Rattle.page_store.specs.Sides.{KeepsSides};
 ghost use Rattle.page_store.specs.Store.{Agrees, IsDamage};
 ghost use Rattle.page_store.specs.declared.fault.StoreFault.TheVariants.{Damaged, Failed, NoMemory as OutOfMemory};
-ghost use Rattle.commit_log.specs.Recovered.{after, is_whole};
+ghost use Rattle.commit_log.specs.Recovered.{after, in_format, is_whole};
 ghost use Rattle.thor_value.specs.FiniteMap.{get};
 ghost use Rattle.two_phase.specs.Contents.{keeps, without};
 
@@ -61,16 +62,18 @@ impl Model for HeldState {
 
 impl HeldState {
     /// Takes a checkpoint's state in, with a buffer that is full at so many bytes. Objects and requests are
-    /// moved. `Unfit` only where no memory of a repository says the state: a name is of another repository, or a
+    /// moved. Of an older format it is taken as if it were of the one that is written: its pages are another's to read.
+    /// `Unfit` only where no memory of a repository says the state: a name is of another repository, or a
     /// transaction is both prepared and decided.
     pub fn of(alloc: Global, state: State, mob_limit: u32) -> Result<HeldState, HoldFault>
         requires { StateFits state }
         ensures keeps { IfOk result Keeps }
-        ensures said { IfOk result (λ held. said held ≡ state) }
+        ensures said { IfOk result (λ held. said held ≡ in_format Two state) }
+        ensures same { state.format ≡ Two → IfOk result (λ held. said held ≡ state) }
         ensures granted { IfOk result (λ held. held.next_grant ≡ state.next_page) }
         ensures unread { IfOk result (λ held. IsUnread held.objects.pages) }
         ensures limit { IfOk result (λ held. held.objects.mob.limit ≡ mob_limit) }
-        ensures unfit { result ≡ Err Unfit → IsUnfit state }
+        ensures unfit { result ≡ Err Unfit → IsUnfit (in_format Two state) }
         ensures broken { result ≡ Err Unfit → IsTrue (is_whole state) → ⊥ }
     {
         let State {
@@ -166,6 +169,17 @@ impl HeldState {
         ensures held { self.new ≡ record self.old { objects = recovered.objects } }
     {
         self.held.objects = recovered.into_objects();
+    }
+
+    /// Takes the objects of a state that was made of a checkpoint of this one. As that checkpoint says, the log's next page is the
+    /// one that is granted next. All else stays.
+    pub fn take_moved(&mut self, moved: HeldState)
+        requires { moved.repo ≡ self.old.repo }
+        ensures keeps { Keeps moved → Keeps self.old → Keeps self.new }
+        ensures held { self.new ≡ record self.old { objects = moved.objects; next_page = self.old.next_grant } }
+    {
+        self.take_objects(moved);
+        self.held.next_page = self.held.next_grant;
     }
 
     /// The objects. All else is let go.

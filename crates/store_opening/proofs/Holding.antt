@@ -6,7 +6,7 @@ use Rattle.class_defs.specs.declared.store.Root.{Root}
 use Rattle.log_entries.specs.declared.request.Request.{Request}
 use Rattle.disk_trait.specs.AllDisks.{ReadsAs}
 use Rattle.disk_trait.specs.Disks.{Disks}
-use Rattle.repo_state.specs.Said.{said}
+use Rattle.recovery.specs.Found.{recorded}
 use Rattle.log_codec.specs.declared.state.State.{State}
 use Rattle.recovery.specs.declared.recovered.Recovered.{Recovered}
 use Rattle.repo_opening.proofs.Paging.{over_both}
@@ -36,7 +36,7 @@ use Rattle.thor_value.specs.declared.values.Obj.{Obj}
 -- ---- one repository
 
 -- what was recovered from disks that are as they were is what they stand for
-pub known_stands : (part kept : Disks) (r : Recovered) → IsRecovered kept r → (images : ℕ → List ℕ) → Same part kept → ReadsAs part images → stands images ≡ Some (said r.state)
+pub known_stands : (part kept : Disks) (r : Recovered) → IsRecovered kept r → (images : ℕ → List ℕ) → Same part kept → ReadsAs part images → stands images ≡ Some (recorded r)
 known_stands part kept r known images same reads = recovered_reads kept r known images (reads_on part kept same.content images reads)
 
 pub always : {A E : Type 0} (r : Result A E) (P : Type 0) → P → OnOk r P

@@ -10,7 +10,7 @@ use Rattle.recovery.specs.declared.recovered.Recovered.{Recovered}
 use Rattle.repo_opening.proofs.Reading.{reads_on}
 use Rattle.repo_opening.specs.Recovered.{IsRecovered}
 use Rattle.repo_opening.specs.Same.{Same}
-use Rattle.repo_state.specs.Said.{said}
+use Rattle.recovery.specs.Found.{recorded}
 use Rattle.std.proofs.Common.{List, Some, [], arith, get_or, inl, inr, length, subst, suc, sym, zero, ℕ, ◌<◌, ◌≡◌, ◌∷◌, ◌⊎◌}
 use Rattle.std.specs.List.{AllZip}
 use Rattle.store_opening.proofs.Holding.{known_stands}
@@ -37,10 +37,10 @@ holds_log disks place s holds images reads =
     record { log = agrees.opened; counts = chosen_of d images agrees.opened holds.within agrees.stands h.under; sequence = agrees.sequence }
 
 pub known_life : (part kept : Disks) (r : Recovered) → IsRecovered kept r → (limit : ℕ) → limit < r.state.life → (images : ℕ → List ℕ) → Same part kept → ReadsAs part images → HasLifeAbove limit images
-known_life part kept r known limit above images same reads = record { state = said r.state; represented = known_stands part kept r known images same reads; above = above }
+known_life part kept r known limit above images same reads = record { state = recorded r; represented = known_stands part kept r known images same reads; above = above }
 
 known_entries : (part kept : Disks) (r : Recovered) → IsRecovered kept r → (limit : ℕ) → limit < r.state.count → (images : ℕ → List ℕ) → Same part kept → ReadsAs part images → HasEntriesAbove limit images
-known_entries part kept r known limit above images same reads = record { state = said r.state; represented = known_stands part kept r known images same reads; above = above }
+known_entries part kept r known limit above images same reads = record { state = recorded r; represented = known_stands part kept r known images same reads; above = above }
 
 known_sequence : (part kept : Disks) (r : Recovered) → IsRecovered kept r → (limit : ℕ) → limit < r.log.sequence → (images : ℕ → List ℕ) → Same part kept → ReadsAs part images → HasSequenceAbove limit images
 known_sequence part kept r known limit above images same reads =

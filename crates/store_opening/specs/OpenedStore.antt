@@ -8,7 +8,7 @@ use Rattle.class_defs.specs.declared.store.Root.{Root}
 use Rattle.class_defs.specs.declared.store.Schemas.{Schemas}
 use Rattle.log_entries.specs.declared.request.Request.{Request}
 use Rattle.log_codec.specs.declared.state.State.{State}
-use Rattle.repo_opening.specs.Paged.{ArePaged}
+use Rattle.recovery.specs.Paged.{ArePaged}
 use Rattle.commit_log.specs.Recovered.{stands, texts_after}
 use Rattle.std.specs.List.{filter, flat_map, fold, list_any}
 use Rattle.std.specs.Prelude.{Bool, List, None, Option, Some, [], false, length, map, slice_get, ℕ, ◌≡◌, ◌∷◌}
@@ -56,7 +56,7 @@ pub record Repository : Type 0 where
 -- disks with these bytes hold this
 pub record Holds (images : ℕ → List ℕ) (r : Repository) : Type 0 where
   pub state : stands images ≡ Some r.state
-  pub paged : ArePaged r.state.repo (images 2) r.state.installed r.paged
+  pub paged : ArePaged r.state.format r.state.repo (images 2) r.state.installed r.paged
 
 abbrev pub states_of : List Repository → List State
 states_of store = map (λ r. r.state) store

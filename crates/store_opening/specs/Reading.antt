@@ -3,7 +3,7 @@ use Rattle.class_defs.specs.Stored.{Objects}
 use Rattle.disk_trait.specs.AllDisks.{ReadsAs}
 use Rattle.disk_trait.specs.Disks.{Disks}
 use Rattle.log_codec.specs.declared.state.State.{State}
-use Rattle.repo_opening.specs.Paged.{ArePaged}
+use Rattle.recovery.specs.Paged.{ArePaged}
 use Rattle.commit_log.specs.Opening.{IsFresh}
 use Rattle.commit_log.specs.Recovered.{stands}
 use Rattle.std.specs.List.{AllZip, flat_map}
@@ -24,7 +24,7 @@ ReadAll disks parts images = AllZip (λ p i. ReadsAs (disks p) i) parts images
 
 -- the objects on the pages of a repository, by the state for which its logs stand
 pub record IsPagedBy (images : ℕ → List ℕ) (objects : List (Oref × Obj)) : Type 0 where
-  pub paged : (s : State) → stands images ≡ Some s → ArePaged s.repo (images 2) s.installed objects
+  pub paged : (s : State) → stands images ≡ Some s → ArePaged s.format s.repo (images 2) s.installed objects
 
 -- those of all repositories were put into a map
 pub record PutsAll (images : List (ℕ → List ℕ)) (old new : Objects) : Type 0 where

@@ -4,6 +4,8 @@ use Rattle.std.proofs.Common.{◌≡◌, IsErrOf, List, Some, map, ℕ, rules, s
 use Rattle.repo_state.specs.Said.{said}
 use Rattle.recovery.specs.Damage.{CantHold, IsNoBody, NoBody, NoCheckpoint, NoSequence}
 use Rattle.recovery.specs.declared.fault.RecoverFault.TheVariants.{Damaged}
+use Rattle.commit_log.specs.Recovered.{in_format}
+use Rattle.recovery.proofs.Aside.{recorded_is, reopened_is}
 use Rattle.recovery.proofs.Reopened.{reopens_is}
 use Rattle.recovery.proofs.Replayed.{state_is}
 use Rattle.commit_log.specs.Opening.{log_of}
@@ -11,13 +13,15 @@ use Rattle.recovery.proofs.recovering.replay.Goals as goal
 
 pub returns-clause-state : goal.returns-clause-state
 returns-clause-state c =
-    state_is (log_of (c.args.log.now, c.args.head.now, c.args.records.now)) c.in_ok-state.state (said c.in_ok-held.held) c.in_ok-bodies.bodies c.in_ok-disk.ensures.small c.in_ok-state.ensures.state
-    (subst (λ (rs : List (List ℕ)). map (value_of body_format) rs ≡ map Some c.in_ok-bodies.bodies) c.as_slice.ensures c.in_ok-bodies.ensures.bodies) c.in_ok-held.ensures.said
+    state_is (log_of (c.args.log.now, c.args.head.now, c.args.records.now)) c.in_ok-state.state (in_format c.in_ok-state.state.format (said c.in_ok-held.held)) c.in_ok-bodies.bodies c.in_ok-disk.ensures.small c.in_ok-state.ensures.state
+    (subst (λ (rs : List (List ℕ)). map (value_of body_format) rs ≡ map Some c.in_ok-bodies.bodies) c.as_slice.ensures c.in_ok-bodies.ensures.bodies)
+    (recorded_is c.in_ok-state.state (said c.in_ok-held.held) c.in_ok-bodies.bodies c.in_ok-held.ensures.said)
 
 pub returns-clause-reopens : goal.returns-clause-reopens
 returns-clause-reopens c =
     reopens_is (log_of (c.args.log.now, c.args.head.now, c.args.records.now)) c.in_ok-state.state c.in_ok-bodies.bodies c.hold_on.new.reopens c.in_ok-state.ensures.state
-    (subst (λ (rs : List (List ℕ)). map (value_of body_format) rs ≡ map Some c.in_ok-bodies.bodies) c.as_slice.ensures c.in_ok-bodies.ensures.bodies) c.in_ok-held.ensures.reopens
+    (subst (λ (rs : List (List ℕ)). map (value_of body_format) rs ≡ map Some c.in_ok-bodies.bodies) c.as_slice.ensures c.in_ok-bodies.ensures.bodies)
+    (c.in_ok-held.ensures.reopens ∙ reopened_is c.in_ok-state.state (map Some c.in_ok-bodies.bodies))
 
 pub returns-in_err-disk-clause-damaged : goal.returns-in_err-disk-clause-damaged
 returns-in_err-disk-clause-damaged c = λ d place is.

@@ -6,7 +6,6 @@ use Rattle.repo_format.proofs.state.first_state.Goals as goal
 
 pub returns-clause-fits : goal.returns-clause-fits
 returns-clause-fits c = bare_fits _ (record {
-  format = refl;
   life = refl;
   count = refl;
   threshold = refl;

@@ -1,10 +1,12 @@
-use Rattle.page_store.specs.Store.{Store}
-use Rattle.repo_opening.proofs.Paging.{puts_side, shows_one}
-use Rattle.std.proofs.Common.{ap, ◌∙◌}
+use Rattle.std.proofs.Common.{sym, ◌∙◌}
+use Rattle.repo_opening.proofs.Reading.{room_is}
 use Rattle.repo_opening.proofs.pages.read_side.Goals as goal
 
+pub read_objects-requires : goal.read_objects-requires
+read_objects-requires g c = room_is c.args.format (g.P.Parts.disks c.args.parts.now) c.args.installed c.args.size c.requires c.in_ok-check_room.ensures
+
+pub returns-in-Ok-clause-within : goal.returns-in-Ok-clause-within
+returns-in-Ok-clause-within g c = λ disk told. (room_is c.args.format (g.P.Parts.disks c.args.parts.now) c.args.installed c.args.size c.requires c.in_ok-check_room.ensures).told disk (sym c.read_objects.ensures.content ∙ told)
+
 pub returns-in-Ok-clause-side : goal.returns-in-Ok-clause-side
-returns-in-Ok-clause-side g c = λ disk told.
-    puts_side c.take_whole-taken.result c.args.repo disk c.args.installed.0 c.args.installed.1 c.in-Ok.page.now c.args.objects.now c.take_whole-taken.new.objects
-    (shows_one disk c.args.installed.0 c.args.installed.1 c.in_ok-pages.pages.sides c.in-Ok.page.now (ap (λ (s : Store). s.sides) c.in_ok-pages.ensures.made ∙ c.in_ok-sides.ensures) (c.in-Ok.ensures.page disk told))
-    c.take_whole-taken.ensures
+returns-in-Ok-clause-side g c = λ disk told. record { objects = c.in-Ok.found; is = c.in-Ok.ensures.found disk told; put = c.in_ok-put_objects.ensures }

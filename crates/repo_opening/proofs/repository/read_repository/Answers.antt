@@ -1,8 +1,11 @@
 use Rattle.recovery.specs.Reopening.{reopens}
 use Rattle.recovery.specs.declared.recovered.Recovered.{Recovered}
-use Rattle.repo_opening.proofs.Reading.{reads_on, recovered_on, recovered_reads, same_on, stored_is}
+use Rattle.disk_trait.specs.Disks.{WhereTold}
+use Rattle.recovery.specs.Found.{recorded}
+use Rattle.recovery.specs.Paged.{AreObjectPages, HasSides}
+use Rattle.repo_opening.proofs.Reading.{has_pages, holds_reads, reads_on, recovered_on, same_on, stored_is}
 use Rattle.repo_opening.proofs.Syncing.{same_then}
-use Rattle.repo_opening.specs.Recovered.{IsRecovered}
+use Rattle.repo_opening.specs.Recovered.{IsHeld, IsRecovered}
 use Rattle.disk_trait.specs.AllDisks.{ReadsAs}
 use Rattle.mob_flusher.specs.Map.{Kept}
 use Rattle.page_store.specs.Store.{Store}
@@ -13,8 +16,11 @@ use Rattle.repo_opening.proofs.repository.read_repository.Goals as goal
 pub returns-clause-found : goal.returns-clause-found
 returns-clause-found g c =
     let r = c.in-Some.recovered in
-    let known : IsRecovered (g.P.Parts.disks c.recover_one.new.parts) r = rw c.in-Some.is at c.in_ok-recovered.ensures.found in
-    let stays : IsRecovered (g.P.Parts.disks c.read_pages.new.parts) r = recovered_on (g.P.Parts.disks c.recover_one.new.parts) (g.P.Parts.disks c.read_pages.new.parts) r c.read_pages.ensures.stays known in
+    let known : IsHeld (g.P.Parts.disks c.recover_one.new.parts) r = rw c.in-Some.is at c.in_ok-recovered.ensures.found in
+    let same : c.sides-sides.result.now ≡ r.state.objects.pages.sides = c.sides-sides.ensures ∙ ap (λ (s : Store). s.sides) (c.pages.ensures ∙ ap (λ (k : Kept). k.pages) c.objects.ensures) in
+    let sides : WhereTold (g.P.Parts.disks c.read_pages.new.parts) 2 (HasSides r.format r.state.objects.pages.sides) = subst (λ (qs : List (ℕ × ℕ)). WhereTold (g.P.Parts.disks c.read_pages.new.parts) 2 (HasSides r.format qs)) same c.in-Ok.ensures.sides in
+    let paged : WhereTold (g.P.Parts.disks c.read_pages.new.parts) 2 (AreObjectPages r.format r.state.repo r.state.objects.pages.sides) = λ disk told. has_pages r c.args.repo c.sides-sides.result.now disk c.args.objects.now c.read_pages.new.objects same c.in_ok-read.ensures.number (c.in-Ok.ensures.paged disk (sym c.read_pages.ensures.stays.content ∙ told)) in
+    let stays : IsRecovered (g.P.Parts.disks c.read_pages.new.parts) r = recovered_on (g.P.Parts.disks c.recover_one.new.parts) (g.P.Parts.disks c.read_pages.new.parts) r c.read_pages.ensures.stays sides paged known in
     subst (λ (x : Recovered). IsRecovered (g.P.Parts.disks c.read_pages.new.parts) x) (sym (ap (λ (p : Recovered × ℕ). p.0) c.in_ok-read.ensures.read)) stays
 
 pub returns-clause-same : goal.returns-clause-same
@@ -29,12 +35,12 @@ returns-clause-stored g c = λ images reads.
     let synced = g.P.Parts.disks c.sync.new.parts in
     let found = g.P.Parts.disks c.recover_one.new.parts in
     let r = c.in-Some.recovered in
-    let known : IsRecovered found r = rw c.in-Some.is at c.in_ok-recovered.ensures.found in
+    let known : IsHeld found r = rw c.in-Some.is at c.in_ok-recovered.ensures.found in
     let number : r.state.repo ≡ c.args.repo = c.in_ok-read.ensures.number in
     let told : ReadsAs found images = reads_on synced found c.recover_one.ensures.same.content images (reads_on first synced c.sync.ensures.same.content images reads) in
     let sides : c.sides-sides.result.now ≡ r.state.objects.pages.sides = c.sides-sides.ensures ∙ ap (λ (s : Store). s.sides) (c.pages.ensures ∙ ap (λ (k : Kept). k.pages) c.objects.ensures) in
-    stored_is images r c.args.repo c.args.objects.now c.read_pages.new.objects (recovered_reads found r known images told) number
-    (subst (λ (qs : List (ℕ × ℕ)). PutsPaged c.args.repo (images 2) qs c.args.objects.now c.read_pages.new.objects) sides (c.in-Ok.ensures.paged (images 2) (told 2 (omega arith))))
+    stored_is images r c.args.repo c.args.objects.now c.read_pages.new.objects (holds_reads found r.log (recorded r) known.holds images told) number
+    (subst (λ (qs : List (ℕ × ℕ)). PutsPaged r.format c.args.repo (images 2) qs c.args.objects.now c.read_pages.new.objects) sides (c.in-Ok.ensures.paged (images 2) (told 2 (omega arith))))
 
 pub returns-clause-reopens : goal.returns-clause-reopens
 returns-clause-reopens g c = λ images reads.

@@ -2,12 +2,13 @@ use Rattle.disk_trait.proofs.Several.{goes_then}
 use Rattle.disk_trait.specs.AllDisks.{GoesOn}
 use Rattle.disk_trait.specs.Fused.{fused_disks}
 use Rattle.repo_state.specs.Said.{said}
-use Rattle.repo_state.specs.declared.held.Held.{Held}
+use Rattle.log_codec.specs.declared.state.State.{State}
+use Rattle.recovery.specs.Found.{recorded}
 use Rattle.recovery.specs.declared.fault.RecoverFault.{RecoverFault}
 use Rattle.recovery.specs.declared.recovered.Recovered.{Recovered}
 use Rattle.repo_durable.proofs.Failing.{failed_behind, failed_on}
-use Rattle.repo_durable.proofs.Returning.{finds_one, finds_then, if_ok_on, more_run, more_then, none_fresh, none_lacks, none_lost, same_err}
-use Rattle.std.proofs.Common.{Err, Ok, Option, ap, arith, refl, subst, sym, ◌∙◌, ◌≡◌}
+use Rattle.repo_durable.proofs.Returning.{finds_one, finds_then, if_ok_on, more_run, more_then, none_fresh, none_lacks, none_lost, none_older, same_err}
+use Rattle.std.proofs.Common.{Err, Ok, Option, ap, arith, inl, inr, refl, subst, sym, ◌∙◌, ◌≡◌}
 use Rattle.repo_refusals.specs.declared.refusal.Refusal.TheVariants.{Damaged as IsDamaged, Stopped as IsStopped}
 use Rattle.repo_durable.specs.Kept.{disks_of, held_of}
 use Rattle.repo_durable.specs.Saying.{FindsOneOf}
@@ -20,20 +21,20 @@ returns-in-Ok-Some-clause-crash g c =
     let old = disks_of g.P.Parts.disks c.args.self.now in
     let mid = fused_disks g.P.Parts.disks c.restart_all.new.parts in
     let read = fused_disks g.P.Parts.disks c.recover-found.new.parts in
-    let now = disks_of g.P.Parts.disks c.reached.new.self in
-    more_then old read now (more_then old mid read (more_run old mid c.restart_all.ensures.any_moment) (more_run mid read c.recover-found.ensures.any_moment)) c.reached.ensures.crash
+    let now = disks_of g.P.Parts.disks c.current.new.self in
+    more_then old read now (more_then old mid read (more_run old mid c.restart_all.ensures.any_moment) (more_run mid read c.recover-found.ensures.any_moment)) c.current.ensures.crash
 
 pub returns-in-Ok-Some-clause-found : goal.returns-in-Ok-Some-clause-found
 returns-in-Ok-Some-clause-found g c =
     let old = disks_of g.P.Parts.disks c.args.self.now in
     let mid = fused_disks g.P.Parts.disks c.restart_all.new.parts in
     let read = fused_disks g.P.Parts.disks c.recover-found.new.parts in
-    let now = disks_of g.P.Parts.disks c.reached.new.self in
+    let now = disks_of g.P.Parts.disks c.current.new.self in
     let held = held_of c.args.self.now in
     let more = more_then old mid read (more_run old mid c.restart_all.ensures.any_moment) (more_run mid read c.recover-found.ensures.any_moment) in
     let holds = rw c.in-Ok-Some.field-0-is at c.in-Ok-Some.ensures.holds in
-    let finds = finds_one old read c.in-Ok-Some.recovered.log held (said c.in-Ok-Some.recovered.state) more holds c.content_is_left.ensures in
-    if_ok_on c.reached.result (λ r. r.state ≡ c.in-Ok-Some.recovered.state) (λ r. FindsOneOf old now held (said r.state)) (λ r same. subst (λ (s : Held). FindsOneOf old now held (said s)) (sym same) (finds_then old read now held (said c.in-Ok-Some.recovered.state) c.reached.ensures.crash finds)) c.reached.ensures.same
+    let finds = finds_one old read c.in-Ok-Some.recovered.log held (recorded c.in-Ok-Some.recovered) more holds c.content_is_left.ensures in
+    if_ok_on c.current.result (λ r. said r.state ≡ recorded c.in-Ok-Some.recovered) (λ r. FindsOneOf old now held (said r.state)) (λ r same. subst (λ (s : State). FindsOneOf old now held s) (sym same) (finds_then old read now held (recorded c.in-Ok-Some.recovered) c.current.ensures.crash finds)) c.current.ensures.same
 
 pub returns-in-Ok-None-clause-crash : goal.returns-in-Ok-None-clause-crash
 returns-in-Ok-None-clause-crash g c =
@@ -74,14 +75,17 @@ returns-in-Ok-Some-clause-damaged g c = λ r place wrong pending says tells.
     let read = fused_disks g.P.Parts.disks c.recover-found.new.parts in
     let more = more_then old mid read (more_run old mid c.restart_all.ensures.any_moment) (more_run mid read c.recover-found.ensures.any_moment) in
     let holds = rw c.in-Ok-Some.field-0-is at c.in-Ok-Some.ensures.holds in
-    none_lacks old read c.in-Ok-Some.recovered.log (held_of c.args.self.now) (said c.in-Ok-Some.recovered.state) pending more holds c.content_is_left.ensures says tells (c.reached.ensures.damaged r place wrong)
+    elim (c.current.ensures.damaged r place wrong) [
+      | inl older ↦ none_older old read c.in-Ok-Some.recovered.log (held_of c.args.self.now) (recorded c.in-Ok-Some.recovered) pending more holds c.content_is_left.ensures says tells older
+      | inr lacks ↦ none_lacks old read c.in-Ok-Some.recovered.log (held_of c.args.self.now) (recorded c.in-Ok-Some.recovered) pending more holds c.content_is_left.ensures says tells lacks
+    ]
 
 pub returns-in-Ok-Some-clause-goes : goal.returns-in-Ok-Some-clause-goes
 returns-in-Ok-Some-clause-goes g c =
     let old = disks_of g.P.Parts.disks c.args.self.now in
     let mid = fused_disks g.P.Parts.disks c.restart_all.new.parts in
     let read = fused_disks g.P.Parts.disks c.recover-found.new.parts in
-    goes_then old read (disks_of g.P.Parts.disks c.reached.new.self) (goes_then old mid read c.restart_all.ensures.any_moment.goes c.recover-found.ensures.any_moment.goes) c.reached.ensures.goes
+    goes_then old read (disks_of g.P.Parts.disks c.current.new.self) (goes_then old mid read c.restart_all.ensures.any_moment.goes c.recover-found.ensures.any_moment.goes) c.current.ensures.goes
 
 pub returns-in-Ok-None-clause-goes : goal.returns-in-Ok-None-clause-goes
 returns-in-Ok-None-clause-goes g c =
@@ -96,7 +100,7 @@ returns-in-Ok-Some-clause-stopped g c = λ r wrong.
     let old = disks_of g.P.Parts.disks c.args.self.now in
     let mid = fused_disks g.P.Parts.disks c.restart_all.new.parts in
     let read = fused_disks g.P.Parts.disks c.recover-found.new.parts in
-    failed_behind old.faults read.faults (disks_of g.P.Parts.disks c.reached.new.self).faults (goes_then old mid read c.restart_all.ensures.any_moment.goes c.recover-found.ensures.any_moment.goes).faults (c.reached.ensures.stopped r wrong)
+    failed_behind old.faults read.faults (disks_of g.P.Parts.disks c.current.new.self).faults (goes_then old mid read c.restart_all.ensures.any_moment.goes c.recover-found.ensures.any_moment.goes).faults (c.current.ensures.stopped r wrong)
 
 pub returns-in-Err-found-clause-stopped : goal.returns-in-Err-found-clause-stopped
 returns-in-Err-found-clause-stopped g c = λ r wrong.
@@ -116,14 +120,14 @@ returns-in-Ok-Some-clause-steady g c =
     let old = disks_of g.P.Parts.disks c.args.self.now in
     let mid = fused_disks g.P.Parts.disks c.restart_all.new.parts in
     let read = fused_disks g.P.Parts.disks c.recover-found.new.parts in
-    ok_behind c.reached.result old read (disks_of g.P.Parts.disks c.reached.new.self) (stays_then old mid read c.in_default.ensures.steady c.in-Ok-Some.ensures.steady) c.reached.ensures.steady
+    ok_behind c.current.result old read (disks_of g.P.Parts.disks c.current.new.self) (stays_then old mid read c.in_default.ensures.steady c.in-Ok-Some.ensures.steady) c.current.ensures.steady
 
 pub returns-in-Ok-Some-clause-quiet : goal.returns-in-Ok-Some-clause-quiet
 returns-in-Ok-Some-clause-quiet g c =
     let old = disks_of g.P.Parts.disks c.args.self.now in
     let mid = fused_disks g.P.Parts.disks c.restart_all.new.parts in
     let read = fused_disks g.P.Parts.disks c.recover-found.new.parts in
-    err_behind c.reached.result old read (disks_of g.P.Parts.disks c.reached.new.self) (stays_then old mid read c.in_default.ensures.steady c.in-Ok-Some.ensures.steady) c.reached.ensures.quiet
+    err_behind c.current.result old read (disks_of g.P.Parts.disks c.current.new.self) (stays_then old mid read c.in_default.ensures.steady c.in-Ok-Some.ensures.steady) c.current.ensures.quiet
 
 pub returns-in-Ok-None-clause-quiet : goal.returns-in-Ok-None-clause-quiet
 returns-in-Ok-None-clause-quiet g c = λ other.
@@ -146,7 +150,7 @@ returns-in-Ok-Some-clause-left g c = λ bytes reads.
     let mid = fused_disks g.P.Parts.disks c.restart_all.new.parts in
     let read = fused_disks g.P.Parts.disks c.recover-found.new.parts in
     let more = more_then old mid read (more_run old mid c.restart_all.ensures.any_moment) (more_run mid read c.recover-found.ensures.any_moment) in
-    more.images bytes (c.content_is_left.ensures bytes (reads_same read (disks_of g.P.Parts.disks c.reached.new.self) bytes c.reached.ensures.content reads))
+    more.images bytes (c.content_is_left.ensures bytes (reads_same read (disks_of g.P.Parts.disks c.current.new.self) bytes c.current.ensures.content reads))
 
 pub returns-in-Ok-None-clause-left : goal.returns-in-Ok-None-clause-left
 returns-in-Ok-None-clause-left g c = λ bytes reads.

@@ -1,7 +1,7 @@
 use Rattle.std.proofs.Common.{List, ℕ, ◌∙◌, ap, sym, subst, arith}
 use Rattle.page_format.specs.Walking.{pairs_of, parts_at}
 use Rattle.page_format.proofs.Pages.{Parted, made, parts_found, parts_are, no_page}
-use Rattle.page_format.proofs.page.Page.read.Goals as goal
+use Rattle.page_format.proofs.page.Page.parse_in.Goals as goal
 
 pub returns-in-None-clause-only : goal.returns-in-None-clause-only
 returns-in-None-clause-only c = λ d fits e. no_page c.args.format c.args.bytes.now d c.in-None.ensures fits e
