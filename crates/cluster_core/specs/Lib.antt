@@ -1,3 +1,4 @@
+pub mod Committed
 pub mod Counts
 pub mod Happening
 pub mod Histories

@@ -1,5 +1,6 @@
 //! A run ends.
 
+ghost use Rattle.cluster_core.specs.Committed.{committed_lines};
 ghost use Rattle.cluster_core.specs.Counts.{parts_of};
 ghost use Rattle.cluster_core.specs.Seated.{AreRight};
 ghost use Rattle.cluster_port.specs.Lent.{AreInPlace};
@@ -42,6 +43,8 @@ impl<P: Parts, O: Opening> Cluster<P, O> {
         // What was recorded at each repository is right by the base with which it began.
         ensures right { IfOk result.ran (λ ran. AreRight O.run 0 ran.traces) }
         ensures told { IfOk result.ran (λ ran. length ran.traces ≡ parts_of self) }
+        // The lines are what these traces have as committed.
+        ensures lines { IfOk result.ran (λ ran. ran.lines ≡ committed_lines ran.traces) }
     {
         let Cluster {
             alloc,
@@ -186,7 +189,8 @@ fn gathered(
     clients: Vec<FrontEnd>,
     traces: Result<Traces, NoMemory>,
 ) -> Result<Ran, NoMemory>
-    ensures { IfOk result (λ ran. IsOkAnd traces (λ told. ran.traces ≡ told)) }
+    ensures traces { IfOk result (λ ran. IsOkAnd traces (λ told. ran.traces ≡ told)) }
+    ensures lines { IfOk result (λ ran. ran.lines ≡ committed_lines ran.traces) }
 {
     match traces {
         Ok(traces) => gather(alloc, clients, traces),
@@ -199,7 +203,8 @@ fn gathered(
 
 /// What a run was, from its clients and traces.
 fn gather(alloc: Global, clients: Vec<FrontEnd>, traces: Traces) -> Result<Ran, NoMemory>
-    ensures { IfOk result (λ ran. ran.traces ≡ traces) }
+    ensures traces { IfOk result (λ ran. ran.traces ≡ traces) }
+    ensures lines { IfOk result (λ ran. ran.lines ≡ committed_lines ran.traces) }
 {
     let (traces, ends) = both(traces, close_clients(alloc, clients))?;
     let lines = history_of(alloc, traces.as_slice());

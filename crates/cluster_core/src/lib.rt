@@ -9,6 +9,7 @@ mod emptied;
 mod events;
 mod finishing;
 mod history;
+mod lines;
 mod looks;
 mod opening;
 mod plan;

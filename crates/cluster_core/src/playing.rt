@@ -1,5 +1,6 @@
 //! A store that was found is opened and played on.
 
+ghost use Rattle.cluster_core.specs.Committed.{committed_lines};
 ghost use Rattle.cluster_core.specs.Counts.{parts_of};
 ghost use Rattle.cluster_core.specs.Seated.{AreRight, IsFoundIn, run_found};
 ghost use Rattle.std.specs.Prelude.{IfErr, IfOk, IsErr, length, vec_len, ◌≡◌};
@@ -29,6 +30,8 @@ pub fn play<P: Parts>(
     // What was recorded at each repository is right by what was found there, where nothing has still to be settled.
     ensures right { IfOk result (λ finished. IfOk finished.ran (λ ran. AreRight (run_found found plan.start) 0 ran.traces)) }
     ensures told { IfOk result (λ finished. IfOk finished.ran (λ ran. length ran.traces ≡ parts_in found)) }
+    // The lines are what these traces have as committed.
+    ensures lines { IfOk result (λ finished. IfOk finished.ran (λ ran. ran.lines ≡ committed_lines ran.traces)) }
     ensures found { IfOk result (λ _. IsFoundIn P.disks found plan.start) }
 {
     played::<P, Brand>(alloc, found, plan, events)
@@ -46,6 +49,7 @@ fn played<P: Parts, O: Opening>(
     ensures err { IfErr result (λ fault. vec_len fault.parts ≡ parts_in found) }
     ensures right { IfOk result (λ finished. IfOk finished.ran (λ ran. AreRight O.run 0 ran.traces)) }
     ensures told { IfOk result (λ finished. IfOk finished.ran (λ ran. length ran.traces ≡ parts_in found)) }
+    ensures lines { IfOk result (λ finished. IfOk finished.ran (λ ran. ran.lines ≡ committed_lines ran.traces)) }
     ensures found { IfOk result (λ _. IsFoundIn P.disks found plan.start) }
 {
     match Cluster::<P, O>::open(alloc, found, plan) {
@@ -59,6 +63,7 @@ fn run<P: Parts, O: Opening>(cluster: Cluster<P, O>, events: &[Event]) -> Finish
     ensures parts { vec_len result.parts ≡ parts_of cluster }
     ensures right { IfOk result.ran (λ ran. AreRight O.run 0 ran.traces) }
     ensures told { IfOk result.ran (λ ran. length ran.traces ≡ parts_of cluster) }
+    ensures lines { IfOk result.ran (λ ran. ran.lines ≡ committed_lines ran.traces) }
 {
     let mut cluster = cluster;
     match perform(&mut cluster, events) {

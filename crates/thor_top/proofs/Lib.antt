@@ -1,3 +1,4 @@
 pub mod HistoryLaws
+pub mod LineLaws
 pub mod ReplyLaws
 pub mod StageLaws

@@ -34,7 +34,7 @@ module _ (D : DiskBytes) (L M : Plan → Type 0) (N O : Type 0) (f : (p : Plan) 
   says_map (reply.Disagrees at) says = by_other L M _ f says
   says_map (reply.NoReport line) says = by_other L M _ f says
 
-handed_is : (words : List (List ℕ)) (count : ℕ) (plan : Plan) → plan_of words ≡ Some plan → (p : Plan) → IsHanded plan count p → IsPlan words count p
+pub handed_is : (words : List (List ℕ)) (count : ℕ) (plan : Plan) → plan_of words ≡ Some plan → (p : Plan) → IsHanded plan count p → IsPlan words count p
 handed_is words count plan is p handed = record { words_are = subst (λ (q : Plan). plan_of words ≡ Some q) (sym handed.same) is; repos_are = handed.repos_are }
 
 for_others : (words : List (List ℕ)) (count : ℕ) (plan : Plan) → plan_of words ≡ Some plan → IsForOthers plan count → IsNoPlan words count

@@ -1,5 +1,6 @@
 //! The answer to a plan, on one thread or on several, and to words.
 
+ghost use Rattle.cluster_core.specs.Committed.{committed_lines};
 ghost use Rattle.cluster_core.specs.Histories.{AreHistories, AreHistoriesIf};
 ghost use Rattle.repo_opening.specs.Same.{AreSame};
 ghost use Rattle.std.specs.Prelude.{IfOk, Some, [], vec_len, ◌≡◌};
@@ -7,7 +8,7 @@ ghost use Rattle.store_opening.specs.Reading.{ReadAll};
 ghost use Rattle.thor_top.specs.Stages.{IsInTurn};
 ghost use Rattle.top_statement.specs.Kept.{RefusesBy, WritesNothing};
 ghost use Rattle.top_statement.specs.Telling.{TellsRunBy};
-ghost use Rattle.top_statement.specs.Top.{IsForOthers, IsHanded, IsNoPlan, IsPlan, Says, told_by};
+ghost use Rattle.top_statement.specs.Top.{IsForOthers, IsHanded, IsNoPlan, IsPlan, Says, SaysLines, told_by};
 ghost use Rattle.top_words.specs.Words.{plan_of};
 ghost use Rattle.top_words.specs.declared.command.Command.TheVariants.{Audit, Check};
 ghost use Rattle.top_words.specs.declared.command.Plan.{Plan};
@@ -37,6 +38,7 @@ pub(crate) fn answer_in_turn<S: Source, P: Parts>(
     ensures kept { WritesNothing plan.now.command result.reply → AreSame P.disks parts.items result.parts.items }
     ensures histories { AreHistoriesIf P.disks parts.items result.traces }
     ensures reported { TellsRunBy result.reply → AreHistories P.disks parts.items result.traces }
+    ensures committed { IfOk result.reply (SaysLines (committed_lines result.traces) (ReadAll P.disks parts.items) (IsHanded plan.now (vec_len parts)) (told_by S.left S.faults source.old) (told_by S.left S.faults source.new)) }
 {
     match begin(alloc, plan, source, parts) {
         Ok(found_run) => run_in_turn(alloc, found_run),
@@ -94,6 +96,7 @@ fn answer_plan<R: Threads + Wait + Sync, S: Source, P: Parts + Send, G: Gate + S
     ensures kept { WritesNothing plan.now.command result.reply → AreSame P.disks parts.items result.parts.items }
     ensures histories { IsInTurn plan.now.command → AreHistoriesIf P.disks parts.items result.traces }
     ensures reported { IsInTurn plan.now.command → TellsRunBy result.reply → AreHistories P.disks parts.items result.traces }
+    ensures committed { IsInTurn plan.now.command → IfOk result.reply (SaysLines (committed_lines result.traces) (ReadAll P.disks parts.items) (IsHanded plan.now (vec_len parts)) (told_by S.left S.faults source.old) (told_by S.left S.faults source.new)) }
 {
     match plan.command {
         Command::Run => answer_on_threads(alloc, runtime, plan, source, parts),
@@ -118,6 +121,7 @@ pub(crate) fn answer<R: Threads + Wait + Sync, S: Source, P: Parts + Send, G: Ga
     ensures audited { (plan : Plan) → plan_of words.now ≡ Some plan → plan.command ≡ Audit → AreSame P.disks parts.items result.parts.items }
     ensures histories { (plan : Plan) → plan_of words.now ≡ Some plan → IsInTurn plan.command → AreHistoriesIf P.disks parts.items result.traces }
     ensures reported { (plan : Plan) → plan_of words.now ≡ Some plan → IsInTurn plan.command → TellsRunBy result.reply → AreHistories P.disks parts.items result.traces }
+    ensures committed { (plan : Plan) → plan_of words.now ≡ Some plan → IsInTurn plan.command → IfOk result.reply (SaysLines (committed_lines result.traces) (ReadAll P.disks parts.items) (IsPlan words.now (vec_len parts)) (told_by S.left S.faults source.old) (told_by S.left S.faults source.new)) }
 {
     match read_words(alloc, words) {
         Ok(plan) => answer_plan(alloc, runtime, &plan, source, parts),

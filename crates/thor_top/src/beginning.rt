@@ -5,7 +5,7 @@ ghost use Rattle.script_parse.specs.Script.{HasFew};
 ghost use Rattle.std.specs.Prelude.{IfErr, IfOk, List, length, vec_len, ◌≡◌, ◌≤◌};
 ghost use Rattle.store_opening.specs.Counts.{HasParts, parts_in};
 ghost use Rattle.store_opening.specs.Reading.{ReadAll};
-ghost use Rattle.thor_top.specs.Stages.{Foretells, IsForStore, IsPlayed};
+ghost use Rattle.thor_top.specs.Stages.{Foretells, IsAwaited, IsAwaitedBy, IsForStore, IsPlayed};
 ghost use Rattle.top_judging.specs.Stages.{IsJudged, RepliesUnsettled};
 ghost use Rattle.top_reply.specs.declared.reply.Reply.{Reply as AReply};
 ghost use Rattle.top_statement.specs.Opening.{IsStoredBy};
@@ -60,6 +60,7 @@ fn begin_judged<P: Parts>(
     requires judged { IsJudged plan.now script judged.found.store judged.base }
     requires store { IsForStore plan.now.command }
     ensures foretells { (given : List P) → IsStoredBy (ReadAll P.disks given) judged.found.store → IfOk result (λ run. Foretells (RepliesTo (ReadAll P.disks given) plan.now script) run.expected) }
+    ensures awaited { (given : List P) → IsStoredBy (ReadAll P.disks given) judged.found.store → IfOk result (λ run. IsAwaited (ReadAll P.disks given) plan.now script run.expected) }
     ensures played { IfOk result (λ run. IsPlayed plan.now.command) }
     ensures found { IfOk result (λ run. run.found ≡ judged.found) }
     ensures reply { (given : List P) → IsStoredBy (ReadAll P.disks given) judged.found.store → IfErr result (λ a. IfOk a.reply (RepliesTo (ReadAll P.disks given) plan.now script)) }
@@ -89,6 +90,7 @@ fn begin_script<P: Parts>(
     requires clients { length script.clients ≤ 64 }
     requires events { length script.events ≤ 1000000 }
     ensures foretells { IfOk result (λ run. Foretells (RepliesTo (ReadAll P.disks parts.items) plan.now script) run.expected) }
+    ensures awaited { IfOk result (λ run. IsAwaited (ReadAll P.disks parts.items) plan.now script run.expected) }
     ensures played { IfOk result (λ run. IsPlayed plan.now.command) }
     ensures count { IfOk result (λ run. parts_in run.found ≡ vec_len parts) }
     ensures found { IfOk result (λ run. HasParts P.disks parts.items run.found) }
@@ -115,6 +117,7 @@ pub(crate) fn begin<S: Source, P: Parts>(
     parts: Vec<P>,
 ) -> Result<FoundRun<P>, Answered<P>>
     ensures foretells { IfOk result (λ run. Foretells (Says (ReadAll P.disks parts.items) (IsHanded plan.now (vec_len parts)) (IsForOthers plan.now (vec_len parts)) (told_by S.left S.faults source.old) (told_by S.left S.faults source.new)) run.expected) }
+    ensures awaited { IfOk result (λ run. IsAwaitedBy (ReadAll P.disks parts.items) (IsHanded plan.now (vec_len parts)) (told_by S.left S.faults source.old) (told_by S.left S.faults source.new) run.expected) }
     ensures fails { IfOk result (λ run. (r : AReply) → RepliesUnsettled r → Says (ReadAll P.disks parts.items) (IsHanded plan.now (vec_len parts)) (IsForOthers plan.now (vec_len parts)) (told_by S.left S.faults source.old) (told_by S.left S.faults source.new) r) }
     ensures played { IfOk result (λ run. IsPlayed plan.now.command) }
     ensures count { IfOk result (λ run. parts_in run.found ≡ vec_len parts) }

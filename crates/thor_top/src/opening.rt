@@ -5,7 +5,7 @@ ghost use Rattle.serial_model.specs.Replays.{AreMade};
 ghost use Rattle.std.specs.Prelude.{IfErr, IfOk, List, vec_len, ◌≡◌, ℕ};
 ghost use Rattle.store_opening.specs.Counts.{parts_in};
 ghost use Rattle.store_opening.specs.Reading.{IsStoredIn, ReadAll};
-ghost use Rattle.thor_top.specs.Stages.{Foretells, RepliesRun};
+ghost use Rattle.thor_top.specs.Stages.{Awaits, Foretells, RepliesRun};
 ghost use Rattle.thor_value.specs.FiniteMap.{IsSorted};
 ghost use Rattle.top_judging.specs.Stages.{IsJudged, IsOpenedAs, RepliesUnsettled};
 ghost use Rattle.top_statement.specs.Opening.{IsStore, IsStoredBy};
@@ -115,6 +115,7 @@ pub(crate) fn run_on<P: Parts>(
 ) -> Result<FoundRun<P>, Answered<P>>
     requires { IsJudged plan.now script judged.found.store judged.base }
     ensures foretells { (given : List P) → IsStoredBy (ReadAll P.disks given) judged.found.store → IfOk result (λ run. Foretells (RepliesRun (ReadAll P.disks given) (running_of plan.now.command) form plan.now.repos script) run.expected) }
+    ensures awaits { (given : List P) → IsStoredBy (ReadAll P.disks given) judged.found.store → IfOk result (λ run. Awaits (ReadAll P.disks given) plan.now form script run.expected) }
     ensures found { IfOk result (λ run. run.found ≡ judged.found) }
     ensures reply { IfErr result (λ a. IfOk a.reply RepliesUnsettled) }
     ensures parts { IfErr result (λ a. vec_len a.parts ≡ parts_in judged.found) }

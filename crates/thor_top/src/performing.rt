@@ -1,5 +1,6 @@
 //! A plan is performed, and the reply written.
 
+ghost use Rattle.cluster_core.specs.Committed.{committed_lines};
 ghost use Rattle.cluster_core.specs.Histories.{AreHistories, AreHistoriesIf};
 ghost use Rattle.outside.specs.Faults.{Rose};
 ghost use Rattle.repo_opening.specs.Same.{AreSame};
@@ -8,7 +9,7 @@ ghost use Rattle.store_opening.specs.Reading.{ReadAll};
 ghost use Rattle.thor_top.specs.Stages.{IsInTurn};
 ghost use Rattle.top_statement.specs.Kept.{RefusesBy};
 ghost use Rattle.top_statement.specs.Telling.{TellsRunBy};
-ghost use Rattle.top_statement.specs.Top.{IsForOthers, IsHanded, Says, told_by};
+ghost use Rattle.top_statement.specs.Top.{IsForOthers, IsHanded, Says, SaysLines, told_by};
 ghost use Rattle.top_statement.specs.Written.{Wrote};
 ghost use Rattle.top_words.specs.declared.command.Command.TheVariants.{Audit, Check};
 
@@ -52,6 +53,8 @@ pub fn perform<S: Source, K: Sink, P: Parts>(
     ensures histories { AreHistoriesIf P.disks parts.repositories.items result.traces }
     // Where a run is told, each repository has such a history.
     ensures reported { TellsRunBy result.reply → AreHistories P.disks parts.repositories.items result.traces }
+    // The history that is told is what the repositories have committed, by their traces.
+    ensures committed { IfOk result.reply (SaysLines (committed_lines result.traces) (ReadAll P.disks parts.repositories.items) (IsHanded plan (vec_len parts.repositories)) (told_by S.left S.faults source.old) (told_by S.left S.faults source.new)) }
 {
     let StoreParts { repositories } = parts;
     let answered = answer_in_turn(alloc, &plan, source, repositories);

@@ -1,9 +1,10 @@
 //! A run is made and told.
 
+ghost use Rattle.cluster_core.specs.Committed.{committed_lines};
 ghost use Rattle.cluster_core.specs.Histories.{AreHistories, AreHistoriesIf};
 ghost use Rattle.std.specs.Prelude.{IfErr, IfOk, List, vec_len, ◌≡◌};
 ghost use Rattle.store_opening.specs.Counts.{HasParts, parts_in};
-ghost use Rattle.thor_top.specs.Stages.{IsToldOf};
+ghost use Rattle.thor_top.specs.Stages.{IsToldOf, IsToldWith};
 ghost use Rattle.thor_value.specs.FiniteMap.{IsSorted};
 ghost use Rattle.top_statement.specs.Telling.{TellsRunBy};
 
@@ -35,6 +36,7 @@ pub(crate) fn run_in_turn<P: Parts>(alloc: Global, run: FoundRun<P>) -> Answered
     ensures parts { vec_len result.parts ≡ parts_in run.found }
     ensures histories { (given : List P) → HasParts P.disks given run.found → AreHistoriesIf P.disks given result.traces }
     ensures reported { (given : List P) → HasParts P.disks given run.found → TellsRunBy result.reply → AreHistories P.disks given result.traces }
+    ensures committed { TellsRunBy result.reply → IfOk result.reply (IsToldWith (committed_lines result.traces) run.expected) }
 {
     let FoundRun {
         found,

@@ -1,7 +1,7 @@
 //! What is replied of a run that was made.
 
 ghost use Rattle.std.specs.Prelude.{IfErr, IfOk, IsOk, [], ◌≡◌};
-ghost use Rattle.thor_top.specs.Stages.{AreTracesOf, IsToldOf, TracesOf, WasMade};
+ghost use Rattle.thor_top.specs.Stages.{AreTracesOf, IsToldOf, IsToldWith, TracesOf, WasMade};
 ghost use Rattle.top_judging.specs.Stages.{RepliesUnsettled};
 ghost use Rattle.thor_value.specs.FiniteMap.{IsSorted};
 ghost use Rattle.top_reply.specs.Reports.{IsReported};
@@ -30,6 +30,8 @@ fn reported(
     ensures traces { TracesOf ran result.1 }
     // A run is told where one was made.
     ensures ran { TellsRunBy result.0 → IsOk ran }
+    // Its history has the lines of that one.
+    ensures lines { IfOk ran (λ r. IfOk result.0 (IsToldWith r.lines expected.now)) }
 {
     match ran {
         Ok(
@@ -64,6 +66,7 @@ fn told<P: Parts>(alloc: Global, expected: Expected, finished: Finished<P>) -> A
     ensures parts { result.parts ≡ finished.parts }
     ensures traces { TracesOf finished.ran result.traces }
     ensures ran { TellsRunBy result.reply → IsOk finished.ran }
+    ensures lines { IfOk finished.ran (λ r. IfOk result.reply (IsToldWith r.lines expected)) }
 {
     let Finished { parts, ran } = finished;
     let (reply, traces) = reported(alloc, &expected, ran);
@@ -99,6 +102,8 @@ pub(crate) fn replied<P: Parts>(
     ensures traces { AreTracesOf played result.traces }
     // A run is told where one was made.
     ensures ran { TellsRunBy result.reply → WasMade played }
+    // Its history has the lines of that one.
+    ensures lines { IfOk played (λ finished. IfOk finished.ran (λ r. IfOk result.reply (IsToldWith r.lines expected))) }
 {
     match played {
         Ok(finished) => told(alloc, expected, finished),

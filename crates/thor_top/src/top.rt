@@ -1,14 +1,15 @@
 ghost use Rattle.audit_check.specs.declared.disagreement.Disagreement.{Disagreement};
+ghost use Rattle.cluster_core.specs.Committed.{committed_lines};
 ghost use Rattle.cluster_core.specs.Histories.{AreHistories, AreHistoriesIf};
 ghost use Rattle.outside.specs.Faults.{Rose};
 ghost use Rattle.repo_opening.specs.Same.{AreSame};
 ghost use Rattle.script_parse.specs.declared.refusal.Refusal.{Refusal};
-ghost use Rattle.std.specs.Prelude.{Bool, List, Ok, Some, vec_len, ℕ, ◌≡◌};
+ghost use Rattle.std.specs.Prelude.{Bool, IfOk, List, Ok, Some, vec_len, ℕ, ◌≡◌};
 ghost use Rattle.store_opening.specs.Reading.{ReadAll};
 ghost use Rattle.thor_top.specs.Stages.{IsInTurn};
 ghost use Rattle.top_statement.specs.Kept.{RefusesBy};
 ghost use Rattle.top_statement.specs.Telling.{TellsRunBy};
-ghost use Rattle.top_statement.specs.Top.{IsNoPlan, IsPlan, SaysAccepted, SaysDamaged, SaysDisagrees, SaysDisk, SaysLegal, SaysLimit, SaysNoReport, SaysRefused, SaysRun, SaysSource, SaysWords, told_by};
+ghost use Rattle.top_statement.specs.Top.{IsNoPlan, IsPlan, SaysAccepted, SaysDamaged, SaysDisagrees, SaysDisk, SaysLegal, SaysLimit, SaysLines, SaysNoReport, SaysRefused, SaysRun, SaysSource, SaysWords, told_by};
 ghost use Rattle.top_statement.specs.Written.{Wrote};
 ghost use Rattle.top_words.specs.Words.{plan_of};
 ghost use Rattle.top_words.specs.declared.command.Command.TheVariants.{Audit, Check};
@@ -81,6 +82,8 @@ pub fn thor<R: Threads + Wait + Sync, S: Source, K: Sink, P: Parts + Send, G: Ga
     ensures histories { (plan : Plan) → plan_of words.now ≡ Some plan → IsInTurn plan.command → AreHistoriesIf P.disks parts.repositories.items result.traces }
     // Where a run is told that was made on one thread, each repository has such a history.
     ensures reported { (plan : Plan) → plan_of words.now ≡ Some plan → IsInTurn plan.command → TellsRunBy result.reply → AreHistories P.disks parts.repositories.items result.traces }
+    // The history that is told of such a run is what the repositories have committed, by their traces.
+    ensures committed { (plan : Plan) → plan_of words.now ≡ Some plan → IsInTurn plan.command → IfOk result.reply (SaysLines (committed_lines result.traces) (ReadAll P.disks parts.repositories.items) (IsPlan words.now (vec_len parts.repositories)) (told_by S.left S.faults source.old) (told_by S.left S.faults source.new)) }
 {
     let runtime = Runtime { rt, gate };
     let StoreParts { repositories } = parts;

@@ -1,5 +1,5 @@
-ghost use Rattle.std.specs.Prelude.{◌≡◌, Some, IfOk, IfSome, option_copied};
-ghost use Rattle.top_history_check.specs.Lines.{ArePerformed, item_of};
+ghost use Rattle.std.specs.Prelude.{◌≡◌, Some, IfOk, IfSome, map, option_copied};
+ghost use Rattle.top_history_check.specs.Lines.{ArePerformed, item_of, line_of};
 
 use serial_model::{Did, Dids, What};
 use std::alloc::Global;
@@ -39,7 +39,8 @@ fn item_of(clients: &[Items], who: Who) -> Option<&What>
 
 /// A line with its item of the script; `None` where it is of no item.
 fn performed(clients: &[Items], line: Line) -> Result<Option<Did>, NoMemory>
-    ensures { IfOk result (λ did. IfSome did (λ d. item_of clients.now d.who ≡ Some d.what)) }
+    ensures item { IfOk result (λ did. IfSome did (λ d. item_of clients.now d.who ≡ Some d.what)) }
+    ensures line { IfOk result (λ did. IfSome did (λ d. line_of d ≡ line)) }
 {
     let Some(what) = item_of(clients, line.who) else {
         return Ok(None);
@@ -57,7 +58,8 @@ fn performed(clients: &[Items], line: Line) -> Result<Option<Did>, NoMemory>
 /// The serial history that the lines tell, each with its item of the script. `None` where a line is of no
 /// item.
 pub fn history_of(alloc: Global, clients: &[Items], lines: Lines) -> Result<Option<Dids>, NoMemory>
-    ensures { IfOk result (λ history. IfSome history (ArePerformed clients.now)) }
+    ensures performed { IfOk result (λ history. IfSome history (ArePerformed clients.now)) }
+    ensures lines { IfOk result (λ history. IfSome history (λ h. map line_of h ≡ lines)) }
 {
     let mut history = Dids::new(alloc);
     for line in lines.into_vec() {

@@ -1,8 +1,8 @@
-ghost use Rattle.std.specs.Prelude.{IfOk, IfSome, ◌≡◌, true};
+ghost use Rattle.std.specs.Prelude.{IfOk, IfSome, map, ◌≡◌, true};
 ghost use Rattle.serial_model.specs.History.{IsLegal, after};
 ghost use Rattle.serial_model.specs.Outcomes.{Answers, all_items};
 ghost use Rattle.serial_model.specs.Replays.{AreMade};
-ghost use Rattle.top_history_check.specs.Lines.{ArePerformed};
+ghost use Rattle.top_history_check.specs.Lines.{ArePerformed, line_of};
 ghost use Rattle.thor_value.specs.FiniteMap.{IsSorted};
 
 use crate::answers::are_answered;
@@ -57,6 +57,8 @@ pub fn checked_history(
     ensures legal { IfOk result (λ found. IfSome found (λ checked. IsLegal schemas.now checked.history store.now)) }
     ensures answers { IfOk result (λ found. IfSome found (λ checked. Answers checked.history (all_items clients.now) ends.now)) }
     ensures end { IfOk result (λ found. IfSome found (λ checked. checked.end ≡ after schemas.now checked.history store.now)) }
+    // It is the history of these lines and of no others.
+    ensures lines { IfOk result (λ found. IfSome found (λ checked. map line_of checked.history ≡ lines)) }
 {
     let Some(history) = history_of(alloc, clients.as_slice(), lines)? else {
         return Ok(None);

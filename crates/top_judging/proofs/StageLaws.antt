@@ -161,7 +161,7 @@ module _ (D : DiskBytes) (Like : Plan → Type 0) (NoPlan : Type 0) (plan : Plan
   same_disks (Gen n) script from P p = p
   same_disks Audit script from P p = absurd from
 
-  has_script : (m : Origin) (script : Script) → IsScriptFor m plan.repos before after script → (bytes : List ℕ) × (HasBytes m plan.repos before after bytes × IsWritten bytes script)
+  pub has_script : (m : Origin) (script : Script) → IsScriptFor m plan.repos before after script → (bytes : List ℕ) × (HasBytes m plan.repos before after bytes × IsWritten bytes script)
   has_script Whole script from = (from.bytes, (from.was, from.read.written))
   has_script Front script from = absurd from
   has_script (Generated n) script from = (script_text n plan.repos, ((from.0, refl), from.1.written))

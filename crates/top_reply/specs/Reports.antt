@@ -1,6 +1,6 @@
 -- What a report or a summary tells of a run (this project's).
 use Rattle.std.specs.List.{list_all, list_any}
-use Rattle.std.specs.Prelude.{◌≡◌, ◌==◌, ◌&&◌, ℕ, ℤ, Bool, true, false, not, List, [], ◌∷◌, is_some, length}
+use Rattle.std.specs.Prelude.{◌≡◌, ◌==◌, ◌&&◌, ℕ, ℤ, Bool, true, false, not, List, [], ◌∷◌, is_some, length, map}
 use Rattle.class_defs.specs.Epochs.{classes_of}
 use Rattle.class_defs.specs.declared.store.Plain.{Plain}
 use Rattle.class_defs.specs.declared.store.Schemas.{Schemas}
@@ -18,6 +18,8 @@ use Rattle.serial_model.specs.declared.outcomes.Cause.TheVariants as cause
 use Rattle.serial_model.specs.declared.outcomes.Ended.{Ended}
 use Rattle.serial_model.specs.declared.outcomes.ItemOutcome.{ItemOutcome}
 use Rattle.serial_model.specs.declared.outcomes.ItemOutcome.TheVariants.{Done, Upgraded, Faulted, Refused, Unknown}
+use Rattle.top_history_check.specs.Lines.{line_of}
+use Rattle.top_history_check.specs.declared.assembling.Line.{Line}
 use Rattle.top_reply.specs.Replies.{run_reply}
 use Rattle.top_reply.specs.declared.form.Form.{Form}
 use Rattle.top_reply.specs.declared.form.Form.TheVariants as form
@@ -118,3 +120,14 @@ pub record IsRun (running : Running) (form : Form) (schemas : Schemas) (store : 
 -- the reply tells a run in this form
 abbrev pub IsReported : Running → Form → Schemas → Plain → Script → Reply → Type 0
 IsReported running form schemas store script r = (finished : Bool) × ((text : List ℕ) × ((r ≡ run_reply form finished text) × IsRun running form schemas store script finished text))
+
+-- ---- a run of which the lines are known
+
+-- The text is that of a run whose history has these lines: they are its entries, without the items that these performed.
+pub record IsRunWith (lines : List Line) (running : Running) (form : Form) (schemas : Schemas) (store : Plain) (script : Script) (finished : Bool) (text : List ℕ) : Type 0 where
+  pub run : IsRun running form schemas store script finished text
+  pub has : map line_of run.history ≡ lines
+
+-- the reply tells such a run in this form
+abbrev pub IsReportedWith : List Line → Running → Form → Schemas → Plain → Script → Reply → Type 0
+IsReportedWith lines running form schemas store script r = (finished : Bool) × ((text : List ℕ) × ((r ≡ run_reply form finished text) × IsRunWith lines running form schemas store script finished text))

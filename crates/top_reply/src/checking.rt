@@ -6,7 +6,7 @@ ghost use Rattle.serial_model.specs.History.{IsLegal, after};
 ghost use Rattle.class_defs.specs.declared.store.Plain.{Plain};
 ghost use Rattle.top_reply.specs.Reports as spec;
 ghost use Rattle.top_reply.specs.Replies.{run_reply};
-ghost use Rattle.top_reply.specs.Reports.{IsReported, IsRun, TellsAs};
+ghost use Rattle.top_reply.specs.Reports.{IsReported, IsReportedWith, IsRunWith, TellsAs};
 ghost use Rattle.thor_value.specs.FiniteMap.{IsSorted};
 
 use crate::form::Form;
@@ -184,7 +184,7 @@ fn told_run(
     ends: &Ends,
 ) -> Result<ToldRun, NoMemory>
     requires { IsSorted store.now.objects }
-    ensures { IfOk result (λ run. IsRun running form schemas.now store.now script.now run.finished run.text) }
+    ensures { IfOk result (λ run. IsRunWith lines running form schemas.now store.now script.now run.finished run.text) }
 {
     if !are_made(schemas) || !is_unhindered(running, script, ends.as_slice()) {
         return Err(NoMemory);
@@ -226,7 +226,9 @@ pub fn report(
     ends: &Ends,
 ) -> Result<Reply, NoMemory>
     requires { IsSorted store.now.objects }
-    ensures { IfOk result (IsReported running form schemas.now store.now script.now) }
+    ensures reported { IfOk result (IsReported running form schemas.now store.now script.now) }
+    // Its history has these lines.
+    ensures lines { IfOk result (IsReportedWith lines running form schemas.now store.now script.now) }
 {
     let run = told_run(alloc, running, form, schemas, store, script, lines, ends)?;
     Ok(run_reply(form, run))

@@ -1,5 +1,5 @@
 -- What the program replies (this project's): for each reply what is true where it is given.
-use Rattle.std.specs.Prelude.{◌≡◌, ◌⊎◌, ◌+◌, ℕ, Bool, List, Option, None, Some, length, ◌≤◌, ◌<◌}
+use Rattle.std.specs.Prelude.{◌≡◌, ◌⊎◌, ◌+◌, ℕ, Bool, List, Option, None, Some, length, map, ◌≤◌, ◌<◌}
 use Rattle.script_bank.specs.Bank.{script_text}
 use Rattle.outside.specs.Faults.{Rose}
 use Rattle.outside.specs.Streams.{IsAtEnd, IsMoreThan, Took}
@@ -16,9 +16,12 @@ use Rattle.script_parse.specs.declared.script.Script.{Script}
 use Rattle.store_opening.specs.Limits.{HasCountAbove, HasLifeAbove}
 use Rattle.store_opening.specs.Reading.{epochs_in}
 use Rattle.store_opening.specs.declared.found.Store.{Store}
+use Rattle.top_history_check.specs.Lines.{line_of}
+use Rattle.top_history_check.specs.declared.assembling.Line.{Line}
 use Rattle.top_statement.specs.Audits.{DisagreesAt, IsNoReport, IsTrueReport, audited_of, report_part, script_part}
 use Rattle.top_statement.specs.Opening.{DiskBytes, FitsDisks, FreshBytes, IsAccepted, IsBase, IsStoredBy, MisfitsDisks, OneOfDisks, first_schemas}
 use Rattle.top_statement.specs.Reports.{IsReport}
+use Rattle.top_statement.specs.Telling.{TellsRun}
 use Rattle.top_words.specs.Words.{plan_of}
 use Rattle.top_words.specs.declared.command.Command.{Command}
 use Rattle.top_words.specs.declared.command.Command.TheVariants.{Audit, Check, Play, Run, Gen}
@@ -294,3 +297,29 @@ Says DiskReads Like NoPlan before after reply.SourceFault = SaysSource Like befo
 Says DiskReads Like NoPlan before after reply.Legal = SaysLegal Like before after
 Says DiskReads Like NoPlan before after (reply.Disagrees at) = SaysDisagrees Like before after at
 Says DiskReads Like NoPlan before after (reply.NoReport line) = SaysNoReport Like before after line
+
+-- ---- a run of which the lines are known
+
+-- The text is that of the script's run, and its history has these lines: they are its entries, without the items that these performed.
+pub record IsRunOfLines (lines : List Line) (DiskReads : DiskBytes) (f : Form) (plan : Plan) (script : Script) (finished : Bool) (text : List ℕ) : Type 0 where
+  pub told : IsRunOf DiskReads f plan script finished text
+  pub has : map line_of told.1.1.1.run.history ≡ lines
+
+-- the reply tells such a run
+abbrev pub RepliesLines : List Line → DiskBytes → Plan → Script → Reply → Type 0
+RepliesLines lines DiskReads plan script (reply.Report finished text) = IsRunOfLines lines DiskReads form.Report plan script finished text
+RepliesLines lines DiskReads plan script (reply.Summary finished text) = IsRunOfLines lines DiskReads form.Summary plan script finished text
+RepliesLines lines DiskReads plan script reply.Accepted = ⊥
+RepliesLines lines DiskReads plan script (reply.Refused refusal) = ⊥
+RepliesLines lines DiskReads plan script (reply.Limit limit) = ⊥
+RepliesLines lines DiskReads plan script (reply.DiskFault repo) = ⊥
+RepliesLines lines DiskReads plan script (reply.Damaged repo disk place) = ⊥
+RepliesLines lines DiskReads plan script reply.Words = ⊥
+RepliesLines lines DiskReads plan script reply.SourceFault = ⊥
+RepliesLines lines DiskReads plan script reply.Legal = ⊥
+RepliesLines lines DiskReads plan script (reply.Disagrees at) = ⊥
+RepliesLines lines DiskReads plan script (reply.NoReport line) = ⊥
+
+-- Where the reply tells a run, it is one of the script that was read, and its history has these lines.
+abbrev pub SaysLines : List Line → DiskBytes → (Plan → Type 0) → Told → Told → Reply → Type 0
+SaysLines lines DiskReads Like before after r = TellsRun r → ByPlan Like (λ plan. OfScript plan before after (λ script. RepliesLines lines DiskReads plan script r))

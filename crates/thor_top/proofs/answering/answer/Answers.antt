@@ -1,14 +1,16 @@
+use Rattle.cluster_core.specs.Committed.{committed_lines}
 use Rattle.std.proofs.Common.{Err, IfOk, Result, inl, refl, subst, sym, vec_len}
 use Rattle.store_opening.specs.Reading.{ReadAll}
 use Rattle.thor_top.proofs.HistoryLaws.{one_in_turn}
-use Rattle.thor_top.proofs.ReplyLaws.{audit_writes, check_writes, no_words, one_audit, one_check, words_say, writes_nothing}
+use Rattle.thor_top.proofs.LineLaws.{none_said, other_lines}
+use Rattle.thor_top.proofs.ReplyLaws.{audit_writes, check_writes, handed_is, no_words, one_audit, one_check, words_say, writes_nothing}
 use Rattle.thor_value.specs.declared.memory.NoMemory.{NoMemory}
 use Rattle.top_judging.proofs.StageLaws.{ok_map}
 use Rattle.top_reply.specs.declared.reply.Reply.{Reply}
 use Rattle.top_statement.specs.Top.{IsForOthers, IsHanded, IsNoPlan, IsPlan, Says, Told, told_by}
 use Rattle.top_words.specs.Words.{Gives, plan_of}
 use Rattle.top_words.specs.declared.command.WordsFault.{WordsFault}
-use Rattle.top_statement.specs.Telling.{TellsRunBy}
+use Rattle.top_statement.specs.Telling.{TellsNoRun, TellsRunBy}
 use Rattle.thor_top.proofs.answering.answer.Goals as goal
 
 pub returns-in-Ok-clause-reply : goal.returns-in-Ok-clause-reply
@@ -57,3 +59,24 @@ returns-in-Err-Words-clause-reported g c = λ p is turn tells. absurd (subst (λ
 
 pub returns-in-Err-NoMemory-clause-reported : goal.returns-in-Err-NoMemory-clause-reported
 returns-in-Err-NoMemory-clause-reported g c = λ p is turn tells. absurd (subst (λ (q : Result Reply NoMemory). TellsRunBy q) c.untouched-in-Err-NoMemory.ensures.reply tells)
+
+pub returns-in-Ok-clause-committed : goal.returns-in-Ok-clause-committed
+returns-in-Ok-clause-committed g c = λ p is turn.
+    let D = ReadAll g.P.Parts.disks c.args.parts.items in
+    let words = c.args.words.now in
+    let plan = c.in-Ok.plan in
+    let count = vec_len c.args.parts in
+    let before : Told = told_by g.S.Source.left g.S.Source.faults c.args.source.now in
+    let after : Told = told_by g.S.Source.left g.S.Source.faults c.answer_plan.new.source in
+    other_lines (committed_lines c.answer_plan.result.traces) D (IsPlan words count) before after (IsHanded plan count) (handed_is words count plan c.in-Ok.ensures) c.answer_plan.result.reply
+    (c.answer_plan.ensures.committed (one_in_turn words plan p c.in-Ok.ensures is turn))
+
+pub returns-in-Err-Words-clause-committed : goal.returns-in-Err-Words-clause-committed
+returns-in-Err-Words-clause-committed g c = λ p is turn.
+    let before : Told = told_by g.S.Source.left g.S.Source.faults c.args.source.now in
+    none_said (committed_lines c.untouched.result.traces) (ReadAll g.P.Parts.disks c.args.parts.items) (IsPlan c.args.words.now (vec_len c.args.parts)) before before c.untouched.result.reply (subst (λ (q : Result Reply NoMemory). TellsNoRun q) (sym c.untouched.ensures.reply) (λ tells. tells))
+
+pub returns-in-Err-NoMemory-clause-committed : goal.returns-in-Err-NoMemory-clause-committed
+returns-in-Err-NoMemory-clause-committed g c = λ p is turn.
+    let before : Told = told_by g.S.Source.left g.S.Source.faults c.args.source.now in
+    none_said (committed_lines c.untouched-in-Err-NoMemory.result.traces) (ReadAll g.P.Parts.disks c.args.parts.items) (IsPlan c.args.words.now (vec_len c.args.parts)) before before c.untouched-in-Err-NoMemory.result.reply (subst (λ (q : Result Reply NoMemory). TellsNoRun q) (sym c.untouched-in-Err-NoMemory.ensures.reply) (λ tells. tells))

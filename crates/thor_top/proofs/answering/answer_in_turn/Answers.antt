@@ -1,8 +1,12 @@
-use Rattle.std.proofs.Common.{Result, inl, subst}
+use Rattle.std.proofs.Common.{Result, inl, subst, sym, vec_len}
+use Rattle.cluster_core.specs.Committed.{committed_lines}
+use Rattle.store_opening.specs.Reading.{ReadAll}
 use Rattle.thor_top.proofs.HistoryLaws.{told_says, told_writes_not}
+use Rattle.thor_top.proofs.LineLaws.{none_said, said_lines}
 use Rattle.thor_value.specs.declared.memory.NoMemory.{NoMemory}
 use Rattle.top_reply.specs.declared.reply.Reply.{Reply}
-use Rattle.top_statement.specs.Telling.{TellsRunBy}
+use Rattle.top_statement.specs.Telling.{TellsNoRun, TellsRunBy}
+use Rattle.top_statement.specs.Top.{IsHanded, Told, told_by}
 use Rattle.thor_top.proofs.answering.answer_in_turn.Goals as goal
 
 pub returns-in-Ok-clause-reply : goal.returns-in-Ok-clause-reply
@@ -25,3 +29,15 @@ returns-in-Ok-clause-reported g c = c.run_in_turn.ensures.reported c.args.parts.
 
 pub returns-in-Err-clause-reported : goal.returns-in-Err-clause-reported
 returns-in-Err-clause-reported g c = λ tells. absurd (c.in-Err.ensures.untold (subst (λ (q : Result Reply NoMemory). TellsRunBy q) c.untold.ensures.reply tells))
+
+pub returns-in-Ok-clause-committed : goal.returns-in-Ok-clause-committed
+returns-in-Ok-clause-committed g c =
+    let before : Told = told_by g.S.Source.left g.S.Source.faults c.args.source.now in
+    let after : Told = told_by g.S.Source.left g.S.Source.faults c.begin.new.source in
+    said_lines (committed_lines c.run_in_turn.result.traces) (ReadAll g.P.Parts.disks c.args.parts.items) (IsHanded c.args.plan.now (vec_len c.args.parts)) before after c.in-Ok.found_run.expected c.in-Ok.ensures.awaited c.run_in_turn.result.reply c.run_in_turn.ensures.committed
+
+pub returns-in-Err-clause-committed : goal.returns-in-Err-clause-committed
+returns-in-Err-clause-committed g c =
+    let before : Told = told_by g.S.Source.left g.S.Source.faults c.args.source.now in
+    let after : Told = told_by g.S.Source.left g.S.Source.faults c.begin.new.source in
+    none_said (committed_lines c.untold.result.traces) (ReadAll g.P.Parts.disks c.args.parts.items) (IsHanded c.args.plan.now (vec_len c.args.parts)) before after c.untold.result.reply (subst (λ (q : Result Reply NoMemory). TellsNoRun q) (sym c.untold.ensures.reply) c.in-Err.ensures.untold)

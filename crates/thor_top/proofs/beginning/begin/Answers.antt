@@ -1,7 +1,8 @@
 use Rattle.std.proofs.Common.{IfOk, Result, arith, refl, subst, sym, vec_len, ◌≡◌}
 use Rattle.store_opening.specs.Reading.{ReadAll}
+use Rattle.thor_top.proofs.LineLaws.{awaited_by}
 use Rattle.thor_top.proofs.StageLaws.{for_store, foretells_map, ok_always}
-use Rattle.thor_top.specs.Stages.{Foretells}
+use Rattle.thor_top.specs.Stages.{Foretells, IsAwaited, IsAwaitedBy}
 use Rattle.thor_value.specs.declared.memory.NoMemory.{NoMemory}
 use Rattle.top_judging.proofs.StageLaws.{err_map, none_says, ok_map, script_says, unsettled_replies}
 use Rattle.top_judging.specs.Stages.{RepliesUnsettled}
@@ -36,6 +37,20 @@ returns-in-Ok-clause-foretells g c =
     ok_map c.begin_script.result (λ run. Foretells replied run.expected) (λ run. Foretells says run.expected)
     (λ run. foretells_map replied says run.expected (script_says D (IsHanded plan count) (IsForOthers plan count) plan handed before after c.in-Ok.script c.in-Ok.ensures.script))
     c.begin_script.ensures.foretells
+
+pub returns-in-Ok-clause-awaited : goal.returns-in-Ok-clause-awaited
+returns-in-Ok-clause-awaited g c =
+    let D = ReadAll g.P.Parts.disks c.args.parts.items in
+    let plan = c.args.plan.now in
+    let count = vec_len c.args.parts in
+    let before : Told = told_by g.S.Source.left g.S.Source.faults c.args.source.now in
+    let after : Told = told_by g.S.Source.left g.S.Source.faults c.script_of.new.source in
+    let same = c.if-not-are_parts_of.ensures.same refl in
+    let repos : plan.repos ≡ count = omega (arith, same, c.as_slice.ensures.len) in
+    let handed : IsHanded plan count plan = record { same = refl; repos_are = repos } in
+    ok_map c.begin_script.result (λ run. IsAwaited D plan c.in-Ok.script run.expected) (λ run. IsAwaitedBy D (IsHanded plan count) before after run.expected)
+    (λ run. awaited_by D (IsHanded plan count) plan handed before after c.in-Ok.script c.in-Ok.ensures.script run.expected)
+    c.begin_script.ensures.awaited
 
 pub returns-in-Ok-clause-fails : goal.returns-in-Ok-clause-fails
 returns-in-Ok-clause-fails g c =

@@ -1,7 +1,7 @@
-use Rattle.std.proofs.Common.{IfOk}
+use Rattle.std.proofs.Common.{IfOk, sym}
 use Rattle.store_opening.specs.Reading.{ReadAll}
 use Rattle.thor_top.proofs.StageLaws.{foretells_map, no_form, ok_always, run_replies, unsettled_writes}
-use Rattle.thor_top.specs.Stages.{Foretells, IsPlayed, RepliesRun}
+use Rattle.thor_top.specs.Stages.{Awaits, Foretells, IsAwaited, IsPlayed, RepliesRun}
 use Rattle.top_judging.proofs.StageLaws.{err_map, fits_disks, ok_map, unsettled_replies}
 use Rattle.top_judging.specs.Stages.{RepliesUnsettled}
 use Rattle.top_statement.specs.Top.{RepliesTo, running_of}
@@ -46,3 +46,12 @@ pub returns-in-Some-clause-untold : goal.returns-in-Some-clause-untold
 returns-in-Some-clause-untold g c =
     err_map c.run_on.result (λ a. IfOk a.reply RepliesUnsettled) (λ a. TellsNoRun a.reply)
     (λ a. none_tell a.reply RepliesUnsettled unsettled_tells) c.run_on.ensures.reply
+
+pub returns-in-Some-clause-awaited : goal.returns-in-Some-clause-awaited
+returns-in-Some-clause-awaited g c = λ given stored.
+    let D = ReadAll g.P.Parts.disks given in
+    let plan = c.args.plan.now in
+    let form = c.in-Some.form in
+    let fits = fits_disks D c.args.script.setup c.args.judged.found.store stored c.requires.judged.fits in
+    ok_map c.run_on.result (λ run. Awaits D plan form c.args.script run.expected) (λ run. IsAwaited D plan c.args.script run.expected)
+    (λ run awaits. record { form = form; tells = sym c.in-Some.ensures; within = c.requires.judged.within; fits = fits; awaits = awaits }) (c.run_on.ensures.awaits given stored)

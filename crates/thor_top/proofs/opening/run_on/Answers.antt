@@ -1,4 +1,4 @@
-use Rattle.std.proofs.Common.{subst}
+use Rattle.std.proofs.Common.{refl, subst}
 use Rattle.store_opening.specs.Reading.{ReadAll}
 use Rattle.thor_top.proofs.StageLaws.{foretells_run, of_disks}
 use Rattle.thor_top.specs.Stages.{Foretells, RepliesRun}
@@ -15,3 +15,17 @@ returns-in-Ok-clause-foretells g c = λ given stored.
     let disks = of_disks D c.args.script.setup c.args.judged.base c.args.judged.found.store c.in-Ok.opened.store stored c.in-Ok.ensures.opened in
     subst (λ (running : Running). Foretells (tells_by running) e) c.running_of.ensures
     (foretells_run D c.args.plan.now.repos c.args.judged.base e c.requires.accepted c.in-Ok.ensures.schemas c.in-Ok.ensures.store disks c.in-Ok.ensures.sorted)
+
+pub returns-in-Ok-clause-awaits : goal.returns-in-Ok-clause-awaits
+returns-in-Ok-clause-awaits g c = λ given stored.
+    let D = ReadAll g.P.Parts.disks given in
+    record {
+      base = c.args.judged.base;
+      running = c.running_of.ensures;
+      form = refl;
+      same = refl;
+      schemas = c.in-Ok.ensures.schemas;
+      accepted = c.requires.accepted;
+      store_is = c.in-Ok.ensures.store;
+      of_disks = of_disks D c.args.script.setup c.args.judged.base c.args.judged.found.store c.in-Ok.opened.store stored c.in-Ok.ensures.opened;
+    }

@@ -24,3 +24,7 @@ returns-clause-histories g c = rw c.write_answer.ensures.traces c.answer_in_turn
 pub returns-clause-reported : goal.returns-clause-reported
 returns-clause-reported g c = λ tells. rw c.write_answer.ensures.traces
     (c.answer_in_turn-answered.ensures.reported (tells_of c.answer_in_turn-answered.result.reply c.write_answer.result.reply c.write_answer.ensures.reply tells))
+
+pub returns-clause-committed : goal.returns-clause-committed
+returns-clause-committed g c = rw c.write_answer.ensures.traces
+    (said_of c.answer_in_turn-answered.result.reply c.write_answer.result.reply _ c.write_answer.ensures.reply c.answer_in_turn-answered.ensures.committed)

@@ -1,5 +1,6 @@
 use Rattle.std.proofs.Common.{vec_len}
 use Rattle.thor_top.proofs.HistoryLaws.{many_of, of_played, of_told}
+use Rattle.thor_top.proofs.LineLaws.{told_made}
 use Rattle.thor_top.proofs.running.run_in_turn.Goals as goal
 
 pub returns-clause-histories : goal.returns-clause-histories
@@ -12,3 +13,7 @@ returns-clause-reported g c = λ given has tells.
 
 pub returns-clause-parts : goal.returns-clause-parts
 returns-clause-parts g c = many_of (λ v. vec_len v) (λ f. f.parts) (λ f. f.parts) c.play-played.result c.replied.result.parts (vec_len c.args.run.found.places) c.play-played.ensures.parts c.play-played.ensures.err c.replied.ensures.ok c.replied.ensures.err
+
+pub returns-clause-committed : goal.returns-clause-committed
+returns-clause-committed g c = λ tells.
+    told_made c.replied.result.reply c.replied.result.traces c.args.run.expected c.play-played.result (c.replied.ensures.ran tells) c.replied.ensures.traces c.replied.ensures.lines c.play-played.ensures.lines

@@ -1,6 +1,6 @@
 use Rattle.thor_top.proofs.ReplyLaws.{gives}
 use Rattle.top_reply.specs.declared.reply.Reply.TheVariants as reply
-use Rattle.top_statement.proofs.WrittenLaws.{refuses_of, tells_of}
+use Rattle.top_statement.proofs.WrittenLaws.{refuses_of, said_of, tells_of}
 use Rattle.thor_top.proofs.top.thor.Goals as goal
 
 pub returns-clause-report : goal.returns-clause-report
@@ -55,3 +55,7 @@ returns-clause-histories g c = λ p is turn. rw c.write_answer.ensures.traces (c
 pub returns-clause-reported : goal.returns-clause-reported
 returns-clause-reported g c = λ p is turn tells. rw c.write_answer.ensures.traces
     (c.answer-answered.ensures.reported p is turn (tells_of c.answer-answered.result.reply c.write_answer.result.reply c.write_answer.ensures.reply tells))
+
+pub returns-clause-committed : goal.returns-clause-committed
+returns-clause-committed g c = λ p is turn. rw c.write_answer.ensures.traces
+    (said_of c.answer-answered.result.reply c.write_answer.result.reply _ c.write_answer.ensures.reply (c.answer-answered.ensures.committed p is turn))

@@ -2,7 +2,7 @@ use Rattle.cluster_core.proofs.Ending.{ran_right, ran_told}
 use Rattle.cluster_core.proofs.cluster.Cluster.finish.Goals as goal
 
 pub returns-clause-right : goal.returns-clause-right
-returns-clause-right g c = ran_right g.O.Opening.run c.close_all-parts.result.1 c.gathered.result c.gathered.ensures c.close_all-parts.ensures.right
+returns-clause-right g c = ran_right g.O.Opening.run c.close_all-parts.result.1 c.gathered.result c.gathered.ensures.traces c.close_all-parts.ensures.right
 
 pub returns-clause-told : goal.returns-clause-told
-returns-clause-told g c = ran_told _ c.close_all-parts.result.1 c.gathered.result c.gathered.ensures c.close_all-parts.ensures.told
+returns-clause-told g c = ran_told _ c.close_all-parts.result.1 c.gathered.result c.gathered.ensures.traces c.close_all-parts.ensures.told
