@@ -1,8 +1,8 @@
 -- The history that is told of a run is what its repositories have committed, by their traces.
 use Rattle.class_defs.specs.declared.store.Schemas.{Schemas}
-use Rattle.cluster_core.specs.Committed.{committed_lines}
-use Rattle.cluster_core.specs.declared.finishing.Finished.{Finished}
-use Rattle.cluster_core.specs.declared.finishing.Ran.{Ran}
+use Rattle.cluster_threads.specs.Committed.{committed_lines}
+use Rattle.cluster_threads.specs.declared.Finished.{Finished}
+use Rattle.cluster_threads.specs.declared.Ran.{Ran}
 use Rattle.repo_trace.specs.declared.trace.Trace.{Trace}
 use Rattle.script_check.specs.Upgrading.{extended, upgrades_of}
 use Rattle.script_parse.specs.declared.script.Script.{Script}
@@ -11,11 +11,11 @@ use Rattle.std.specs.Prelude.{Bool, IsOk, false, true}
 use Rattle.thor_top.specs.Stages.{AreTracesOf, Awaits, IsAwaited, IsAwaitedBy, IsToldWith, TracesOf, WasMade}
 use Rattle.thor_top.specs.declared.expected.Expected.{Expected}
 use Rattle.thor_value.specs.declared.memory.NoMemory.{NoMemory}
-use Rattle.top_history_check.specs.declared.assembling.Line.{Line}
 use Rattle.top_judging.proofs.StageLaws.{has_script}
 use Rattle.top_judging.specs.Origins.{IsScriptFor}
 use Rattle.top_reply.specs.Replies.{run_reply}
 use Rattle.top_reply.specs.Reports.{IsRunWith}
+use Rattle.top_reply.specs.declared.Line.{Line}
 use Rattle.top_reply.specs.declared.form.Form.{Form}
 use Rattle.top_reply.specs.declared.form.Form.TheVariants as form
 use Rattle.top_reply.specs.declared.reply.Reply.{Reply}

@@ -1,17 +1,17 @@
 -- A run that is to be made, and what is replied of it (this project's).
 use Rattle.class_defs.specs.declared.store.Schemas.{Schemas}
-use Rattle.cluster_core.specs.declared.finishing.Finished.{Finished}
-use Rattle.cluster_core.specs.declared.finishing.Ran.{Ran}
+use Rattle.cluster_threads.specs.declared.Finished.{Finished}
+use Rattle.cluster_threads.specs.declared.Ran.{Ran}
 use Rattle.repo_trace.specs.declared.trace.Trace.{Trace}
 use Rattle.script_check.specs.Upgrading.{extended, upgrades_of}
 use Rattle.script_parse.specs.declared.script.Script.{Script}
 use Rattle.std.specs.Prelude.{◌≡◌, ◌⊎◌, ℕ, Bool, Err, IsOk, List, Ok, Result, Some, []}
 use Rattle.thor_top.specs.declared.expected.Expected.{Expected}
 use Rattle.thor_value.specs.FiniteMap.{IsSorted}
-use Rattle.top_history_check.specs.declared.assembling.Line.{Line}
 use Rattle.top_judging.specs.Stages.{RepliesUnsettled}
 use Rattle.top_reply.specs.Replies.{run_reply}
 use Rattle.top_reply.specs.Reports.{IsReported, IsReportedWith}
+use Rattle.top_reply.specs.declared.Line.{Line}
 use Rattle.top_reply.specs.declared.form.Form.{Form}
 use Rattle.top_reply.specs.declared.reply.Reply.{Reply}
 use Rattle.top_reply.specs.declared.running.Running.{Running}

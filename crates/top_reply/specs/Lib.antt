@@ -1,3 +1,4 @@
+pub use Rattle.top_history_check.specs.Lines
 pub mod Replies
 pub mod Reports
 pub mod Statuses

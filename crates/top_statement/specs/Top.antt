@@ -16,8 +16,6 @@ use Rattle.script_parse.specs.declared.script.Script.{Script}
 use Rattle.store_opening.specs.Limits.{HasCountAbove, HasLifeAbove}
 use Rattle.store_opening.specs.Reading.{epochs_in}
 use Rattle.store_opening.specs.declared.found.Store.{Store}
-use Rattle.top_history_check.specs.Lines.{line_of}
-use Rattle.top_history_check.specs.declared.assembling.Line.{Line}
 use Rattle.top_statement.specs.Audits.{DisagreesAt, IsNoReport, IsTrueReport, audited_of, report_part, script_part}
 use Rattle.top_statement.specs.Opening.{DiskBytes, FitsDisks, FreshBytes, IsAccepted, IsBase, IsStoredBy, MisfitsDisks, OneOfDisks, first_schemas}
 use Rattle.top_statement.specs.Reports.{IsReport}
@@ -26,6 +24,8 @@ use Rattle.top_words.specs.Words.{plan_of}
 use Rattle.top_words.specs.declared.command.Command.{Command}
 use Rattle.top_words.specs.declared.command.Command.TheVariants.{Audit, Check, Play, Run, Gen}
 use Rattle.top_words.specs.declared.command.Plan.{Plan}
+use Rattle.top_reply.specs.Lines.{line_of}
+use Rattle.top_reply.specs.declared.Line.{Line}
 use Rattle.top_reply.specs.declared.form.Form.{Form}
 use Rattle.top_reply.specs.declared.form.Form.TheVariants as form
 use Rattle.top_reply.specs.declared.reply.Reply.{Reply}

@@ -1,4 +1,4 @@
-use Rattle.cluster_core.specs.Committed.{committed_lines}
+use Rattle.cluster_threads.specs.Committed.{committed_lines}
 use Rattle.std.proofs.Common.{Err, IfOk, Result, inl, refl, subst, sym, vec_len}
 use Rattle.store_opening.specs.Reading.{ReadAll}
 use Rattle.thor_top.proofs.HistoryLaws.{one_in_turn}

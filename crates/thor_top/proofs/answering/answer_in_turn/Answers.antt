@@ -1,5 +1,5 @@
 use Rattle.std.proofs.Common.{Result, inl, subst, sym, vec_len}
-use Rattle.cluster_core.specs.Committed.{committed_lines}
+use Rattle.cluster_threads.specs.Committed.{committed_lines}
 use Rattle.store_opening.specs.Reading.{ReadAll}
 use Rattle.thor_top.proofs.HistoryLaws.{told_says, told_writes_not}
 use Rattle.thor_top.proofs.LineLaws.{none_said, said_lines}

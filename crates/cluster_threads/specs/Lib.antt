@@ -1,0 +1,3 @@
+pub use Rattle.cluster_core.specs.Committed
+pub use Rattle.cluster_core.specs.Histories
+pub use Rattle.cluster_core.specs.Seated
