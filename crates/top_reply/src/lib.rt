@@ -13,7 +13,7 @@ pub use form::Form;
 pub use reply::Reply;
 pub use running::Running;
 pub use status::Status;
-pub use top_history_check::Line;
 pub use texts::{
     damaged_text, disagreement_text, disk_text, limit_text, no_report_text, status_of,
 };
+pub use top_history_check::Line;
