@@ -3,8 +3,8 @@ use Rattle.class_defs.specs.declared.store.Setup.{Setup}
 use Rattle.cluster_core.specs.Seated.{AreBegun, Begins, IsBegun, are_settled, base_at, is_settled_at, run_of}
 use Rattle.cluster_core.specs.declared.plan.Start.TheVariants as start
 use Rattle.cluster_core.specs.declared.plan.Start.{Start}
-use Rattle.repo_site.specs.Begun.{new_base}
-use Rattle.repo_site.specs.Run.{Run, no_run}
+use Rattle.cluster_port.specs.Begun.{new_base}
+use Rattle.cluster_port.specs.Run.{Run, no_run}
 use Rattle.std.proofs.Common.{Bool, List, [], ap, arith, false, length, refl, subst, suc, sym, true, ℕ, ◌&&◌, ◌+◌, ◌∙◌, ◌∷◌, ◌≡◌}
 use Rattle.std.specs.List.{slice_get}
 use Rattle.std.specs.Prelude.{Option, Some}

@@ -2,8 +2,8 @@
 use Rattle.cluster_core.proofs.Seating.{length_more, right_next}
 use Rattle.cluster_core.specs.Seated.{AreRight}
 use Rattle.cluster_core.specs.declared.finishing.Ran.{Ran}
-use Rattle.repo_site.specs.Run.{Run}
-use Rattle.repo_site.specs.Sited.{IsRightTrace}
+use Rattle.cluster_port.specs.Run.{Run}
+use Rattle.cluster_port.specs.Sited.{IsRightTrace}
 use Rattle.repo_trace.specs.declared.trace.Trace.{Trace}
 use Rattle.std.proofs.Common.{Err, IfOk, List, Ok, Result, [], ap, arith, length, refl, subst, suc, sym, ℕ, ◌++◌, ◌+◌, ◌∙◌, ◌∷◌, ◌≡◌}
 use Rattle.std.specs.Prelude.{IsOkAnd}

@@ -6,8 +6,8 @@ use Rattle.log_codec.specs.declared.state.State.{State}
 use Rattle.recovery.specs.declared.recovered.Recovered.{Recovered}
 use Rattle.repo_opening.specs.Recovered.{IsRecovered}
 use Rattle.commit_log.specs.Holds.{Holds}
-use Rattle.repo_site.specs.Begun.{base_of, is_settled}
-use Rattle.repo_site.specs.Run.{Run}
+use Rattle.cluster_port.specs.Begun.{base_of, is_settled}
+use Rattle.cluster_port.specs.Run.{Run}
 use Rattle.repo_state.specs.declared.held.Held.{Held}
 use Rattle.std.proofs.Common.{ap, subst, sym, ℕ, ◌∙◌, ◌≡◌}
 

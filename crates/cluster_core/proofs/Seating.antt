@@ -3,8 +3,8 @@ use Rattle.cluster_core.specs.Seated.{AreBegun, AreNumbered, AreOpen, AreRecover
 use Rattle.cluster_core.specs.declared.seat.Seat.{Seat}
 use Rattle.cluster_port.specs.Lent.{AreInPlace}
 use Rattle.disk_trait.specs.Disks.{Disks}
-use Rattle.repo_site.specs.Run.{Run}
-use Rattle.repo_site.specs.Sited.{IsRightTrace, Sited}
+use Rattle.cluster_port.specs.Run.{Run}
+use Rattle.cluster_port.specs.Sited.{IsRightTrace, Sited}
 use Rattle.repo_trace.specs.declared.trace.Trace.{Trace}
 use Rattle.std.proofs.Common.{Err, IfOk, List, None, Ok, OnOk, Result, Some, [], ap, append_assoc, arith, drop, false, get_or, length, refl, subst, suc, sym, true, zero, ℕ, ◌++◌, ◌+◌, ◌<◌, ◌∙◌, ◌∷◌, ◌≡◌}
 use Rattle.std.proofs.lemmas.List.{append-nil, drop_more}

@@ -4,7 +4,7 @@ use Rattle.cluster_core.specs.declared.emptied.Emptied.{Emptied}
 use Rattle.cluster_core.specs.declared.cluster.Cluster.{Cluster}
 use Rattle.front_end.specs.Moving.{steps_left}
 use Rattle.front_end.specs.declared.front_end.FrontEnd.{FrontEnd}
-use Rattle.repo_site.specs.Sited.{Sited}
+use Rattle.cluster_port.specs.Sited.{Sited}
 use Rattle.std.specs.List.{sum_by}
 use Rattle.std.specs.Prelude.{List, vec_capacity, vec_len, ℕ}
 

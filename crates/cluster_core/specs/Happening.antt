@@ -2,8 +2,8 @@
 use Rattle.cluster_port.specs.Happening.{HappenedAt, IsStopped}
 use Rattle.front_end.specs.Moving.{course_of, steps_left}
 use Rattle.front_end.specs.declared.front_end.FrontEnd.{FrontEnd}
-use Rattle.repo_site.specs.Happening.{Flushes, GoesOn}
-use Rattle.repo_site.specs.Sited.{Sited}
+use Rattle.cluster_port.specs.SiteHappening.{Flushes, GoesOn}
+use Rattle.cluster_port.specs.Sited.{Sited}
 use Rattle.schedule.specs.declared.events.EventKind.TheVariants as event
 use Rattle.schedule.specs.declared.events.EventKind.{EventKind}
 use Rattle.std.specs.List.{slice_get, sum_by}

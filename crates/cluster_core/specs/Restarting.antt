@@ -1,7 +1,7 @@
 -- What a restart makes of what stands at a repository's place.
 use Rattle.cluster_core.specs.declared.seat.Seat.TheVariants.{Closed, Open}
 use Rattle.cluster_core.specs.declared.seat.Seat.{Seat}
-use Rattle.repo_site.specs.Happening.{GoesOn}
+use Rattle.cluster_port.specs.SiteHappening.{GoesOn}
 use Rattle.std.specs.Prelude.{◌≡◌}
 
 -- A repository that is open is started again. What isn't open stays as it was.

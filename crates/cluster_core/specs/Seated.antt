@@ -6,9 +6,9 @@ use Rattle.cluster_core.specs.declared.seat.Seat.TheVariants.{Closed, Open}
 use Rattle.cluster_core.specs.declared.seat.Seat.{Seat}
 use Rattle.disk_trait.specs.Disks.{Disks}
 use Rattle.repo_opening.specs.Recovered.{IsRecovered}
-use Rattle.repo_site.specs.Begun.{base_of, is_settled, new_base}
-use Rattle.repo_site.specs.Run.{Run, no_base}
-use Rattle.repo_site.specs.Sited.{IsRightTrace, Sited}
+use Rattle.cluster_port.specs.Begun.{base_of, is_settled, new_base}
+use Rattle.cluster_port.specs.Run.{Run, no_base}
+use Rattle.cluster_port.specs.Sited.{IsRightTrace, Sited}
 use Rattle.repo_state.specs.declared.held.Held.{Held}
 use Rattle.repo_trace.specs.declared.trace.Trace.{Trace}
 use Rattle.spec_history.specs.History.{Base}

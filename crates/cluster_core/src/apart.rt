@@ -9,11 +9,11 @@ use crate::emptied::Emptied;
 use crate::events::unless_memory;
 use crate::finishing::{Finished, close_seats};
 use crate::seat::{Seat, seat_all};
+use cluster_port::Opening;
 use disk_trait::Parts;
 use front_end::{FrontEnd, Opened};
 use mob_flusher::Flushed;
 use repo_refusals::Refusal;
-use repo_site::Opening;
 use std::alloc::Global;
 use thor_value::NoMemory;
 

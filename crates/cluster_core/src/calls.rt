@@ -1,10 +1,10 @@
 //! The calls of clients on a repository in its seat. One that isn't open is taken as one that is down.
 
 use crate::seat::Seat;
+use cluster_port::Opening;
 use disk_trait::Parts;
 use log_entries::Request;
 use repo_refusals::Refusal;
-use repo_site::Opening;
 use session_outbox::{Asked, At, Message, Verdict, Welcome};
 use thor_value::Ts;
 

@@ -3,10 +3,10 @@
 ghost use Rattle.cluster_port.specs.Lent.{AreInPlace};
 ghost use Rattle.std.specs.Prelude.{vec_capacity, vec_len, ◌≡◌, ◌≤◌};
 
+use cluster_port::{Opening, Site};
 use disk_trait::Parts;
 use front_end::{FrontEnd, Opened};
 use repo_opening::Unopened;
-use repo_site::{Opening, Site};
 use std::alloc::Global;
 use store_opening::ClusterFault;
 

@@ -8,11 +8,10 @@ ghost use Rattle.std.specs.Prelude.{◌≡◌, ◌<◌, Ok, true, vec_len};
 use crate::cluster::Cluster;
 use crate::events::unless_memory;
 use crate::turning::Turn;
-use cluster_port::events;
+use cluster_port::{Opening, Site, events};
 use disk_trait::Parts;
 use front_end::Step;
 use outside::Gate;
-use repo_site::{Opening, Site};
 use thor_value::NoMemory;
 
 impl<P: Parts, O: Opening> Cluster<P, O> {

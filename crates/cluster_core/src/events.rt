@@ -8,10 +8,9 @@ ghost use Rattle.std.specs.Prelude.{OnOk, suc, vec_len, ℕ, ◌≡◌};
 use crate::cluster::Cluster;
 use crate::settling::{least, settle};
 use crate::turning::Turn;
-use cluster_port::events;
+use cluster_port::{Opening, Site, events};
 use disk_trait::Parts;
 use repo_refusals::Refusal;
-use repo_site::{Opening, Site};
 use schedule::{Event, EventKind};
 use thor_value::NoMemory;
 

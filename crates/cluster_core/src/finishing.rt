@@ -8,10 +8,10 @@ ghost use Rattle.std.specs.Prelude.{IfOk, IsOkAnd, [], length, vec_capacity, vec
 use crate::cluster::Cluster;
 use crate::history::history_of;
 use crate::seat::Seat;
+use cluster_port::{Opening, Site};
 use disk_trait::Parts;
 use front_end::FrontEnd;
 use repo_core::{Entries, Marks, Trace, Traces};
-use repo_site::{Opening, Site};
 use serial_model::Ends;
 use std::alloc::Global;
 use thor_value::{NoMemory, both};

@@ -4,9 +4,9 @@ ghost use Rattle.cluster_core.specs.Counts.{clients_of, sites_in};
 ghost use Rattle.std.specs.Prelude.{◌≡◌};
 
 use crate::cluster::Cluster;
+use cluster_port::{Opening, Site};
 use disk_trait::Parts;
 use front_end::FrontEnd;
-use repo_site::{Opening, Site};
 
 impl<P: Parts, O: Opening> Cluster<P, O> {
     /// The repositories, in their order.

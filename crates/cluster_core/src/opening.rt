@@ -3,7 +3,7 @@
 ghost use Rattle.cluster_core.specs.Counts.{parts_of, schemas_of};
 ghost use Rattle.cluster_core.specs.Seated.{AreBegun, AreRecovered, AreSeated, Begins, BeginsOver, IsBegun, IsBegunBy, IsFound, IsFoundIn, IsNew, IsRecoveredAt, IsSeatedAt};
 ghost use Rattle.repo_opening.specs.Recovered.{IsRecovered};
-ghost use Rattle.repo_site.specs.Sited.{BeginsNew};
+ghost use Rattle.cluster_port.specs.Sited.{BeginsNew};
 ghost use Rattle.std.specs.Prelude.{IfErr, IfOk, IsOk, IsTrue, OnOk, vec_capacity, vec_len, ℕ, ◌≡◌, ◌≤◌};
 ghost use Rattle.store_opening.specs.Counts.{parts_in};
 
@@ -12,11 +12,11 @@ use crate::plan::{Plan, Start};
 use crate::seat::{Seat, give_back, sites_of};
 use crate::settling::settle_all;
 use class_defs::{Schemas, Setup};
+use cluster_port::{Opening, Site};
 use disk_trait::Parts;
 use front_end::{FrontEnd, Items, Opened};
 use recovery::migrate;
 use repo_opening::{Known, Unopened, fault_of, number_at};
-use repo_site::{Opening, Site};
 use std::alloc::Global;
 use store_opening::{Closed, ClusterFault, Found};
 use thor_value::{NoMemory, both};

@@ -2,13 +2,13 @@
 
 ghost use Rattle.cluster_core.specs.Seated.{AreOpen, AreSeated, IsOpen, IsSeatedAt};
 ghost use Rattle.cluster_port.specs.Lent.{AreInPlace};
-ghost use Rattle.repo_site.specs.Sited.{Sited};
+ghost use Rattle.cluster_port.specs.Sited.{Sited};
 ghost use Rattle.std.specs.Prelude.{IfErr, IfOk, IsTrue, vec_capacity, vec_len, ℕ, ◌≡◌, ◌≤◌};
 
+use cluster_port::{Opening, Site};
 use disk_trait::Parts;
 use repo_core::{OpenCause, OpenFault};
 use repo_opening::Unopened;
-use repo_site::{Opening, Site};
 use store_opening::Closed;
 
 /// What stands at a repository's place, while a store is opened and while its repositories are apart from it.

@@ -3,11 +3,10 @@
 ghost use Rattle.cluster_port.specs.Lent.{AreInPlace};
 ghost use Rattle.std.specs.Prelude.{vec_len, ◌≡◌};
 
-use cluster_port::calls;
+use cluster_port::{Opening, Site, calls};
 use disk_trait::Parts;
 use repo_opening::{Unopened, number_at};
 use repo_refusals::Refusal;
-use repo_site::{Opening, Site};
 use session_outbox::Asked;
 use thor_value::Ts;
 

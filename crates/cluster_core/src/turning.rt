@@ -10,11 +10,10 @@ ghost use Rattle.std.specs.Prelude.{Ok, OnOk, vec_len, ◌<◌, ◌≡◌};
 
 use crate::cluster::Cluster;
 use client_port::Port;
-use cluster_port::{Count, LentSites};
+use cluster_port::{Count, LentSites, Opening, Site};
 use disk_trait::Parts;
 use front_end::{FrontEnd, Opened, Step};
 use repo_opening::number_at;
-use repo_site::{Opening, Site};
 use std::marker::Brand;
 use std::mem;
 use thor_value::NoMemory;

@@ -1,7 +1,7 @@
 -- What happens at one place of a list.
 use Rattle.cluster_port.proofs.Placing.{past, set_here, some_same}
 use Rattle.cluster_port.specs.Happening.{HappenedAt}
-use Rattle.repo_core.specs.Shown.{Shown}
+use Rattle.repo_site.specs.Shown.{Shown}
 use Rattle.repo_site.specs.Sited.{Sited}
 use Rattle.std.proofs.Common.{List, false, get_or, length, slice_set, subst, sym, true, ℕ, ◌<◌, ◌∙◌, ◌≡◌}
 use Rattle.std.proofs.lemmas.Option.{slice_get_read}

@@ -4,11 +4,11 @@ use Rattle.client_port.specs.Views.{Calm, Halted, MayCome, Opened, Unsettled, Vi
 use Rattle.client_port.specs.Works.{Answered, Does, IsDown}
 use Rattle.cluster_port.specs.Lent.{AreInPlace, Lent, trace_at, unsettled_at, view_of}
 use Rattle.cluster_port.proofs.Placing.{past, placed_with, set_here, set_length, set_there}
-use Rattle.law_client_views.proofs.Grown.{none_grew}
-use Rattle.law_client_views.proofs.Stopping.{does_down}
-use Rattle.law_client_views.specs.Standing.{is_client, unsettled_of}
-use Rattle.law_repo_calls.specs.Seen.{phase, phase_from}
-use Rattle.law_repo_memory.specs.Agreeing.{trace_of}
+use Rattle.repo_site.proofs.Grown.{none_grew}
+use Rattle.repo_site.proofs.Stopping.{does_down}
+use Rattle.repo_site.specs.Standing.{is_client, unsettled_of}
+use Rattle.repo_site.specs.Seen.{phase, phase_from}
+use Rattle.repo_site.specs.Agreeing.{trace_of}
 use Rattle.log_entries.specs.declared.entry.Entry.{Entry}
 use Rattle.repo_refusals.specs.declared.refusal.Refusal.{Refusal}
 use Rattle.repo_site.proofs.Leaving.{calm, may_leave}

@@ -1,5 +1,5 @@
 -- What an event does to the repository at a place.
-use Rattle.repo_core.specs.Shown.{Shown}
+use Rattle.repo_site.specs.Shown.{Shown}
 use Rattle.repo_site.specs.Happening.{Stops}
 use Rattle.repo_site.specs.Sited.{Sited}
 use Rattle.std.specs.List.{slice_get}

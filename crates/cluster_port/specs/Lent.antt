@@ -1,8 +1,8 @@
 -- The repositories of a run, as one client sees them to whom they are lent.
 use Rattle.client_port.specs.Views.{Halted, Unsettled, View}
-use Rattle.law_client_views.specs.Standing.{unsettled_of}
-use Rattle.law_repo_calls.specs.Seen.{phase}
-use Rattle.law_repo_memory.specs.Agreeing.{trace_of}
+use Rattle.repo_site.specs.Standing.{unsettled_of}
+use Rattle.repo_site.specs.Seen.{phase}
+use Rattle.repo_site.specs.Agreeing.{trace_of}
 use Rattle.repo_site.specs.Run.{Run}
 use Rattle.repo_site.specs.Sited.{Sited}
 use Rattle.spec_trace.specs.Trace.{Item}

@@ -6,3 +6,4 @@ pub mod events;
 mod lent;
 
 pub use lent::{Count, LentSites};
+pub use repo_site::{Opening, Site};

@@ -11,4 +11,5 @@ mod prompts;
 mod restarts;
 mod running;
 
+pub use cluster_core::{Cluster, Finished, Plan, Ran, Start, play};
 pub use running::run_clients;

@@ -1,3 +1,5 @@
+pub use Rattle.law_client_views.proofs.Grown
+pub use Rattle.law_client_views.proofs.Stopping
 pub mod Begun
 pub mod Counting
 pub mod Failing

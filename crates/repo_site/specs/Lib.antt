@@ -1,3 +1,7 @@
+pub use Rattle.law_client_views.specs.Standing
+pub use Rattle.law_repo_calls.specs.Seen
+pub use Rattle.law_repo_memory.specs.Agreeing
+pub use Rattle.repo_core.specs.Shown
 pub mod Begun
 pub mod Happening
 pub mod Run

@@ -1,9 +1,9 @@
 -- What is told of the repositories of a run, and what is replied of it.
-use Rattle.cluster_core.specs.Histories.{AreHistories, AreHistoriesIf}
-use Rattle.cluster_core.specs.Seated.{AreRight, IsFound, run_of}
-use Rattle.cluster_core.specs.declared.finishing.Finished.{Finished}
-use Rattle.cluster_core.specs.declared.finishing.Ran.{Ran}
-use Rattle.cluster_core.specs.declared.plan.Start.{Start}
+use Rattle.cluster_threads.specs.Histories.{AreHistories, AreHistoriesIf}
+use Rattle.cluster_threads.specs.Seated.{AreRight, IsFound, run_of}
+use Rattle.cluster_threads.specs.declared.Finished.{Finished}
+use Rattle.cluster_threads.specs.declared.Ran.{Ran}
+use Rattle.cluster_threads.specs.declared.Start.{Start}
 use Rattle.disk_trait.specs.Disks.{Disks}
 use Rattle.repo_trace.specs.declared.trace.Trace.{Trace}
 use Rattle.std.proofs.Common.{Err, IfErr, IfOk, List, Ok, Result, [], ap, inl, inr, length, refl, subst, sym, ℕ, ◌∙◌, ◌≡◌}

@@ -1,6 +1,6 @@
 -- A run that is to be made, and what is replied of it (this project's).
-use Rattle.cluster_core.specs.declared.finishing.Finished.{Finished}
-use Rattle.cluster_core.specs.declared.finishing.Ran.{Ran}
+use Rattle.cluster_threads.specs.declared.Finished.{Finished}
+use Rattle.cluster_threads.specs.declared.Ran.{Ran}
 use Rattle.repo_trace.specs.declared.trace.Trace.{Trace}
 use Rattle.script_parse.specs.declared.script.Script.{Script}
 use Rattle.std.specs.Prelude.{◌≡◌, ◌⊎◌, ℕ, Bool, Err, IsOk, List, Ok, Result, Some, []}

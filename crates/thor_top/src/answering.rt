@@ -1,6 +1,6 @@
 //! The answer to a plan, on one thread or on several, and to words.
 
-ghost use Rattle.cluster_core.specs.Histories.{AreHistories, AreHistoriesIf};
+ghost use Rattle.cluster_threads.specs.Histories.{AreHistories, AreHistoriesIf};
 ghost use Rattle.repo_opening.specs.Same.{AreSame};
 ghost use Rattle.std.specs.Prelude.{IfOk, Some, [], vec_len, ◌≡◌};
 ghost use Rattle.store_opening.specs.Reading.{ReadAll};

@@ -13,7 +13,7 @@ ghost use Rattle.top_statement.specs.Top.{running_of};
 
 use crate::expected::Expected;
 use class_defs::{Schemas, Setup};
-use cluster_core::{Plan as Run, Start};
+use cluster_threads::{Plan as Run, Start};
 use disk_trait::Parts;
 use script_check::roots_of;
 use script_parse::Script;

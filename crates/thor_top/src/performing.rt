@@ -1,6 +1,6 @@
 //! A plan is performed, and the reply written.
 
-ghost use Rattle.cluster_core.specs.Histories.{AreHistories, AreHistoriesIf};
+ghost use Rattle.cluster_threads.specs.Histories.{AreHistories, AreHistoriesIf};
 ghost use Rattle.outside.specs.Faults.{Rose};
 ghost use Rattle.repo_opening.specs.Same.{AreSame};
 ghost use Rattle.std.specs.Prelude.{IfOk, vec_len, ◌≡◌};

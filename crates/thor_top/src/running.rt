@@ -1,6 +1,6 @@
 //! A run is made and told.
 
-ghost use Rattle.cluster_core.specs.Histories.{AreHistories, AreHistoriesIf};
+ghost use Rattle.cluster_threads.specs.Histories.{AreHistories, AreHistoriesIf};
 ghost use Rattle.std.specs.Prelude.{IfErr, IfOk, List, vec_len, ◌≡◌};
 ghost use Rattle.store_opening.specs.Counts.{HasParts, parts_in};
 ghost use Rattle.thor_top.specs.Stages.{IsToldOf};
@@ -9,8 +9,7 @@ ghost use Rattle.top_statement.specs.Telling.{TellsRunBy};
 
 use crate::opening::FoundRun;
 use crate::telling::replied;
-use cluster_core::{Cluster, Finished, Plan as Run, play};
-use cluster_threads::run_clients;
+use cluster_threads::{Cluster, Finished, Plan as Run, play, run_clients};
 use disk_trait::Parts;
 use outside::Gate;
 use schedule::Event;

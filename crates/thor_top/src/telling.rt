@@ -8,7 +8,7 @@ ghost use Rattle.top_reply.specs.Reports.{IsReported};
 ghost use Rattle.top_statement.specs.Telling.{TellsRunBy};
 
 use crate::expected::Expected;
-use cluster_core::{Finished, Ran};
+use cluster_threads::{Finished, Ran};
 use disk_trait::Parts;
 use repo_trace::Traces;
 use std::alloc::Global;

@@ -1,5 +1,5 @@
 ghost use Rattle.audit_check.specs.declared.disagreement.Disagreement.{Disagreement};
-ghost use Rattle.cluster_core.specs.Histories.{AreHistories, AreHistoriesIf};
+ghost use Rattle.cluster_threads.specs.Histories.{AreHistories, AreHistoriesIf};
 ghost use Rattle.outside.specs.Faults.{Rose};
 ghost use Rattle.repo_opening.specs.Same.{AreSame};
 ghost use Rattle.script_parse.specs.declared.refusal.Refusal.{Refusal};

@@ -1,5 +1,5 @@
 use Rattle.cluster_core.proofs.opening.format_all.Goals as goal
-use Rattle.repo_site.specs.Sited.{BeginsNew}
+use Rattle.cluster_port.specs.Sited.{BeginsNew}
 use Rattle.std.proofs.Common.{subst, sym, ℕ}
 
 pub format_from-requires-in_default-Ok-clause-begins : goal.format_from-requires-in_default-Ok-clause-begins

@@ -1,6 +1,6 @@
 use Rattle.cluster_core.proofs.Seating.{length_more, seated_first, seated_left, seated_next}
 use Rattle.cluster_core.specs.Seated.{IsSeatedAt}
-use Rattle.repo_site.specs.Sited.{BeginsNew}
+use Rattle.cluster_port.specs.Sited.{BeginsNew}
 use Rattle.std.proofs.Common.{arith, length, subst, sym, vec_len, ℕ, ◌≡◌}
 use Rattle.std.specs.Vec.Iter.{into_iter_items}
 use Rattle.cluster_core.proofs.opening.format_from.Goals as goal

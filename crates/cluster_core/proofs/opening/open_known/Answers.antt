@@ -1,7 +1,7 @@
 use Rattle.cluster_core.proofs.Recovered.{begun_moved}
 use Rattle.cluster_core.specs.Seated.{IsBegunBy}
 use Rattle.recovery.specs.declared.recovered.Recovered.{Recovered}
-use Rattle.repo_site.proofs.Begun.{begins_as}
+use Rattle.cluster_port.proofs.Begun.{begins_as}
 use Rattle.std.proofs.Common.{subst, sym}
 use Rattle.cluster_core.proofs.opening.open_known.Goals as goal
 

@@ -1,5 +1,5 @@
-use Rattle.repo_site.proofs.Begun.{begins_new}
-use Rattle.repo_site.specs.Begun.{new_base}
+use Rattle.cluster_port.proofs.Begun.{begins_new}
+use Rattle.cluster_port.specs.Begun.{new_base}
 use Rattle.cluster_core.specs.Seated.{AreBegun, IsFound}
 use Rattle.cluster_core.specs.declared.plan.Start.{Start}
 use Rattle.std.proofs.Common.{OnOk, arith, length, subst, sym, vec_len, ℕ, ◌≡◌}

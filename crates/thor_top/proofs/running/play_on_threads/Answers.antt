@@ -1,4 +1,4 @@
-use Rattle.cluster_core.proofs.Begun.{unbased}
+use Rattle.cluster_threads.proofs.Begun.{unbased}
 use Rattle.thor_top.proofs.running.play_on_threads.Goals as goal
 
 pub open-requires : goal.open-requires

@@ -1,0 +1,2 @@
+pub use Rattle.cluster_core.specs.Histories
+pub use Rattle.cluster_core.specs.Seated
