@@ -86,7 +86,9 @@ impl Progress {
         } else {
             ""
         };
-        let _ = eprint!(self.rt; "{over}\r\x1b[Kkilntaupe: {ended} of {items} items have ended, {seconds} s\n");
+        let _ = eprint!(self.rt;
+            "{over}\r\x1b[Kkilntaupe: {ended} of {items} items have ended, {seconds} s\n"
+        );
     }
 }
 
