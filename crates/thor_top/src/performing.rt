@@ -14,7 +14,7 @@ ghost use Rattle.top_words.specs.declared.command.Command.TheVariants.{Audit, Ch
 
 use crate::answering::answer_in_turn;
 use disk_trait::Parts;
-use outside::{Sink, Source};
+use outside::{OpenGate, Sink, Source};
 use std::alloc::Global;
 use top_reply::Status;
 use top_statement::{Outcome, StoreParts, write_answer};
@@ -54,6 +54,6 @@ pub fn perform<S: Source, K: Sink, P: Parts>(
     ensures reported { TellsRunBy result.reply → AreHistories P.disks parts.repositories.items result.traces }
 {
     let StoreParts { repositories } = parts;
-    let answered = answer_in_turn(alloc, &plan, source, repositories);
+    let answered = answer_in_turn(alloc, &OpenGate, &plan, source, repositories);
     write_answer(alloc, sink, answered)
 }
