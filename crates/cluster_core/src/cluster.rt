@@ -28,6 +28,15 @@ pub struct Cluster<P: Parts, O: Opening> {
 }
 
 impl<P: Parts, O: Opening> Cluster<P, O> {
+    /// How many items of all clients have ended.
+    pub(crate) fn ended_count(&self) -> usize {
+        let mut count: usize = 0;
+        for client in self.clients.as_slice() {
+            count = count.saturating_add(client.outcomes().len());
+        }
+        count
+    }
+
     /// A store that couldn't be settled, with its parts.
     pub(crate) fn give_back(self, why: Unopened) -> ClusterFault<P>
         ensures { vec_len result.parts ≡ vec_len self.sites }

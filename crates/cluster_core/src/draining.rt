@@ -11,16 +11,18 @@ use crate::turning::Turn;
 use cluster_port::{Opening, Site, events};
 use disk_trait::Parts;
 use front_end::Step;
+use outside::Gate;
 use thor_value::NoMemory;
 
 impl<P: Parts, O: Opening> Cluster<P, O> {
     /// Has every item end: stops that haven't fallen are taken back, each repository that is down is restarted
-    /// once, and the clients take steps in turn until no item is left. Then each Unknown item is asked for once.
-    pub fn drain(&mut self) -> Result<(), NoMemory>
+    /// once, and the clients take steps in turn until no item is left. Then each Unknown item is asked for once. The gate is
+    /// told of the items that end.
+    pub fn drain<G: Gate>(&mut self, gate: &G) -> Result<(), NoMemory>
         ensures { parts_of self.new ≡ parts_of self.old }
     {
         self.bring_repositories_up()?;
-        self.rounds()?;
+        self.rounds(gate)?;
         for place in 0..self.clients.len() {
             self.ask_last(place)?;
         }
@@ -52,11 +54,22 @@ impl<P: Parts, O: Opening> Cluster<P, O> {
     }
 
     /// The clients take steps in turn until no item is left. What is left for them falls with each round.
-    fn rounds(&mut self) -> Result<(), NoMemory>
+    fn rounds<G: Gate>(&mut self, gate: &G) -> Result<(), NoMemory>
         ensures { parts_of self.new ≡ parts_of self.old }
     {
-        while self.round()? {}
+        while self.told_round(gate)? {}
         Ok(())
+    }
+
+    /// The same as `round`, and the gate is told how many items ended by it.
+    fn told_round<G: Gate>(&mut self, gate: &G) -> Result<bool, NoMemory>
+        ensures parts { parts_of self.new ≡ parts_of self.old }
+        ensures falls { result ≡ Ok true → steps_of self.new < steps_of self.old }
+    {
+        let before = self.ended_count();
+        let moved = self.round()?;
+        gate.end_items(self.ended_count().saturating_sub(before));
+        Ok(moved)
     }
 
     /// Each client takes one step. It answers whether one of them had items left: then fewer steps are left.

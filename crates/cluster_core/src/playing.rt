@@ -11,19 +11,24 @@ use crate::finishing::Finished;
 use crate::plan::Plan;
 use cluster_port::Opening;
 use disk_trait::Parts;
+use outside::Gate;
 use schedule::Event;
 use std::alloc::Global;
 use std::marker::Brand;
 use store_opening::{ClusterFault, Found};
 use thor_value::NoMemory;
 
+/// After how many events the gate is told how many items have ended.
+const TOLD: usize = 256;
+
 /// Opens what was found with the clients of a plan, performs the events one after the other and then all that is left of the items,
-/// and ends the run.
-pub fn play<P: Parts>(
+/// and ends the run. The gate is told of the items that end.
+pub fn play<P: Parts, G: Gate>(
     alloc: Global,
     found: Found<P>,
     plan: Plan,
     events: &[Event],
+    gate: &G,
 ) -> Result<Finished<P>, ClusterFault<P>>
     ensures parts { IfOk result (λ finished. vec_len finished.parts ≡ parts_in found) }
     ensures err { IfErr result (λ fault. vec_len fault.parts ≡ parts_in found) }
@@ -34,15 +39,16 @@ pub fn play<P: Parts>(
     ensures lines { IfOk result (λ finished. IfOk finished.ran (λ ran. ran.lines ≡ committed_lines ran.traces)) }
     ensures found { IfOk result (λ _. IsFoundIn P.disks found plan.start) }
 {
-    played::<P, Brand>(alloc, found, plan, events)
+    played::<P, Brand, G>(alloc, found, plan, events, gate)
 }
 
 /// The same, where what was found is the run that `O` has.
-fn played<P: Parts, O: Opening>(
+fn played<P: Parts, O: Opening, G: Gate>(
     alloc: Global,
     found: Found<P>,
     plan: Plan,
     events: &[Event],
+    gate: &G,
 ) -> Result<Finished<P>, ClusterFault<P>>
     requires { O.run ≡ run_found found plan.start }
     ensures parts { IfOk result (λ finished. vec_len finished.parts ≡ parts_in found) }
@@ -53,20 +59,24 @@ fn played<P: Parts, O: Opening>(
     ensures found { IfOk result (λ _. IsFoundIn P.disks found plan.start) }
 {
     match Cluster::<P, O>::open(alloc, found, plan) {
-        Ok(cluster) => Ok(run(cluster, events)),
+        Ok(cluster) => Ok(run(cluster, events, gate)),
         Err(fault) => Err(fault),
     }
 }
 
 /// Performs the events one after the other, and then all that is left of the items, and ends the run.
-fn run<P: Parts, O: Opening>(cluster: Cluster<P, O>, events: &[Event]) -> Finished<P>
+fn run<P: Parts, O: Opening, G: Gate>(
+    cluster: Cluster<P, O>,
+    events: &[Event],
+    gate: &G,
+) -> Finished<P>
     ensures parts { vec_len result.parts ≡ parts_of cluster }
     ensures right { IfOk result.ran (λ ran. AreRight O.run 0 ran.traces) }
     ensures told { IfOk result.ran (λ ran. length ran.traces ≡ parts_of cluster) }
     ensures lines { IfOk result.ran (λ ran. ran.lines ≡ committed_lines ran.traces) }
 {
     let mut cluster = cluster;
-    match perform(&mut cluster, events) {
+    match perform(&mut cluster, events, gate) {
         Ok(()) => cluster.finish(),
         Err(NoMemory) => without_run(cluster.finish()),
     }
@@ -86,7 +96,35 @@ pub fn without_run<P: Parts>(finished: Finished<P>) -> Finished<P>
 }
 
 /// Performs the events one after the other, and then all that is left of the items.
-fn perform<P: Parts, O: Opening>(
+fn perform<P: Parts, O: Opening, G: Gate>(
+    cluster: &mut Cluster<P, O>,
+    events: &[Event],
+    gate: &G,
+) -> Result<(), NoMemory>
+    ensures { parts_of cluster.new ≡ parts_of cluster.old }
+{
+    for stretch in events.chunks(TOLD) {
+        perform_stretch(cluster, stretch, gate)?;
+    }
+    cluster.drain(gate)
+}
+
+/// Performs some events one after the other, and tells the gate how many items ended by them.
+fn perform_stretch<P: Parts, O: Opening, G: Gate>(
+    cluster: &mut Cluster<P, O>,
+    events: &[Event],
+    gate: &G,
+) -> Result<(), NoMemory>
+    ensures { parts_of cluster.new ≡ parts_of cluster.old }
+{
+    let before = cluster.ended_count();
+    perform_each(cluster, events)?;
+    gate.end_items(cluster.ended_count().saturating_sub(before));
+    Ok(())
+}
+
+/// Performs events one after the other.
+fn perform_each<P: Parts, O: Opening>(
     cluster: &mut Cluster<P, O>,
     events: &[Event],
 ) -> Result<(), NoMemory>
@@ -95,5 +133,5 @@ fn perform<P: Parts, O: Opening>(
     for event in events {
         cluster.event(*event)?;
     }
-    cluster.drain()
+    Ok(())
 }

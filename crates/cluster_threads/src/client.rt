@@ -15,6 +15,9 @@ pub(crate) trait Client<S>: Drop {
 
     /// Asks once for each Unknown item.
     fn last<Q: Port>(&mut self, port: &mut Q, opened: &S) -> Result<(), NoMemory>;
+
+    /// How many of its items have ended.
+    fn ended_count(&self) -> usize;
 }
 
 impl Client<Opened> for FrontEnd {
@@ -24,6 +27,10 @@ impl Client<Opened> for FrontEnd {
 
     fn last<Q: Port>(&mut self, port: &mut Q, opened: &Opened) -> Result<(), NoMemory> {
         FrontEnd::last(self, port, opened)
+    }
+
+    fn ended_count(&self) -> usize {
+        self.outcomes().len()
     }
 }
 
@@ -35,7 +42,8 @@ pub(crate) struct Job<'a, C: Client<S>, S, R: Wait, P: Parts, G: Gate> {
     pub(crate) opened: &'a S,
 }
 
-/// Has a client take steps until all its items have ended. What it prompts with goes with its port.
+/// Has a client take steps until all its items have ended. The gate is told of each that ends. What the client prompts with goes with
+/// its port.
 pub(crate) fn play_out<C: Client<S>, S, R: Wait, P: Parts, G: Gate>(
     job: Job<'_, C, S, R, P, G>,
 ) -> Result<C, NoMemory> {
@@ -45,8 +53,12 @@ pub(crate) fn play_out<C: Client<S>, S, R: Wait, P: Parts, G: Gate>(
         opened,
     } = job;
     for _ in 0..u64::MAX {
+        let before = client.ended_count();
         match client.step(&mut port, opened)? {
-            Step::Moved => {}
+            Step::Moved => {
+                let ended = client.ended_count().saturating_sub(before);
+                port.locks.gate.end_items(ended);
+            }
             Step::Ended => break,
         }
     }

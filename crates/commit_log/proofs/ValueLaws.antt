@@ -197,23 +197,27 @@ new_parts false rest is = (refl, is)
 -- a name that was seen isn't in a list of new ones
 seen_none : (ws : List (Oref × Obj)) (x : Oref) (seen : Set oref_cmp) → are_new seen ws ≡ true → has seen x ≡ true → object_in ws x ≡ None
 seen_none [] x seen new is = refl
-seen_none (w ∷ ws) x seen new is = by (new_parts (has seen w.0) (are_new (add seen w.0) ws) new) (same_oref x w.0) refl
+seen_none (w ∷ ws) x seen new is =
+    let parts = new_parts (has seen w.0) (are_new (add seen w.0) ws) new in
+    by parts (seen_none ws x (add seen w.0) parts.1 (still_seen seen w.0 x is)) (same_oref x w.0) refl
   where
-    by : (has seen w.0 ≡ false) × (are_new (add seen w.0) ws ≡ true) → (b : Bool) → same_oref x w.0 ≡ b → cond b (Some w.1) (object_in ws x) ≡ None
-    by parts true same =
+    by : (has seen w.0 ≡ false) × (are_new (add seen w.0) ws ≡ true) → object_in ws x ≡ None → (b : Bool) → same_oref x w.0 ≡ b → cond b (Some w.1) (object_in ws x) ≡ None
+    by parts rest true same =
         let clash : true ≡ false = sym is ∙ ap (has seen) (same_name x w.0 same) ∙ parts.0 in
         cc
-    by parts false apart = seen_none ws x (add seen w.0) parts.1 (still_seen seen w.0 x is)
+    by parts rest false apart = rest
 
 -- of a list in which no name stands twice the last write under a name is the one that is found
 last_is_first : (ws : List (Oref × Obj)) (x : Oref) (found : Option Obj) (seen : Set oref_cmp) → are_new seen ws ≡ true → written_last x found ws ≡ option_or (object_in ws x) found
 last_is_first [] x found seen new = refl
-last_is_first (w ∷ ws) x found seen new = by (new_parts (has seen w.0) (are_new (add seen w.0) ws) new) (same_oref x w.0) refl
+last_is_first (w ∷ ws) x found seen new =
+    let parts = new_parts (has seen w.0) (are_new (add seen w.0) ws) new in
+    by parts (λ (o : Option Obj). last_is_first ws x o (add seen w.0) parts.1) (same_oref x w.0) refl
   where
-    by : (has seen w.0 ≡ false) × (are_new (add seen w.0) ws ≡ true) → (b : Bool) → same_oref x w.0 ≡ b → written_last x (cond b (Some w.1) found) ws ≡ option_or (cond b (Some w.1) (object_in ws x)) found
-    by parts false apart = last_is_first ws x found (add seen w.0) parts.1
-    by parts true same =
-        last_is_first ws x (Some w.1) (add seen w.0) parts.1
+    by : (has seen w.0 ≡ false) × (are_new (add seen w.0) ws ≡ true) → ((o : Option Obj) → written_last x o ws ≡ option_or (object_in ws x) o) → (b : Bool) → same_oref x w.0 ≡ b → written_last x (cond b (Some w.1) found) ws ≡ option_or (cond b (Some w.1) (object_in ws x)) found
+    by parts rest false apart = rest found
+    by parts rest true same =
+        rest (Some w.1)
         ∙ ap (λ (o : Option Obj). option_or o (Some w.1)) (seen_none ws x (add seen w.0) parts.1 (ap (has (add seen w.0)) (same_name x w.0 same) ∙ now_seen seen w.0))
 
 or_none : (o : Option Obj) → option_or o None ≡ o

@@ -1,13 +1,24 @@
-/// A place at which a test can hold a thread back. It tells nothing.
+/// What stands beside a run: a place at which a test can hold a thread back, and who is told how far the run is. It
+/// answers nothing.
 pub trait Gate {
     /// Returns once the gate lets the caller pass this point.
     fn pass(&self, point: u32);
+
+    /// A run of so many items begins.
+    fn begin_run(&self, items: usize);
+
+    /// So many more of its items have ended.
+    fn end_items(&self, count: usize);
 }
 
-/// The gate of a program: it lets everyone pass at once.
+/// The gate of a program: it lets everyone pass at once, and tells nobody how far a run is.
 #[derive(Clone, Copy, Debug)]
 pub struct OpenGate;
 
 impl Gate for OpenGate {
     fn pass(&self, _point: u32) {}
+
+    fn begin_run(&self, _items: usize) {}
+
+    fn end_items(&self, _count: usize) {}
 }

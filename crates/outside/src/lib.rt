@@ -1,5 +1,5 @@
 //! What lies outside a run: the source that a script is read from, the sink that a report is written
-//! to, and the gate at which a test can hold a thread.
+//! to, and the gate at which a test can hold a thread and that is told how far a run is.
 #![tactic(auto)]
 
 mod calls;

@@ -23,13 +23,13 @@ use Rattle.thor_value.specs.declared.values.Obj.{Obj}
 
 -- ---- what holds of all objects holds of those that are put over one another
 
+put_by : (P : Oref × Obj → Type 0) (b : Bool) (v w : Oref × Obj) (vs more : List (Oref × Obj)) → P v → P w → AllByRecursion P vs → AllByRecursion P more → AllByRecursion P (cond b (w ∷ vs) (v ∷ more))
+put_by P true v w vs more first one all put = (one, all)
+put_by P false v w vs more first one all put = (first, put)
+
 one_put : (P : Oref × Obj → Type 0) (ms : List (Oref × Obj)) (w : Oref × Obj) → AllByRecursion P ms → P w → AllByRecursion P (buffered ms w)
 one_put P [] w all one = (one, tt)
-one_put P (v ∷ vs) w all one = by (same_oref v.0 w.0)
-  where
-    by : (b : Bool) → AllByRecursion P (cond b (w ∷ vs) (v ∷ buffered vs w))
-    by true = (one, all.1)
-    by false = (all.0, one_put P vs w all.1 one)
+one_put P (v ∷ vs) w all one = put_by P (same_oref v.0 w.0) v w vs (buffered vs w) all.0 one all.1 (one_put P vs w all.1 one)
 
 pub all_put : (P : Oref × Obj → Type 0) (ms ws : List (Oref × Obj)) → AllByRecursion P ms → AllByRecursion P ws → AllByRecursion P (fold buffered ms ws)
 all_put P ms [] all more = all

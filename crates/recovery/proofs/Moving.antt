@@ -134,7 +134,7 @@ says_migrated old new s disk run = all_weaker old new (Says s) (SaysMigrated s d
 pub either_migrated : (old new : Disks) (s t : State) (disk : List ℕ) → IsMigrated s disk t → LeavesAll old new (SaysEither s t) → LeavesAll old new (SaysMigrated s disk)
 either_migrated old new s t disk made run = all_weaker old new (SaysEither s t) (SaysMigrated s disk) (λ images says. elim says [
   | inl before ↦ inl before
-  | inr behind ↦ inr (t, (made, behind))
+  | inr behind ↦ inr (t, made, behind)
 ]) run
 
 pub both_say : (old mid new : Disks) (place : Place) (s t : State) (disk : List ℕ) → Stays old mid → Holds old place s → TellsAll old → IsMigrated s disk t → (TellsAll mid → LeavesAll mid new (SaysEither s t)) → LeavesAll old new (SaysMigrated s disk)

@@ -51,13 +51,13 @@ paged_of repo number [] [] few small has all = tt
 paged_of repo number [] (w ∷ ws) few small has all = absurd all
 paged_of repo number (q ∷ qs) [] few small has all = absurd all
 paged_of repo number (q ∷ qs) (w ∷ ws) few small has all = (
-    record {
-      repo_is = ap (λ (x : Oref). x.repo) all.0.name;
-      name = subst OrefFits (sym all.0.name) (record { repo = few; page = small; slot = has.0.0 });
-      object = all.0.fits;
-    },
-    paged_of repo number qs ws few small has.1 all.1,
-  )
+  record {
+    repo_is = ap (λ (x : Oref). x.repo) all.0.name;
+    name = subst OrefFits (sym all.0.name) (record { repo = few; page = small; slot = has.0.0 });
+    object = all.0.fits;
+  },
+  paged_of repo number qs ws few small has.1 all.1,
+)
 
 paged_on : (repo number : ℕ) (pairs : List (ℕ × List ℕ)) (objects : List (Oref × Obj)) → AllZip (IsPaged repo number) pairs objects → AllByRecursion (λ (w : Oref × Obj). w.0.page ≡ number) objects
 paged_on repo number [] [] all = tt
@@ -107,9 +107,9 @@ distinct_both : (n : ℕ) (xs ys : List (Oref × Obj)) → AreDistinct xs → Al
 unfolding IsDistinct
 distinct_both n [] ys first on then above = then
 distinct_both n (w ∷ ws) ys first on then above = (
-    apart_both w.0 ws ys first.0 (apart_pages w.0 ys (all_weaker (λ (v : Oref × Obj). suc n ≤ v.0.page) (λ (v : Oref × Obj). suc w.0.page ≤ v.0.page) ys (λ v is. omega (arith, is, on.0)) above)),
-    distinct_both n ws ys first.1 on.1 then above,
-  )
+  apart_both w.0 ws ys first.0 (apart_pages w.0 ys (all_weaker (λ (v : Oref × Obj). suc n ≤ v.0.page) (λ (v : Oref × Obj). suc w.0.page ≤ v.0.page) ys (λ v is. omega (arith, is, on.0)) above)),
+  distinct_both n ws ys first.1 on.1 then above,
+)
 
 pages_distinct : (low repo : ℕ) (sides : List (ℕ × ℕ)) (pages : List (List (Oref × Obj))) → Rises low sides → AllZip (OnNamed repo) sides pages → AreDistinct (flat_map (λ page. page) pages)
 unfolding IsDistinct

@@ -6,6 +6,7 @@ use crate::faults::{Fault, Wrong};
 use crate::watching::Watch;
 use cluster_core::{Finished, Ran, Start};
 use disk_trait::{MemParts, TickClock};
+use outside::OpenGate;
 use repo_core::Repo;
 use repo_site::Site;
 use repo_trace::Traces;
@@ -97,7 +98,7 @@ fn happen_all(
 /// All items end.
 fn drain(store: Store, watch: &mut Watch, coverage: &mut Coverage) -> Result<Store, NoMemory> {
     let mut store = store;
-    let drained = store.drain();
+    let drained = store.drain(&OpenGate);
     let (store, _) = both(store, drained)?;
     look(store, watch, EventKind::Unknown, coverage)
 }

@@ -56,6 +56,10 @@ impl Gate for Hold {
             self.passed.store(2, SeqCst);
         }
     }
+
+    fn begin_run(&self, _items: usize) {}
+
+    fn end_items(&self, _count: usize) {}
 }
 
 /// Two clients, each with an object at a repository of its own.

@@ -1,13 +1,13 @@
 //! The top call, between standard input and standard output.
 
 use disk_trait::Parts;
-use outside::{OpenGate, StdSource};
+use outside::StdSource;
 use std::mem;
 use std::sync::Wait;
 use std::thread::Threads;
 use thor_top::{Outcome, Status, StoreParts, thor};
 use thor_value::Texts;
-use top_host::{NotingSink, advise_behind};
+use top_host::{NotingSink, Progress, advise_behind};
 
 /// How the program ended, with the parts.
 #[derive(Drop)]
@@ -18,7 +18,7 @@ pub struct Ended<P> {
     pub parts: Vec<P>,
 }
 
-/// Calls the top call, and tells what its answer leaves open. The program ends behind it: what a run took beside the parts is
+/// Calls the top call, and tells what its answer leaves open; on a terminal also how far a run is. The program ends behind it: what a run took beside the parts is
 /// left to the system.
 pub fn perform<R: Threads + Wait + Sync, P: Parts + Send>(
     rt: HostRuntime,
@@ -27,7 +27,8 @@ pub fn perform<R: Threads + Wait + Sync, P: Parts + Send>(
     parts: Vec<P>,
 ) -> Ended<P> {
     let mut source = StdSource::new(rt.stdin());
-    let mut sink = NotingSink::new(rt.stdout());
+    let progress = Progress::new(rt);
+    let mut sink = NotingSink::new(rt.stdout(), &progress);
     let Outcome {
         status,
         parts,
@@ -42,8 +43,9 @@ pub fn perform<R: Threads + Wait + Sync, P: Parts + Send>(
         StoreParts {
             repositories: parts,
         },
-        &OpenGate,
+        &progress,
     );
+    progress.clear();
     let is_run = !traces.as_slice().is_empty();
     let noted = sink.noted();
     advise_behind(rt, status, is_run, noted);

@@ -26,9 +26,10 @@ use top_reply::Reply;
 use top_statement::{Answered, untouched};
 use top_words::{Command, Plan, WordsFault, read_words};
 
-/// Answers a plan. A run performs its events one after the other.
-pub(crate) fn answer_in_turn<S: Source, P: Parts>(
+/// Answers a plan. A run performs its events one after the other, and the gate is told how far it is.
+pub(crate) fn answer_in_turn<S: Source, P: Parts, G: Gate>(
     alloc: Global,
+    gate: &G,
     plan: &Plan,
     source: &mut S,
     parts: Vec<P>,
@@ -41,7 +42,7 @@ pub(crate) fn answer_in_turn<S: Source, P: Parts>(
     ensures committed { IfOk result.reply (SaysLines (committed_lines result.traces) (ReadAll P.disks parts.items) (IsHanded plan.now (vec_len parts)) (told_by S.left S.faults source.old) (told_by S.left S.faults source.new)) }
 {
     match begin(alloc, plan, source, parts) {
-        Ok(found_run) => run_in_turn(alloc, found_run),
+        Ok(found_run) => run_in_turn(alloc, gate, found_run),
         Err(answered) => untold(alloc, answered),
     }
 }
@@ -101,7 +102,7 @@ fn answer_plan<R: Threads + Wait + Sync, S: Source, P: Parts + Send, G: Gate + S
     match plan.command {
         Command::Run => answer_on_threads(alloc, runtime, plan, source, parts),
         Command::Check | Command::Play | Command::Gen { n: _ } | Command::Audit => {
-            answer_in_turn(alloc, plan, source, parts)
+            answer_in_turn(alloc, runtime.gate, plan, source, parts)
         }
     }
 }

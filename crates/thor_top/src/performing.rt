@@ -15,7 +15,7 @@ ghost use Rattle.top_words.specs.declared.command.Command.TheVariants.{Audit, Ch
 
 use crate::answering::answer_in_turn;
 use disk_trait::Parts;
-use outside::{Sink, Source};
+use outside::{OpenGate, Sink, Source};
 use std::alloc::Global;
 use top_reply::Status;
 use top_statement::{Outcome, StoreParts, write_answer};
@@ -57,6 +57,6 @@ pub fn perform<S: Source, K: Sink, P: Parts>(
     ensures committed { IfOk result.reply (SaysLines (committed_lines result.traces) (ReadAll P.disks parts.repositories.items) (IsHanded plan (vec_len parts.repositories)) (told_by S.left S.faults source.old) (told_by S.left S.faults source.new)) }
 {
     let StoreParts { repositories } = parts;
-    let answered = answer_in_turn(alloc, &plan, source, repositories);
+    let answered = answer_in_turn(alloc, &OpenGate, &plan, source, repositories);
     write_answer(alloc, sink, answered)
 }

@@ -14,6 +14,7 @@ use cluster_threads::{Cluster, Finished, Plan as Run, play, run_clients};
 use disk_trait::Parts;
 use outside::Gate;
 use schedule::Event;
+use script_parse::Script;
 use std::alloc::Global;
 use std::marker::Brand;
 use std::sync::Wait;
@@ -21,15 +22,28 @@ use std::thread::Threads;
 use store_opening::{ClusterFault, Found};
 use top_statement::Answered;
 
-/// What a run on threads goes by: what starts them, and the gate that their events pass.
+/// What a run on threads goes by: what starts them, and the gate that their events pass and that is told how far the run is.
 #[derive(Drop)]
 pub struct Runtime<'a, R: Wait, G: Gate> {
     pub rt: &'a R,
     pub gate: &'a G,
 }
 
-/// Makes a run, whose events are performed one after the other, and tells it.
-pub(crate) fn run_in_turn<P: Parts>(alloc: Global, run: FoundRun<P>) -> Answered<P>
+/// How many items a script has.
+fn item_count(script: &Script) -> usize {
+    let mut count: usize = 0;
+    for items in script.clients.as_slice() {
+        count = count.saturating_add(items.len());
+    }
+    count
+}
+
+/// Makes a run, whose events are performed one after the other, and tells it. The gate is told how far it is.
+pub(crate) fn run_in_turn<P: Parts, G: Gate>(
+    alloc: Global,
+    gate: &G,
+    run: FoundRun<P>,
+) -> Answered<P>
     requires { IsSorted run.expected.opened.store.objects }
     ensures reply { IfOk result.reply (IsToldOf run.expected) }
     ensures parts { vec_len result.parts ≡ parts_in run.found }
@@ -42,7 +56,8 @@ pub(crate) fn run_in_turn<P: Parts>(alloc: Global, run: FoundRun<P>) -> Answered
         run,
         expected,
     } = run;
-    let played = play(alloc, found, run, expected.script.events.as_slice());
+    gate.begin_run(item_count(&expected.script));
+    let played = play(alloc, found, run, expected.script.events.as_slice(), gate);
     replied(alloc, expected, played)
 }
 
@@ -62,6 +77,7 @@ pub(crate) fn run_on_threads<R: Threads + Wait + Sync, P: Parts + Send, G: Gate 
         run,
         expected,
     } = run;
+    runtime.gate.begin_run(item_count(&expected.script));
     let events = expected.script.events.as_slice();
     let played = play_on_threads(alloc, runtime, found, run, events, mob);
     replied(alloc, expected, played)

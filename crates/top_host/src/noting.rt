@@ -2,6 +2,7 @@
 
 ghost use Rattle.std.specs.Prelude.{None};
 
+use crate::progress::Progress;
 use memchr::memmem::find;
 use outside::{Failed, Sink, StdSink};
 use std::io::Stdout;
@@ -17,17 +18,20 @@ pub struct Noted {
 
 /// Standard output. It tells nothing but its count of faults.
 #[derive(Drop)]
-pub struct NotingSink {
+pub struct NotingSink<'a> {
     sink: StdSink,
+    /// What was told of the run meanwhile, which is taken away before the first write.
+    progress: &'a Progress,
     /// What the text says; nothing before the first write, which has the whole text.
     noted: Option<Noted>,
 }
 
-impl NotingSink {
+impl<'a> NotingSink<'a> {
     /// Standard output, as a runtime gives it.
-    pub fn new(output: Stdout) -> NotingSink {
+    pub fn new(output: Stdout, progress: &'a Progress) -> NotingSink<'a> {
         NotingSink {
             sink: StdSink::new(output),
+            progress,
             noted: None,
         }
     }
@@ -41,13 +45,14 @@ impl NotingSink {
     }
 }
 
-impl Sink for NotingSink {
+impl<'a> Sink for NotingSink<'a> {
     ghost taken = { λ _. None };
 
     ghost faults = { λ s. s.sink };
 
     fn write(&mut self, bytes: &[u8]) -> Result<usize, Failed> {
         if self.noted.is_none() {
+            self.progress.clear();
             self.noted = Some(noted_in(bytes));
         }
         self.sink.write(bytes)

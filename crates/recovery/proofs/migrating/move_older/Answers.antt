@@ -15,36 +15,36 @@ use Rattle.recovery.proofs.migrating.move_older.Goals as goal
 pub begin_older-requires-clause-holds : goal.begin_older-requires-clause-holds
 begin_older-requires-clause-holds g c = (recorded c.args.recovered, holds_on (g.P.Parts.disks c.args.parts.now) (g.P.Parts.disks c.moved_state.new.parts) c.args.recovered.log (recorded c.args.recovered) c.moved_state.ensures.stays c.requires.holds)
 
-pub returns-in-Ok-clause-goes : goal.returns-in-Ok-clause-goes
-returns-in-Ok-clause-goes g c = goes_then (g.P.Parts.disks c.args.parts.now) (g.P.Parts.disks c.moved_state.new.parts) (g.P.Parts.disks c.begin_older.new.parts) (reads_goes (g.P.Parts.disks c.args.parts.now) (g.P.Parts.disks c.moved_state.new.parts) c.moved_state.ensures.stays) c.begin_older.ensures.goes
+pub returns-in_ok-state-in-Ok-clause-goes : goal.returns-in_ok-state-in-Ok-clause-goes
+returns-in_ok-state-in-Ok-clause-goes g c = goes_then (g.P.Parts.disks c.args.parts.now) (g.P.Parts.disks c.moved_state.new.parts) (g.P.Parts.disks c.begin_older.new.parts) (reads_goes (g.P.Parts.disks c.args.parts.now) (g.P.Parts.disks c.moved_state.new.parts) c.moved_state.ensures.stays) c.begin_older.ensures.goes
 
-pub returns-in-Ok-clause-any_moment : goal.returns-in-Ok-clause-any_moment
-returns-in-Ok-clause-any_moment g c = λ tells images reads.
+pub returns-in_ok-state-in-Ok-clause-any_moment : goal.returns-in_ok-state-in-Ok-clause-any_moment
+returns-in_ok-state-in-Ok-clause-any_moment g c = λ tells images reads.
     let s = recorded c.args.recovered in
     let made : IsMigrated s (images 2) c.in-Ok.state = subst (λ (f : StoreFormat). IsMigrated (in_format f (said c.args.recovered.state)) (images 2) c.in-Ok.state) (sym c.requires.older) (c.in-Ok.ensures.moved images reads) in
     both_say (g.P.Parts.disks c.args.parts.now) (g.P.Parts.disks c.moved_state.new.parts) (g.P.Parts.disks c.begin_older.new.parts) c.args.recovered.log s c.in-Ok.state (images 2) c.moved_state.ensures.stays c.requires.holds tells made
     (λ told. c.begin_older.ensures.any_moment s (holds_on (g.P.Parts.disks c.args.parts.now) (g.P.Parts.disks c.moved_state.new.parts) c.args.recovered.log s c.moved_state.ensures.stays c.requires.holds) told)
 
-pub returns-in-Ok-clause-content : goal.returns-in-Ok-clause-content
-returns-in-Ok-clause-content g c = c.begin_older.ensures.pages ∙ c.moved_state.ensures.stays.content
+pub returns-in_ok-state-in-Ok-clause-content : goal.returns-in_ok-state-in-Ok-clause-content
+returns-in_ok-state-in-Ok-clause-content g c = c.begin_older.ensures.pages ∙ c.moved_state.ensures.stays.content
 
-pub returns-in-Ok-clause-still : goal.returns-in-Ok-clause-still
-returns-in-Ok-clause-still g c = λ image left. c.moved_state.ensures.stays.crash image (c.begin_older.ensures.still image left)
+pub returns-in_ok-state-in-Ok-clause-still : goal.returns-in_ok-state-in-Ok-clause-still
+returns-in_ok-state-in-Ok-clause-still g c = λ image left. c.moved_state.ensures.stays.crash image (c.begin_older.ensures.still image left)
 
-pub returns-in-Ok-clause-clock : goal.returns-in-Ok-clause-clock
-returns-in-Ok-clause-clock g c = c.begin_older.ensures.clock ∙ c.moved_state.ensures.stays.alone.clock
+pub returns-in_ok-state-in-Ok-clause-clock : goal.returns-in_ok-state-in-Ok-clause-clock
+returns-in_ok-state-in-Ok-clause-clock g c = c.begin_older.ensures.clock ∙ c.moved_state.ensures.stays.alone.clock
 
-pub returns-in-Ok-clause-pages : goal.returns-in-Ok-clause-pages
-returns-in-Ok-clause-pages g c = λ disk reaches. unread_agree c.in_ok-state.state.objects.pages c.in_ok-state.ensures.unread disk reaches
+pub returns-in_ok-state-in-Ok-clause-pages : goal.returns-in_ok-state-in-Ok-clause-pages
+returns-in_ok-state-in-Ok-clause-pages g c = λ disk reaches. unread_agree c.in_ok-state-in-Ok.state.objects.pages c.in_ok-state-in-Ok.ensures.unread disk reaches
 
-pub returns-in-Ok-clause-becomes : goal.returns-in-Ok-clause-becomes
-returns-in-Ok-clause-becomes g c = λ images reads.
+pub returns-in_ok-state-in-Ok-clause-becomes : goal.returns-in_ok-state-in-Ok-clause-becomes
+returns-in_ok-state-in-Ok-clause-becomes g c = λ images reads.
     let s = recorded c.args.recovered in
     let made : IsMigrated s (images 2) c.in-Ok.state = subst (λ (f : StoreFormat). IsMigrated (in_format f (said c.args.recovered.state)) (images 2) c.in-Ok.state) (sym c.requires.older) (c.in-Ok.ensures.moved images reads) in
-    subst (λ (t : State). IsMigrated s (images 2) t) (sym c.in_ok-state.ensures.said) made
+    subst (λ (t : State). IsMigrated s (images 2) t) (sym c.in_ok-state-in-Ok.ensures.said) made
 
-pub returns-in-Ok-clause-steady : goal.returns-in-Ok-clause-steady
-returns-in-Ok-clause-steady g c = λ d. c.in_ok-state.ensures.steady d ∙ (reads_steady (g.P.Parts.disks c.args.parts.now) (g.P.Parts.disks c.moved_state.new.parts) c.moved_state.ensures.stays c.in-Ok.ensures.steady d)
+pub returns-in_ok-state-in-Ok-clause-steady : goal.returns-in_ok-state-in-Ok-clause-steady
+returns-in_ok-state-in-Ok-clause-steady g c = λ d. c.in_ok-state-in-Ok.ensures.steady d ∙ (reads_steady (g.P.Parts.disks c.args.parts.now) (g.P.Parts.disks c.moved_state.new.parts) c.moved_state.ensures.stays c.in-Ok.ensures.steady d)
 
 pub returns-in_err-state-in-Ok-clause-goes : goal.returns-in_err-state-in-Ok-clause-goes
 returns-in_err-state-in-Ok-clause-goes g c = goes_then (g.P.Parts.disks c.args.parts.now) (g.P.Parts.disks c.moved_state.new.parts) (g.P.Parts.disks c.begin_older.new.parts) (reads_goes (g.P.Parts.disks c.args.parts.now) (g.P.Parts.disks c.moved_state.new.parts) c.moved_state.ensures.stays) c.begin_older.ensures.goes

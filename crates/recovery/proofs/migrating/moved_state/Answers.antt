@@ -22,13 +22,13 @@ with_objects-requires-clause-paged g c = c.in-Ok.ensures.own c.in_ok-before.ensu
 pub with_objects-requires-clause-buffer : goal.with_objects-requires-clause-buffer
 with_objects-requires-clause-buffer g c = subst (λ (s : State). AreOf s.repo s.mob) (sym c.in_ok-before.ensures.spelled) c.requires.keeps.objects
 
-pub returns-in-Ok-clause-same : goal.returns-in-Ok-clause-same
-returns-in-Ok-clause-same g c = migrated_same c.args.held.now c.in-Ok.paged c.in_ok-state.state (c.in_ok-state.ensures.moved ∙ ap (λ (s : State). migrated c.in-Ok.paged s) c.in_ok-before.ensures.spelled)
+pub returns-in_ok-state-in-Ok-clause-same : goal.returns-in_ok-state-in-Ok-clause-same
+returns-in_ok-state-in-Ok-clause-same g c = migrated_same c.args.held.now c.in-Ok.paged c.in_ok-state-in-Ok.state (c.in_ok-state-in-Ok.ensures.moved ∙ ap (λ (s : State). migrated c.in-Ok.paged s) c.in_ok-before.ensures.spelled)
 
-pub returns-in-Ok-clause-moved : goal.returns-in-Ok-clause-moved
-returns-in-Ok-clause-moved g c = λ images reads.
+pub returns-in_ok-state-in-Ok-clause-moved : goal.returns-in_ok-state-in-Ok-clause-moved
+returns-in_ok-state-in-Ok-clause-moved g c = λ images reads.
     let held = c.args.held.now in
-    let is : c.in_ok-state.state ≡ migrated c.in-Ok.paged (spelled held) = c.in_ok-state.ensures.moved ∙ ap (λ (s : State). migrated c.in-Ok.paged s) c.in_ok-before.ensures.spelled in
+    let is : c.in_ok-state-in-Ok.state ≡ migrated c.in-Ok.paged (spelled held) = c.in_ok-state-in-Ok.ensures.moved ∙ ap (λ (s : State). migrated c.in-Ok.paged s) c.in_ok-before.ensures.spelled in
     let on : ArePaged One held.repo (images 2) held.objects.pages.sides c.in-Ok.paged = subst (λ (s : State). ArePaged One s.repo (images 2) s.installed c.in-Ok.paged) c.in_ok-before.ensures.spelled (c.in-Ok.ensures.paged (images 2) (reads 2 (omega arith))) in
     subst (λ (s : State). IsMigrated (in_format One (said held)) (images 2) s) (sym is) (moved_is held (images 2) c.in-Ok.paged c.requires.keeps on)
 

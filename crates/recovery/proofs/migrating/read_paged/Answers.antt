@@ -1,14 +1,19 @@
-use Rattle.std.proofs.Common.{IsErrOf, refl, rules, subst, sym, ℕ, ◌∙◌}
+use Rattle.std.proofs.Common.{IsErrOf, [], refl, rules, subst, sym, ℕ, ◌∙◌}
 use Rattle.disk_trait.specs.Disks.{Rose}
 use Rattle.page_format.specs.declared.format.StoreFormat.TheVariants.{One}
 use Rattle.recovery.proofs.Moving.{stays_none, stays_then}
-use Rattle.recovery.proofs.PagedObjects.{OnNamed, all_at, all_distinct, all_next, all_none, all_of, all_whole, side_at}
+use Rattle.recovery.proofs.PagedObjects.{AreAll, OnNamed, all_at, all_distinct, all_next, all_none, all_of, all_whole, side_at}
 use Rattle.recovery.specs.Paged.{HasSide, IsOnSide}
 use Rattle.recovery.specs.declared.fault.RecoverFault.TheVariants.{Damaged, Failed, NoMemory}
 use Rattle.recovery.proofs.migrating.read_paged.Goals as goal
 
-pub loop-page-initial : goal.loop-page-initial
-loop-page-initial g c = (stays_none (g.P.Parts.disks c.args.parts.now), refl, λ disk told. all_none (IsOnSide One c.args.repo disk), all_none (OnNamed c.args.repo))
+pub loop-page-init : goal.loop-page-init
+loop-page-init g c = (
+  stays_none (g.P.Parts.disks c.args.parts.now),
+  refl,
+  λ disk told. subst (AreAll (IsOnSide One c.args.repo disk) []) (sym c.new-paged.ensures) (all_none (IsOnSide One c.args.repo disk)),
+  subst (AreAll (OnNamed c.args.repo) []) (sym c.new-paged.ensures) (all_none (OnNamed c.args.repo)),
+)
 
 pub put_page-requires : goal.put_page-requires
 put_page-requires g c = record { told = λ disk told. side_at (HasSide One disk) c.args.installed.now c.as_slice-page-items.result.now c.loop-page.page-index _ c.as_slice-page-items.ensures.value c.loop-page-test.true (c.requires.told disk (sym c.loop-page.invariant.0.content ∙ told)) }

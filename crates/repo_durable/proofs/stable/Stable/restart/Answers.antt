@@ -166,3 +166,6 @@ returns-in-Up-clause-readable g c = λ is has. absurd (none_up c.args.self.now.p
 
 pub returns-then-is_torn-clause-readable : goal.returns-then-is_torn-clause-readable
 returns-then-is_torn-clause-readable g c = λ is has. c.take_down.ensures.readable (armed_has g.P.Parts.disks c.args.self.now c.disarm.new.self 0 c.disarm.ensures has)
+
+pub returns-in-Up-clause-stays_said : goal.returns-in-Up-clause-stays_said
+returns-in-Up-clause-stays_said g c = λ is. absurd (none_up c.args.self.now.phase c.in-Up.log (sym (ap phase_of c.take_down.ensures.new) ∙ (sym c.recover.ensures.phase ∙ (sym c.replace.ensures.value ∙ c.in-Up.is))))
