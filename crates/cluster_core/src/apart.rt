@@ -1,5 +1,6 @@
 //! The repositories and clients of an open store, apart from each other.
 
+ghost use Rattle.cluster_core.specs.Committed.{committed_lines};
 ghost use Rattle.cluster_core.specs.Counts.{parts_of, room_of};
 ghost use Rattle.cluster_core.specs.Restarting.{IsStartedAgain};
 ghost use Rattle.std.specs.Prelude.{IfErr, IfOk, vec_capacity, vec_len, ◌≡◌, ◌≤◌};
@@ -63,7 +64,9 @@ impl<P: Parts> Emptied<P> {
     /// Ends the run: repositories and clients come back, as many repositories at most as there were.
     pub fn finish<O: Opening>(self, seats: Vec<Seat<P, O>>, clients: Vec<FrontEnd>) -> Finished<P>
         requires { vec_len seats ≤ room_of self }
-        ensures { vec_len result.parts ≡ vec_len seats }
+        ensures parts { vec_len result.parts ≡ vec_len seats }
+        // The lines are what the traces have as committed.
+        ensures lines { IfOk result.ran (λ ran. ran.lines ≡ committed_lines ran.traces) }
     {
         let Emptied {
             alloc,

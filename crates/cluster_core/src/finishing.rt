@@ -95,7 +95,8 @@ pub(crate) fn close_seats<P: Parts, O: Opening>(
 ) -> Finished<P>
     requires empty { vec_len spare ≡ 0 }
     requires room { vec_len seats ≤ vec_capacity spare }
-    ensures { vec_len result.parts ≡ vec_len seats }
+    ensures parts { vec_len result.parts ≡ vec_len seats }
+    ensures lines { IfOk result.ran (λ ran. ran.lines ≡ committed_lines ran.traces) }
 {
     let (parts, traces) = close_each(alloc, seats, spare);
     Finished {

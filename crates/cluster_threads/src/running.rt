@@ -1,7 +1,8 @@
 //! A run on threads.
 
+ghost use Rattle.cluster_core.specs.Committed.{committed_lines};
 ghost use Rattle.cluster_core.specs.Counts.{parts_of, room_of};
-ghost use Rattle.std.specs.Prelude.{vec_len, ◌≡◌, ◌≤◌};
+ghost use Rattle.std.specs.Prelude.{IfOk, vec_len, ◌≡◌, ◌≤◌};
 
 use crate::beside::beside;
 use crate::client::{Client, Job};
@@ -35,7 +36,9 @@ pub fn run_clients<R: Threads + Wait + Sync, P: Parts + Send, G: Gate + Sync>(
     mob: u32,
     gate: &G,
 ) -> Finished<P>
-    ensures { vec_len result.parts ≡ parts_of cluster }
+    ensures parts { vec_len result.parts ≡ parts_of cluster }
+    // The lines are what the traces have as committed.
+    ensures lines { IfOk result.ran (λ ran. ran.lines ≡ committed_lines ran.traces) }
 {
     match cluster.emptied() {
         Ok((emptied, seats, clients)) => {
@@ -57,7 +60,8 @@ fn run_apart<R: Threads + Wait + Sync, P: Parts + Send, G: Gate + Sync>(
     gate: &G,
 ) -> Finished<P>
     requires { vec_len seats ≤ room_of emptied }
-    ensures { vec_len result.parts ≡ vec_len seats }
+    ensures parts { vec_len result.parts ≡ vec_len seats }
+    ensures lines { IfOk result.ran (λ ran. ran.lines ≡ committed_lines ran.traces) }
 {
     let (seats, ran) = run_locked(
         rt,
@@ -79,7 +83,8 @@ fn ended<P: Parts>(
     ran: Result<Vec<FrontEnd>, NoMemory>,
 ) -> Finished<P>
     requires { vec_len seats ≤ room_of emptied }
-    ensures { vec_len result.parts ≡ vec_len seats }
+    ensures parts { vec_len result.parts ≡ vec_len seats }
+    ensures lines { IfOk result.ran (λ ran. ran.lines ≡ committed_lines ran.traces) }
 {
     match ran {
         Ok(clients) => emptied.finish(seats, clients),

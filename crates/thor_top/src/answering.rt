@@ -77,6 +77,7 @@ fn answer_on_threads<R: Threads + Wait + Sync, S: Source, P: Parts + Send, G: Ga
     ensures reply { IfOk result.reply (Says (ReadAll P.disks parts.items) (IsHanded plan.now (vec_len parts)) (IsForOthers plan.now (vec_len parts)) (told_by S.left S.faults source.old) (told_by S.left S.faults source.new)) }
     ensures parts { vec_len result.parts ≡ vec_len parts }
     ensures kept { WritesNothing plan.now.command result.reply → AreSame P.disks parts.items result.parts.items }
+    ensures committed { IfOk result.reply (SaysLines (committed_lines result.traces) (ReadAll P.disks parts.items) (IsHanded plan.now (vec_len parts)) (told_by S.left S.faults source.old) (told_by S.left S.faults source.new)) }
 {
     match begin(alloc, plan, source, parts) {
         Ok(found_run) => run_on_threads(alloc, runtime, found_run, plan.mob),
@@ -97,7 +98,7 @@ fn answer_plan<R: Threads + Wait + Sync, S: Source, P: Parts + Send, G: Gate + S
     ensures kept { WritesNothing plan.now.command result.reply → AreSame P.disks parts.items result.parts.items }
     ensures histories { IsInTurn plan.now.command → AreHistoriesIf P.disks parts.items result.traces }
     ensures reported { IsInTurn plan.now.command → TellsRunBy result.reply → AreHistories P.disks parts.items result.traces }
-    ensures committed { IsInTurn plan.now.command → IfOk result.reply (SaysLines (committed_lines result.traces) (ReadAll P.disks parts.items) (IsHanded plan.now (vec_len parts)) (told_by S.left S.faults source.old) (told_by S.left S.faults source.new)) }
+    ensures committed { IfOk result.reply (SaysLines (committed_lines result.traces) (ReadAll P.disks parts.items) (IsHanded plan.now (vec_len parts)) (told_by S.left S.faults source.old) (told_by S.left S.faults source.new)) }
 {
     match plan.command {
         Command::Run => answer_on_threads(alloc, runtime, plan, source, parts),
@@ -122,7 +123,7 @@ pub(crate) fn answer<R: Threads + Wait + Sync, S: Source, P: Parts + Send, G: Ga
     ensures audited { (plan : Plan) → plan_of words.now ≡ Some plan → plan.command ≡ Audit → AreSame P.disks parts.items result.parts.items }
     ensures histories { (plan : Plan) → plan_of words.now ≡ Some plan → IsInTurn plan.command → AreHistoriesIf P.disks parts.items result.traces }
     ensures reported { (plan : Plan) → plan_of words.now ≡ Some plan → IsInTurn plan.command → TellsRunBy result.reply → AreHistories P.disks parts.items result.traces }
-    ensures committed { (plan : Plan) → plan_of words.now ≡ Some plan → IsInTurn plan.command → IfOk result.reply (SaysLines (committed_lines result.traces) (ReadAll P.disks parts.items) (IsPlan words.now (vec_len parts)) (told_by S.left S.faults source.old) (told_by S.left S.faults source.new)) }
+    ensures committed { IfOk result.reply (SaysLines (committed_lines result.traces) (ReadAll P.disks parts.items) (IsPlan words.now (vec_len parts)) (told_by S.left S.faults source.old) (told_by S.left S.faults source.new)) }
 {
     match read_words(alloc, words) {
         Ok(plan) => answer_plan(alloc, runtime, &plan, source, parts),

@@ -71,6 +71,7 @@ pub(crate) fn run_on_threads<R: Threads + Wait + Sync, P: Parts + Send, G: Gate 
     requires sorted { IsSorted run.expected.opened.store.objects }
     ensures reply { IfOk result.reply (IsToldOf run.expected) }
     ensures parts { vec_len result.parts ≡ parts_in run.found }
+    ensures committed { TellsRunBy result.reply → IfOk result.reply (IsToldWith (committed_lines result.traces) run.expected) }
 {
     let FoundRun {
         found,
@@ -94,6 +95,7 @@ fn play_on_threads<R: Threads + Wait + Sync, P: Parts + Send, G: Gate + Sync>(
 ) -> Result<Finished<P>, ClusterFault<P>>
     ensures parts { IfOk result (λ finished. vec_len finished.parts ≡ parts_in found) }
     ensures err { IfErr result (λ fault. vec_len fault.parts ≡ parts_in found) }
+    ensures lines { IfOk result (λ finished. IfOk finished.ran (λ ran. ran.lines ≡ committed_lines ran.traces)) }
 {
     match Cluster::<P, Brand>::open(alloc, found, run) {
         Ok(cluster) => Ok(run_clients(runtime.rt, alloc, cluster, events, mob, runtime.gate)),

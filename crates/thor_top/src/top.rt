@@ -82,8 +82,8 @@ pub fn thor<R: Threads + Wait + Sync, S: Source, K: Sink, P: Parts + Send, G: Ga
     ensures histories { (plan : Plan) → plan_of words.now ≡ Some plan → IsInTurn plan.command → AreHistoriesIf P.disks parts.repositories.items result.traces }
     // Where a run is told that was made on one thread, each repository has such a history.
     ensures reported { (plan : Plan) → plan_of words.now ≡ Some plan → IsInTurn plan.command → TellsRunBy result.reply → AreHistories P.disks parts.repositories.items result.traces }
-    // The history that is told of such a run is what the repositories have committed, by their traces.
-    ensures committed { (plan : Plan) → plan_of words.now ≡ Some plan → IsInTurn plan.command → IfOk result.reply (SaysLines (committed_lines result.traces) (ReadAll P.disks parts.repositories.items) (IsPlan words.now (vec_len parts.repositories)) (told_by S.left S.faults source.old) (told_by S.left S.faults source.new)) }
+    // The history that is told of a run is what the repositories have committed, by their traces.
+    ensures committed { IfOk result.reply (SaysLines (committed_lines result.traces) (ReadAll P.disks parts.repositories.items) (IsPlan words.now (vec_len parts.repositories)) (told_by S.left S.faults source.old) (told_by S.left S.faults source.new)) }
 {
     let runtime = Runtime { rt, gate };
     let StoreParts { repositories } = parts;

@@ -61,7 +61,7 @@ pub returns-in-Err-NoMemory-clause-reported : goal.returns-in-Err-NoMemory-claus
 returns-in-Err-NoMemory-clause-reported g c = λ p is turn tells. absurd (subst (λ (q : Result Reply NoMemory). TellsRunBy q) c.untouched-in-Err-NoMemory.ensures.reply tells)
 
 pub returns-in-Ok-clause-committed : goal.returns-in-Ok-clause-committed
-returns-in-Ok-clause-committed g c = λ p is turn.
+returns-in-Ok-clause-committed g c =
     let D = ReadAll g.P.Parts.disks c.args.parts.items in
     let words = c.args.words.now in
     let plan = c.in-Ok.plan in
@@ -69,14 +69,14 @@ returns-in-Ok-clause-committed g c = λ p is turn.
     let before : Told = told_by g.S.Source.left g.S.Source.faults c.args.source.now in
     let after : Told = told_by g.S.Source.left g.S.Source.faults c.answer_plan.new.source in
     other_lines (committed_lines c.answer_plan.result.traces) D (IsPlan words count) before after (IsHanded plan count) (handed_is words count plan c.in-Ok.ensures) c.answer_plan.result.reply
-    (c.answer_plan.ensures.committed (one_in_turn words plan p c.in-Ok.ensures is turn))
+    c.answer_plan.ensures.committed
 
 pub returns-in-Err-Words-clause-committed : goal.returns-in-Err-Words-clause-committed
-returns-in-Err-Words-clause-committed g c = λ p is turn.
+returns-in-Err-Words-clause-committed g c =
     let before : Told = told_by g.S.Source.left g.S.Source.faults c.args.source.now in
     none_said (committed_lines c.untouched.result.traces) (ReadAll g.P.Parts.disks c.args.parts.items) (IsPlan c.args.words.now (vec_len c.args.parts)) before before c.untouched.result.reply (subst (λ (q : Result Reply NoMemory). TellsNoRun q) (sym c.untouched.ensures.reply) (λ tells. tells))
 
 pub returns-in-Err-NoMemory-clause-committed : goal.returns-in-Err-NoMemory-clause-committed
-returns-in-Err-NoMemory-clause-committed g c = λ p is turn.
+returns-in-Err-NoMemory-clause-committed g c =
     let before : Told = told_by g.S.Source.left g.S.Source.faults c.args.source.now in
     none_said (committed_lines c.untouched-in-Err-NoMemory.result.traces) (ReadAll g.P.Parts.disks c.args.parts.items) (IsPlan c.args.words.now (vec_len c.args.parts)) before before c.untouched-in-Err-NoMemory.result.reply (subst (λ (q : Result Reply NoMemory). TellsNoRun q) (sym c.untouched-in-Err-NoMemory.ensures.reply) (λ tells. tells))

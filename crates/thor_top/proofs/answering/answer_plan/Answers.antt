@@ -6,6 +6,3 @@ returns-in-Run-clause-histories g c = λ turn. absurd (not_in_turn c.args.plan.n
 
 pub returns-in-Run-clause-reported : goal.returns-in-Run-clause-reported
 returns-in-Run-clause-reported g c = λ turn. absurd (not_in_turn c.args.plan.now.command c.in-Run.is turn)
-
-pub returns-in-Run-clause-committed : goal.returns-in-Run-clause-committed
-returns-in-Run-clause-committed g c = λ turn. absurd (not_in_turn c.args.plan.now.command c.in-Run.is turn)

@@ -57,5 +57,5 @@ returns-clause-reported g c = λ p is turn tells. rw c.write_answer.ensures.trac
     (c.answer-answered.ensures.reported p is turn (tells_of c.answer-answered.result.reply c.write_answer.result.reply c.write_answer.ensures.reply tells))
 
 pub returns-clause-committed : goal.returns-clause-committed
-returns-clause-committed g c = λ p is turn. rw c.write_answer.ensures.traces
-    (said_of c.answer-answered.result.reply c.write_answer.result.reply _ c.write_answer.ensures.reply (c.answer-answered.ensures.committed p is turn))
+returns-clause-committed g c = rw c.write_answer.ensures.traces
+    (said_of c.answer-answered.result.reply c.write_answer.result.reply _ c.write_answer.ensures.reply c.answer-answered.ensures.committed)
