@@ -44,8 +44,8 @@ def older_pages(folder, repo):
     newer, older = path.read_bytes() if path.exists() else b"", bytearray()
     for page, side in sorted(repo.state.sides.items()):
         at, to = store_files.page_place(page, side), store_files.page_place(page, side, OLDER)
-        older = older.ljust(to + size, b"\0")
-        older[to : to + size] = older_page(newer[at : at + store_files.PAGE_BYTES])
+        older += bytes(to - len(older))
+        older += older_page(newer[at : at + store_files.PAGE_BYTES])
     path.write_bytes(older)
 
 
