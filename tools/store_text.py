@@ -2,7 +2,7 @@
 import collections
 
 import store_fit
-from store_files import Wrong, file_name
+from store_files import FORMAT, Wrong, file_name
 
 PLURALS = {"repository": "repositories", "entry": "entries"}
 
@@ -107,6 +107,8 @@ def repository_lines(repository):
     other = repository.logs[1 - log.disk]
     yield f"    {file_name(repository.number, 1 - log.disk)}: {f'sequence {other.sequence}, the log before' if other else 'no log'}"
     paged = sum(len(it) for it in repository.pages.values())
+    if state.format != FORMAT:
+        yield "    of the older format: the next opening moves it into the newer one"
     yield f"    {plural(len(repository.pages), 'page')} with {plural(paged, 'object')}; {plural(len(state.buffer), 'object')} buffered; {plural(len(state.kept), 'decision')} kept"
 
 
