@@ -13,12 +13,16 @@ OLDER = 1
 FORMAT_AT = 13  # in a log: behind the gate, the sequence and the length of the checkpoint
 
 
+class Larger(Exception):
+    """What a page of the older format has no room for."""
+
+
 def older_page(data):
     """A page of the older format, of one of the newer."""
     size = store_files.SIZES[OLDER]
     rest = data[size:]
     if rest.strip(b"\0"):
-        raise ValueError("a page has more bytes than a page of the older format")
+        raise Larger("a page has more bytes than a page of the older format")
     return data[:2] + bytes([OLDER]) + data[3:size].ljust(size - 3, b"\0")
 
 

@@ -64,12 +64,21 @@ impl Progress {
         u64::try_from(elapsed.as_millis()).ok()
     }
 
-    /// Tells it where it is time to. One thread alone does that at a time, and no other one waits for it.
+    /// Whether all items of the run have ended.
+    fn is_at_end(&self) -> bool {
+        self.ended.load(SeqCst) == self.items.load(SeqCst)
+    }
+
+    /// Tells it where it is time to, and where the last item has ended. One thread alone does that at a time, and no other one waits
+    /// for it.
     fn tell_when_due(&self, begun: Instant) {
         let Some(now) = self.at_work(begun) else {
             return;
         };
-        if now < self.next.load(SeqCst) || self.is_telling.swap(true, SeqCst) {
+        if now < FIRST || now < self.next.load(SeqCst) && !self.is_at_end() {
+            return;
+        }
+        if self.is_telling.swap(true, SeqCst) {
             return;
         }
         self.next.store(now.saturating_add(PAUSE), SeqCst);
