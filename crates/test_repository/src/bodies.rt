@@ -214,7 +214,7 @@ fn is_none(alloc: Global, bytes: &[u8], at: usize, byte: u8) -> Result<bool, NoM
 /// 65,539 pages, a root's slot, a side, a page twice, a buffered name twice, a prepared transaction
 /// twice, kept decisions that fall, a client twice, and one behind the end.
 const NO_STATES: &[(usize, u8)] = &[
-    (0, 1),
+    (0, 0),
     (0, 3),
     (7, 64),
     (23, 8),
@@ -239,8 +239,15 @@ fn none_is_state(alloc: Global) -> Result<bool, NoMemory> {
     Ok(true)
 }
 
+/// Whether the checkpoint is one of the older format, too, spelled so again.
+fn older_has_one_spelling(alloc: Global) -> Result<bool, NoMemory> {
+    let older = changed(alloc, FULL, 0, 1)?;
+    Ok(state_has_one_spelling(alloc, older.as_slice()) == Some(true))
+}
+
 #[test]
 fn checkpoints_have_one_spelling(rt: HostRuntime) {
     assert!(rt; state_has_one_spelling(rt.alloc(), FULL) == Some(true));
+    assert!(rt; older_has_one_spelling(rt.alloc()) == Ok(true));
     assert!(rt; none_is_state(rt.alloc()) == Ok(true));
 }
