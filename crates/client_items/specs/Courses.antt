@@ -1,5 +1,5 @@
 -- How far a client has come in its items, and what a step makes of that (this project's).
-use Rattle.std.specs.Prelude.{◌≡◌, ◌<◌, ◌≤◌, ◌+◌, ◌^◌, ◌⊎◌, ℕ, Bool, true, false, List, [], ◌∷◌, ◌++◌, length, Option, Some, None, slice_get, slice_set}
+use Rattle.std.specs.Prelude.{◌≡◌, ◌<◌, ◌≤◌, ◌+◌, ◌-◌, ◌^◌, ◌⊎◌, ℕ, Bool, true, false, List, [], ◌∷◌, ◌++◌, length, Option, Some, None, min, slice_get, slice_set}
 use Rattle.thor_value.specs.declared.names.Ts.{Ts}
 use Rattle.thor_value.specs.declared.values.Who.{Who}
 use Rattle.serial_model.specs.declared.outcomes.Cause.TheVariants as cause
@@ -16,6 +16,10 @@ pub record Course : Type 0 where
 -- who the item behind n others is
 abbrev pub who_behind : ℕ → ℕ → Who
 who_behind client n = record { client = client; index = n + 1 }
+
+-- who the present item is; where none is left, the one behind the last, as far as an index tells it
+abbrev pub who_next : Course → Who
+who_next c = record { client = c.client; index = min (length c.ended + 1) (2 ^ 32 - 1) }
 
 -- The outcomes are those of the first items, one each, in their order.
 pub record IsInOrder (c : Course) : Type 0 where

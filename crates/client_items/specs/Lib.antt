@@ -1,3 +1,4 @@
 pub mod Courses
 pub mod Ending
 pub mod Falling
+pub mod Meanings

@@ -1,6 +1,6 @@
 //! How far a client has come in its items.
 
-ghost use Rattle.client_items.specs.Courses.{Ends, Goes, IsInOrder, IsLateOutcome, Learns, who_behind};
+ghost use Rattle.client_items.specs.Courses.{Ends, Goes, IsInOrder, IsLateOutcome, Learns, who_behind, who_next};
 ghost use Rattle.client_items.specs.Ending.{EndsAs, EndsBy, EndsIn, GoesBy, IsHeldSo, IsRefused, SettlesAs, ends_try};
 ghost use Rattle.client_items.specs.Falling.{CountsDown, IsLeft, NeverRises};
 ghost use Rattle.serial_model.specs.declared.outcomes.ItemOutcome.TheVariants as outcomes;
@@ -81,7 +81,8 @@ impl Progress {
 
     /// Who the present item is, where one is left.
     fn who(&self) -> Who
-        ensures { length self.now.ended < self.now.count → result ≡ who_behind self.now.client (length self.now.ended) }
+        ensures left { length self.now.ended < self.now.count → result ≡ who_behind self.now.client (length self.now.ended) }
+        ensures always { result ≡ who_next self.now }
     {
         let before = self.ended.len() as u32;
         Who {
@@ -102,7 +103,8 @@ impl Progress {
     /// What the client is to do, where an item has so many tries. The k-th upgrade of the script gets the
     /// number of the opened store's epoch plus k.
     pub fn task(&self, opened: &Opened, tries: u32) -> Task<'_>
-        ensures { result.tries ≡ tries }
+        ensures tries { result.tries ≡ tries }
+        ensures who { result.who ≡ who_next self.now }
     {
         Task {
             who: self.who(),

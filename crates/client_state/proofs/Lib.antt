@@ -1,5 +1,6 @@
 pub mod Carrying
 pub mod Copied
+pub mod Handing
 mod Holding
 pub mod Keeping
 pub mod Moving

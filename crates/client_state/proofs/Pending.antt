@@ -171,7 +171,7 @@ settled_written r sent index a b there links stay at w x = by (w x)
 
 -- ---- what is undecided
 
-pub asks_in : (p : Phase) (sent : Sent) (answers : ℕ) → asking_in p ≡ Some (sent, answers) → pending_in p ≡ IsAsking sent.at sent.ts
+pub asks_in : (p : Phase) (sent : Sent) (answers : ℕ) → asking_in p ≡ Some (sent, answers) → pending_in p ≡ IsAsking sent answers
 asks_in phase.Between sent answers h = cc
 asks_in phase.Beginning sent answers h = cc
 asks_in (phase.Evaluating run awaited) sent answers h = cc
@@ -179,7 +179,7 @@ asks_in (phase.Transforming run transform) sent answers h = cc
 asks_in (phase.Evaluated transaction) sent answers h = cc
 asks_in (phase.Drawn t transaction) sent answers h = cc
 asks_in (phase.Preparing t transaction coordinator prepared) sent answers h = cc
-asks_in (phase.Asking s n) sent answers h = ap (λ (k : Sent × ℕ). IsAsking k.0.at k.0.ts) (same_Some (s, n) (sent, answers) h)
+asks_in (phase.Asking s n) sent answers h = ap (λ (k : Sent × ℕ). IsAsking k.0 k.1) (same_Some (s, n) (sent, answers) h)
 
 -- a step by which nothing that is undecided changes, nor what is held
 pub stays_itself : (a : Pending) (h : Held) → StaysPending a a h h

@@ -1,12 +1,17 @@
 pub mod Calling
 pub mod Causes
+pub mod Evaluating
+pub mod Handing
 pub mod Learning
 pub mod Links
 pub mod Moving
 pub mod Owing
+pub mod Participants
 pub mod Pending
+pub mod Reading
 pub mod Receiving
 pub mod Sending
 pub mod Showing
+pub mod Stepping
 pub mod Taking
 pub mod Writing

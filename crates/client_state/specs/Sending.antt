@@ -1,5 +1,7 @@
 -- What a participant is sent, and by which session (this project's).
+use Rattle.client_items.specs.Meanings.{answer_in, kind_of}
 use Rattle.client_state.specs.Calling.{is_session_of, upto_in}
+use Rattle.client_state.specs.Participants.{others_in}
 use Rattle.client_state.specs.declared.link.Link.{Link}
 use Rattle.client_state.specs.declared.link.Link.TheVariants.{Apart, Joined, Unsettled}
 use Rattle.client_state.specs.declared.phase.Phase.{Phase}
@@ -7,9 +9,15 @@ use Rattle.client_state.specs.declared.phase.Phase.TheVariants.{Asking, Beginnin
 use Rattle.client_state.specs.declared.requests.Sending.{Sending}
 use Rattle.client_state.specs.declared.transaction.Share.{Share}
 use Rattle.client_state.specs.declared.transaction.Transaction.{Transaction}
+use Rattle.log_entries.specs.declared.request.Kind.TheVariants as kinds
+use Rattle.log_entries.specs.declared.request.Request.{Request}
 use Rattle.std.specs.Option.{option_map}
-use Rattle.std.specs.Prelude.{List, None, Option, Some, cond, slice_get, slice_set, true, ℕ, ◌≡◌}
+use Rattle.std.specs.Prelude.{List, None, Option, Some, [], cond, slice_get, slice_set, true, ℕ, ◌∷◌, ◌≡◌}
+use Rattle.thor_value.specs.declared.names.Oref.{Oref}
 use Rattle.thor_value.specs.declared.names.Ts.{Ts}
+use Rattle.thor_value.specs.declared.values.Answer.TheVariants.{Ints}
+use Rattle.thor_value.specs.declared.values.Obj.{Obj}
+use Rattle.thor_value.specs.declared.values.Who.{Who}
 
 -- how far the messages of a session were taken: as its link tells, and as it was before where it is no more
 abbrev pub upto_behind : Option Link → ℕ → ℕ → ℕ
@@ -27,6 +35,53 @@ pub record IsOfShare (links : List Link) (share : Share) (s : Sending) : Type 0 
   pub session : s.request.session ≡ share.session
   pub upto : s.request.upto ≡ upto_behind (slice_get links share.repo) share.session share.upto
   pub writes : s.request.writes ≡ share.writes
+
+-- the request of a transaction to the participant of a share, where the messages below `upto` were taken: who, kind, epoch, new names,
+-- answer and other participants are the whole transaction's
+abbrev pub request_of : Who → Ts → ℕ → Transaction → Share → Request
+request_of who t upto transaction share = record {
+  tx = t;
+  who = who;
+  session = share.session;
+  kind = kind_of transaction.meaning;
+  epoch = transaction.epoch;
+  upto = upto;
+  ros = share.ros;
+  writes = share.writes;
+  fresh = transaction.fresh;
+  answer = answer_in transaction.meaning;
+  others = others_in transaction.participants share.repo;
+}
+
+-- what is sent of a share of a transaction
+abbrev pub sending_of : List Link → Who → Ts → Transaction → Share → Sending
+sending_of links who t transaction share = record {
+  at = record { repo = share.repo; session = share.session };
+  request = request_of who t (upto_behind (slice_get links share.repo) share.session share.upto) transaction share;
+}
+
+-- The first share of a transaction is sent so, and the others are left.
+pub record SendsShare (links : List Link) (who : Who) (t : Ts) (before left : Transaction) (s : Sending) : Type 0 where
+  pub share : Share
+  pub taken : before.shares.items ≡ share ∷ left.shares.items
+  pub rest : left ≡ record before { shares = left.shares }
+  pub sent : s ≡ sending_of links who t left share
+
+-- the request of a transform, which brings the object to what it becomes by what it has read
+abbrev pub transform_of : ℕ → ℕ → ℕ → Ts → Oref → Obj → List Oref → Request
+transform_of client session upto t oref made ros = record {
+  tx = t;
+  who = record { client = client; index = 0 };
+  session = session;
+  kind = kinds.Transform;
+  epoch = made.ver;
+  upto = upto;
+  ros = ros;
+  writes = (oref, made) ∷ [];
+  fresh = [];
+  answer = Ints [];
+  others = [];
+}
 
 -- The first of some shares is sent so.
 abbrev pub SendsFirst : List Link → List Share → Sending → Type 0

@@ -1,7 +1,8 @@
 //! What a client has to do about transactions before its next try.
 
+ghost use Rattle.client_state.specs.Handing.{handed, kept_behind};
 ghost use Rattle.client_state.specs.Owing.{calls_of, calls_of_all, count_of};
-ghost use Rattle.std.specs.Prelude.{IsTrue, MatchOption, None, OnOk, Some, [], length, not, ◌≡◌, ◌<◌, ◌≤◌, ◌+◌};
+ghost use Rattle.std.specs.Prelude.{IsTrue, MatchOption, None, OnOk, Some, [], length, not, ◌∷◌, ◌++◌, ◌≡◌, ◌<◌, ◌≤◌, ◌+◌};
 
 use session_outbox::{At, Verdict};
 use std::alloc::Global;
@@ -78,9 +79,11 @@ impl Duties {
     }
 
     /// Takes the oldest duty.
-    #[tactic(auto, using(crate::proofs::Owing::taken_first))]
+    #[tactic(auto, using(crate::proofs::Owing::taken_first, crate::proofs::Handing::first_duty))]
     pub fn take_first(&mut self) -> Option<Duty>
         ensures first { MatchOption result (self.old.verdicts ≡ []) (λ duty. calls_of_all self.old.verdicts ≡ calls_of duty + calls_of_all self.new.verdicts) }
+        ensures none { result ≡ None → self.new ≡ self.old }
+        ensures taken { MatchOption result (self.old.verdicts ≡ []) (λ duty. self.old.verdicts ≡ duty ∷ self.new.verdicts) }
         ensures rest { self.new ≡ record self.old { verdicts = self.new.verdicts } }
     {
         if self.verdicts.len() == 0 {
@@ -91,6 +94,7 @@ impl Duties {
 
     /// A participant was to be told: the others come first now. Where none is left, the coordinator is to
     /// forget, if it is to.
+    #[tactic(auto, using(crate::proofs::Handing::none_behind, crate::proofs::Handing::some_behind))]
     pub fn keep_behind(
         &mut self,
         verdict: Verdict,
@@ -98,6 +102,7 @@ impl Duties {
         forgets: bool,
     ) -> Result<(), NoMemory>
         ensures owed { OnOk result (calls_of_all self.new.verdicts ≤ calls_of_all self.old.verdicts + (count_of others + 1)) }
+        ensures behind { OnOk result (self.new.verdicts ≡ kept_behind verdict others forgets self.old.verdicts) }
         ensures rest { self.new ≡ record self.old { verdicts = self.new.verdicts } }
     {
         if !others.is_empty() {
@@ -114,9 +119,10 @@ impl Duties {
     }
 
     /// A duty comes before all others.
-    #[tactic(auto, using(crate::proofs::Owing::put_first))]
+    #[tactic(auto, using(crate::proofs::Owing::put_first, crate::proofs::Handing::put_before))]
     fn put_first(&mut self, duty: Duty) -> Result<(), NoMemory>
         ensures owed { OnOk result (calls_of_all self.new.verdicts ≤ calls_of_all self.old.verdicts + calls_of duty) }
+        ensures first { OnOk result (self.new.verdicts ≡ duty ∷ self.old.verdicts) }
         ensures rest { self.new ≡ record self.old { verdicts = self.new.verdicts } }
     {
         self.verdicts.insert(0, duty)
@@ -124,8 +130,10 @@ impl Duties {
 
     /// A verdict is to be handed to participants. A commit that all of them have finished is to be
     /// forgotten.
+    #[tactic(auto, using(crate::proofs::Handing::none_handed, crate::proofs::Handing::some_handed))]
     pub fn hand_on(&mut self, verdict: Verdict, to: Repos) -> Result<(), NoMemory>
         ensures owed { OnOk result (calls_of_all self.new.verdicts ≤ calls_of_all self.old.verdicts + (count_of to + 1)) }
+        ensures handed { OnOk result (self.new.verdicts ≡ handed verdict to self.old.verdicts) }
         ensures rest { self.new ≡ record self.old { verdicts = self.new.verdicts } }
     {
         if to.is_empty() {
@@ -142,6 +150,7 @@ impl Duties {
     #[tactic(auto, using(crate::proofs::Owing::put_last))]
     fn put_last(&mut self, duty: Duty) -> Result<(), NoMemory>
         ensures owed { OnOk result (calls_of_all self.new.verdicts ≤ calls_of_all self.old.verdicts + calls_of duty) }
+        ensures last { OnOk result (self.new.verdicts ≡ self.old.verdicts ++ duty ∷ []) }
         ensures rest { self.new ≡ record self.old { verdicts = self.new.verdicts } }
     {
         self.verdicts.push(duty)

@@ -1,11 +1,14 @@
 //! How an evaluation and a transform go on over what is held.
 
+ghost use Rattle.class_defs.specs.declared.statements.Stmt.{Stmt};
+ghost use Rattle.client_state.specs.Evaluating.{HeldStands, held_answer, schema_in};
 ghost use Rattle.client_state.specs.Learning.{KeepsBounds};
 ghost use Rattle.client_state.specs.Moving.{HoldsSame};
 ghost use Rattle.client_cache.specs.Copies.{changed};
 ghost use Rattle.client_state.specs.Writing.{WritesShares, shares_write};
 ghost use Rattle.lang_small_steps.specs.Methods.{class_methods};
 ghost use Rattle.paused_eval.specs.Copies.{last_of};
+ghost use Rattle.paused_eval.specs.Standing.{AtStop};
 ghost use Rattle.paused_eval.specs.Writing.{HasWritten, WrittenBy};
 ghost use Rattle.std.specs.Prelude.{IfOk, List, OnOk, ◌≡◌};
 ghost use Rattle.thor_value.specs.declared.names.Oref.{Oref};
@@ -24,13 +27,17 @@ use paused_eval::Paused;
 use thor_value::{Answer, NoMemory, Oref, Orefs, Writes};
 
 /// The schema of an epoch, with its methods; the first one where the store has none for it.
-#[tactic(auto, using(crate::proofs::Schemas::are_its_methods))]
+#[tactic(auto, using(crate::proofs::Schemas::are_its_methods, crate::proofs::Schemas::both_chosen, crate::proofs::Schemas::no_methods, crate::proofs::Schemas::no_schema))]
 fn schema_of(opened: &Opened, epoch: u32) -> (&Schema, &ClassMethods)
-    ensures { result.1.now ≡ class_methods result.0.now.classes }
+    ensures methods { result.1.now ≡ class_methods result.0.now.classes }
+    ensures which { result.0.now ≡ schema_in opened.now epoch }
 {
-    match (schema_at(&opened.schemas, epoch), opened.methods.at(epoch)) {
-        (Some(schema), Some(methods)) => (schema, methods),
-        (_, _) => (&opened.schemas.first, &opened.methods.first),
+    match schema_at(&opened.schemas, epoch) {
+        Some(schema) => match opened.methods.at(epoch) {
+            Some(methods) => (schema, methods),
+            None => (&opened.schemas.first, &opened.methods.first),
+        },
+        None => (&opened.schemas.first, &opened.methods.first),
     }
 }
 
@@ -39,6 +46,8 @@ impl Held {
     pub fn evaluate(&mut self, opened: &Opened, run: &mut Paused) -> Result<Ran, NoMemory>
         ensures same { OnOk result (HoldsSame self.old self.new) }
         ensures wrote { IfOk result (λ ran. HasWritten ran self.new.cache.cache) }
+        ensures answers { (tx : List Stmt) (given : List Oref) → HeldStands opened.now self.old run.old tx given → IfOk result (λ ran. ran ≡ held_answer opened.now self.old tx given) }
+        ensures stands { (tx : List Stmt) (given : List Oref) → HeldStands opened.now self.old run.old tx given → IfOk result (λ ran. AtStop ran (HeldStands opened.now self.new run.new tx given)) }
         ensures bounds { KeepsBounds self.old self.new }
     {
         let epoch = self.epoch(opened);

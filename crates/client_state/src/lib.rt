@@ -16,7 +16,7 @@ mod transaction;
 mod transform;
 
 pub use calls::{Came, Drew};
-pub use causes::cause_of;
+pub use causes::{cause_of, has_stopped};
 pub use duties::{Abort, Duties, Duty, Helping};
 pub use held::Held;
 pub use link::{Link, Waits};

@@ -1,12 +1,13 @@
 //! How far a try has come.
 
 ghost use Rattle.client_state.specs.Owing.{asking_in, calls_in, calls_of_abort};
-ghost use Rattle.client_state.specs.Pending.{pending_in};
+ghost use Rattle.client_state.specs.Pending.{abort_in, noted, pending_in, runs_in};
 ghost use Rattle.client_cache.specs.Copies.{Contents};
+ghost use Rattle.client_state.specs.Reading.{ReadsNone, phase_reads};
 ghost use Rattle.client_state.specs.Sending.{DrawsPhase};
 ghost use Rattle.client_state.specs.Writing.{PhaseWrites, has_sent_to, unsent};
 ghost use Rattle.client_state.specs.declared.phase.Phase.TheVariants as phase;
-ghost use Rattle.std.specs.Prelude.{Contains, IfSome, IsTrue, None, not, ℕ, ◌≡◌, ◌≤◌};
+ghost use Rattle.std.specs.Prelude.{Contains, IfSome, IsTrue, None, OnOk, not, true, ℕ, ◌≡◌, ◌≤◌};
 
 use crate::duties::Abort;
 use crate::link::Link;
@@ -70,7 +71,8 @@ fn awaited_by(stage: &Stage) -> Option<Oref> {
 impl Phase {
     /// What its coordinator has prepared, where that is so: it is to be aborted.
     pub fn into_abort(self) -> Option<Abort>
-        ensures { (tries : ℕ) → calls_of_abort result ≤ calls_in tries self }
+        ensures calls { (tries : ℕ) → calls_of_abort result ≤ calls_in tries self }
+        ensures abort { result ≡ abort_in self }
     {
         match self {
             Phase::Preparing {
@@ -168,7 +170,7 @@ impl Phase {
     /// A participant other than the coordinator has prepared the transaction.
     pub fn note_prepared(&mut self, repo: u8) -> Result<(), NoMemory>
         ensures shares { unsent self.new ≡ unsent self.old }
-        ensures pending { pending_in self.new ≡ pending_in self.old }
+        ensures pending { OnOk result (pending_in self.new ≡ noted repo (pending_in self.old)) }
     {
         match self {
             Phase::Preparing { prepared, .. } => prepared.push(repo),
@@ -183,7 +185,9 @@ impl Phase {
     }
 
     /// Whether a try runs.
-    pub fn runs(&self) -> bool {
+    pub fn runs(&self) -> bool
+        ensures { result ≡ runs_in self.now }
+    {
         match self {
             Phase::Between | Phase::Asking { .. } => false,
             Phase::Beginning
@@ -246,7 +250,9 @@ impl Phase {
     }
 
     /// Whether the running try has read an object, and its repository has not prepared it.
-    pub fn reads(&self, oref: Oref) -> bool {
+    pub fn reads(&self, oref: Oref) -> bool
+        ensures { result ≡ phase_reads self.now oref }
+    {
         match self {
             Phase::Evaluating { run, .. } => run.has_read(oref),
             Phase::Transforming { run, transform } => {
@@ -261,7 +267,9 @@ impl Phase {
 
     /// The first of some objects that the running try has read.
     pub fn first_read(&self, orefs: &Orefs) -> Option<Oref>
-        ensures { IfSome result (λ oref. Contains orefs.now oref) }
+        ensures named { IfSome result (λ oref. Contains orefs.now oref) }
+        ensures read { IfSome result (λ oref. phase_reads self.now oref ≡ true) }
+        ensures none { result ≡ None → ReadsNone self.now orefs.now }
     {
         for oref in orefs.as_slice() {
             if self.reads(*oref) {

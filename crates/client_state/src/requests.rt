@@ -1,12 +1,12 @@
 //! The requests by which a client has its transactions committed.
 
 ghost use Rattle.client_state.specs.Calling.{upto_in};
-ghost use Rattle.client_state.specs.Sending.{IsOfSession, IsOfShare, SendsFirst, upto_behind};
+ghost use Rattle.client_state.specs.Sending.{IsOfSession, IsOfShare, SendsFirst, SendsShare, request_of, sending_of, transform_of, upto_behind};
 ghost use Rattle.client_cache.specs.Copies.{Contents};
 ghost use Rattle.client_state.specs.Writing.{HoldsWritten, WritesShares, WritesThere, is_held_or_created};
 ghost use Rattle.spec_history.specs.Requests.{has_created};
 ghost use Rattle.std.specs.List.{list_all};
-ghost use Rattle.std.specs.Prelude.{IfOk, IfSome, IsTrue, [], slice_get, ◌∷◌, ◌↔◌, ◌≡◌};
+ghost use Rattle.std.specs.Prelude.{IfOk, IfSome, IsTrue, MatchOption, None, [], slice_get, ◌∷◌, ◌↔◌, ◌≡◌};
 
 use crate::held::Held;
 use crate::transaction::{Share, Transaction};
@@ -35,6 +35,9 @@ impl Held {
         ensures tx { IfOk result (λ some. IfSome some (λ sending. sending.request.tx ≡ ts)) }
         ensures session { IfOk result (λ some. IfSome some (IsOfSession self.now.links.items)) }
         ensures share { IfOk result (λ some. IfSome some (SendsFirst self.now.links.items transaction.old.shares.items)) }
+        ensures sends { IfOk result (λ some. MatchOption some (transaction.old.shares.items ≡ []) (SendsShare self.now.links.items who ts transaction.old transaction.new)) }
+        ensures still { IfOk result (λ some. some ≡ None → transaction.new ≡ transaction.old) }
+        ensures rest { transaction.new ≡ record transaction.old { shares = transaction.new.shares } }
         ensures writes { IfOk result (λ some. IfSome some (λ sending. transaction.new.shares.items ≡ [] → (c : Contents) → WritesShares transaction.old.shares.items c → WritesThere sending.at.repo sending.request.writes c)) }
     {
         match transaction.next_share() {
@@ -53,6 +56,7 @@ impl Held {
         ensures tx { IfOk result (λ sending. sending.request.tx ≡ ts) }
         ensures session { IfOk result (IsOfSession self.now.links.items) }
         ensures share { IfOk result (IsOfShare self.now.links.items share) }
+        ensures all { IfOk result (λ sending. sending ≡ sending_of self.now.links.items who ts transaction.now share) }
     {
         let at = share.at();
         let request = self.request(who, ts, transaction, share)?;
@@ -95,6 +99,8 @@ impl Held {
         ensures session { IfOk result (λ made. made.0.session ≡ at.session) }
         ensures upto { IfOk result (λ made. made.0.upto ≡ upto_in (slice_get self.now.links.items at.repo)) }
         ensures writes { IfOk result (λ made. made.0.writes ≡ (becomes.oref, made.1) ∷ []) }
+        ensures all { IfOk result (λ made. made.0 ≡ transform_of self.now.client at.session (upto_in (slice_get self.now.links.items at.repo)) ts becomes.oref becomes.made becomes.ros) }
+        ensures made { IfOk result (λ made. made.1 ≡ becomes.made) }
     {
         let upto = self.upto(at.repo);
         transform_request(self.alloc, self.client, at, upto, ts, becomes)
@@ -113,6 +119,7 @@ impl Held {
         ensures session { IfOk result (λ request. request.session ≡ share.session) }
         ensures upto { IfOk result (λ request. request.upto ≡ upto_behind (slice_get self.now.links.items share.repo) share.session share.upto) }
         ensures writes { IfOk result (λ request. request.writes ≡ share.writes) }
+        ensures all { IfOk result (λ request. request ≡ request_of who ts (upto_behind (slice_get self.now.links.items share.repo) share.session share.upto) transaction.now share) }
     {
         let Share {
             repo,

@@ -1,11 +1,14 @@
 //! A transaction that a try has made, and what is sent of it.
 
+ghost use Rattle.client_items.specs.declared.meaning.Meaning.TheVariants as meanings;
 ghost use Rattle.client_state.specs.Owing.{count_of};
+ghost use Rattle.client_state.specs.Participants.{first_in, others_in, sent_of};
+ghost use Rattle.client_state.specs.Reading.{share_reads, shares_have_read};
 ghost use Rattle.client_state.specs.Sending.{CarriesSessions, carried, carried_at};
 ghost use Rattle.client_state.specs.Writing.{FirstOf, NoneOf, is_of, new_share, read_more_at, shares_write, with_read, with_write, written_at};
 ghost use Rattle.paused_eval.specs.Copies.{last_of};
 ghost use Rattle.std.specs.Ordering.{eq_by_cmp};
-ghost use Rattle.std.specs.Prelude.{IfOk, MatchOption, None, OnOk, Some, [], cond, length, slice_get, ◌++◌, ◌∷◌, ◌≡◌, ◌≤◌};
+ghost use Rattle.std.specs.Prelude.{IfOk, IsTrue, MatchOption, None, OnOk, Some, [], cond, length, slice_get, ◌++◌, ◌-◌, ◌∷◌, ◌≡◌, ◌≤◌};
 ghost use Rattle.thor_value.specs.Names.{oref_cmp};
 ghost use Rattle.thor_value.specs.declared.names.Oref.{Oref};
 
@@ -104,8 +107,10 @@ impl Share {
     }
 
     /// Whether it reads an object.
-    fn reads(&self, oref: Oref) -> bool {
-        self.repo == oref.repo && self.ros.as_slice().binary_search(&oref).is_ok()
+    fn reads(&self, oref: Oref) -> bool
+        ensures { result ≡ share_reads oref self.now }
+    {
+        self.repo == oref.repo && self.ros.as_slice().iter().any(|read| oref == *read)
     }
 }
 
@@ -113,6 +118,7 @@ impl Transaction {
     /// The upgrade of a number, in which all repositories take part. It writes nothing.
     pub fn upgrade(number: u32, text: Text, repos: u8) -> Result<Transaction, NoMemory>
         ensures writes { IfOk result (λ made. (x : Oref) → shares_write made.shares.items x ≡ None) }
+        ensures made { IfOk result (λ made. (made.meaning ≡ meanings.Upgrade number text) × (made.epoch ≡ number - 1) × (made.fresh ≡ [])) }
     {
         let alloc = text.allocator();
         let mut participants = Sequence::new(alloc);
@@ -139,6 +145,7 @@ impl Transaction {
         fresh: Orefs,
     ) -> Result<Transaction, NoMemory>
         ensures writes { IfOk result (λ made. (x : Oref) → shares_write made.shares.items x ≡ last_of writes x) }
+        ensures made { IfOk result (λ made. (made.meaning ≡ meanings.Ran answer) × (made.epoch ≡ epoch) × (made.fresh ≡ fresh)) }
     {
         let ros = read_or_created(reads, &fresh)?;
         let shares = shares_of(&ros, writes)?;
@@ -156,17 +163,16 @@ impl Transaction {
     }
 
     /// Whether it reads an object at a participant to which it isn't sent yet.
-    pub fn reads_unsent(&self, oref: Oref) -> bool {
-        for share in &self.shares {
-            if share.reads(oref) {
-                return true;
-            }
-        }
-        false
+    pub fn reads_unsent(&self, oref: Oref) -> bool
+        ensures { result ≡ shares_have_read self.now.shares.items oref }
+    {
+        self.shares.as_slice().iter().any(|share| share.reads(oref))
     }
 
     /// The repository that decides.
-    pub fn coordinator(&self) -> u8 {
+    pub fn coordinator(&self) -> u8
+        ensures { result ≡ first_in self.now.participants }
+    {
         first_of(&self.participants)
     }
 
@@ -183,6 +189,7 @@ impl Transaction {
     /// Takes what is to be sent next.
     #[tactic(auto, using(crate::proofs::Carrying::first_share))]
     pub fn next_share(&mut self) -> Option<Share>
+        ensures none { result ≡ None → self.new ≡ self.old }
         ensures first { MatchOption result (self.old.shares.items ≡ []) (λ share. self.old.shares.items ≡ share ∷ self.new.shares.items) }
         ensures rest { self.new ≡ record self.old { shares = self.new.shares } }
     {
@@ -193,14 +200,33 @@ impl Transaction {
     }
 
     /// The other participants than one, rising.
-    pub fn others(&self, repo: u8) -> Result<Repos, NoMemory> {
+    pub fn others(&self, repo: u8) -> Result<Repos, NoMemory>
+        ensures { IfOk result (λ others. others ≡ others_in self.now.participants repo) }
+    {
         others_of(&self.participants, repo)
+    }
+
+    /// Whether all participants have prepared it: the coordinator, and behind it these in their order.
+    #[tactic(auto, using(crate::proofs::Handing::all_prepared))]
+    pub fn is_prepared_by(&self, coordinator: u8, others: &Repos) -> bool
+        ensures { IsTrue result → self.now.participants ≡ coordinator ∷ others.now }
+    {
+        match self.participants.as_slice().split_first() {
+            Some((first, behind)) => {
+                if *first != coordinator {
+                    return false;
+                }
+                behind == others.as_slice()
+            }
+            None => false,
+        }
     }
 
     /// It is sent in a session to be decided under its name.
     pub fn sent(self, ts: Ts, at: At) -> Sent
         ensures ts { result.ts ≡ ts }
         ensures at { result.at ≡ at }
+        ensures all { result ≡ sent_of ts at self }
     {
         let Transaction {
             meaning,
@@ -218,14 +244,17 @@ impl Transaction {
 
 impl Sent {
     /// The repository that decides.
-    pub fn coordinator(&self) -> u8 {
+    pub fn coordinator(&self) -> u8
+        ensures { result ≡ first_in self.now.participants }
+    {
         first_of(&self.participants)
     }
 
     /// The participants other than the coordinator, rising.
     #[tactic(auto, using(crate::proofs::Owing::counts_less))]
     pub fn others(&self) -> Result<Repos, NoMemory>
-        ensures { IfOk result (λ others. count_of others ≤ count_of self.now.participants) }
+        ensures calls { IfOk result (λ others. count_of others ≤ count_of self.now.participants) }
+        ensures all { IfOk result (λ others. others ≡ others_in self.now.participants (first_in self.now.participants)) }
     {
         others_of(&self.participants, self.coordinator())
     }
@@ -241,15 +270,19 @@ fn carry_session(shares: &mut Vec<Share>, place: usize, links: &[Link])
 }
 
 /// The first of the participants; repository 0 where none is named.
-fn first_of(participants: &Repos) -> u8 {
+fn first_of(participants: &Repos) -> u8
+    ensures { result ≡ first_in participants.now }
+{
     match participants.get(0) {
         Some(repo) => *repo,
         None => 0,
     }
 }
 
+/// The participants other than one.
 fn others_of(participants: &Repos, repo: u8) -> Result<Repos, NoMemory>
-    ensures { IfOk result (λ others. length others ≤ length participants.now) }
+    ensures count { IfOk result (λ others. length others ≤ length participants.now) }
+    ensures all { IfOk result (λ others. others ≡ others_in participants.now repo) }
 {
     let mut others = Sequence::new(participants.allocator());
     for other in participants.as_slice() {

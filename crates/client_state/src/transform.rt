@@ -1,5 +1,7 @@
 //! A transform: a transaction of its own that brings one due object to the client's epoch.
 
+ghost use Rattle.client_state.specs.Reading.{has_looked_at};
+ghost use Rattle.client_state.specs.Sending.{transform_of};
 ghost use Rattle.std.specs.Prelude.{IfOk, [], ◌∷◌, ◌≡◌};
 
 use class_defs::Schemas;
@@ -95,7 +97,9 @@ impl Transform {
     }
 
     /// Whether it has looked at an object.
-    pub fn has_looked_at(&self, oref: Oref) -> bool {
+    pub fn has_looked_at(&self, oref: Oref) -> bool
+        ensures { result ≡ has_looked_at self.now oref }
+    {
         self.oref == oref || self.parts.objects.contains(oref)
     }
 
@@ -148,6 +152,8 @@ pub fn transform_request(
     ensures session { IfOk result (λ made. made.0.session ≡ at.session) }
     ensures upto { IfOk result (λ made. made.0.upto ≡ upto) }
     ensures writes { IfOk result (λ made. made.0.writes ≡ (becomes.oref, made.1) ∷ []) }
+    ensures all { IfOk result (λ made. made.0 ≡ transform_of client at.session upto ts becomes.oref becomes.made becomes.ros) }
+    ensures made { IfOk result (λ made. made.1 ≡ becomes.made) }
 {
     let Becomes { oref, ros, made } = becomes;
     let mut writes = Sequence::new(alloc);

@@ -7,5 +7,6 @@ pub mod Requesting
 pub mod Settling
 pub mod Showing
 pub mod Spending
+pub mod Stepping
 pub mod Steps
 pub mod Writing

@@ -126,11 +126,11 @@ module _ (old new : View) (at : At) (before mid after : Held) (rest : mid ≡ re
   same_client : mid.client ≡ before.client
   same_client = ap (λ (h : Held). h.client) rest
 
-  taken : (m : Message) → Does {X = Option Message} old new at.repo (Ok (Some m)) (ReceiveWork at.session (Ok (Some m))) → mid.links.items ≡ at_repo before.links.items at.repo (took m) → TakesCopies at.repo m mid after → Moves old new before after
+  pub taken : (m : Message) → Does {X = Option Message} old new at.repo (Ok (Some m)) (ReceiveWork at.session (Ok (Some m))) → mid.links.items ≡ at_repo before.links.items at.repo (took m) → TakesCopies at.repo m mid after → Moves old new before after
   taken m d links t = Received at m d joined (record { left = t.left; links = t.links ∙ links; brought = subst (λ (c : Contents). CopiesTaken at.repo m c t.left) same_copies t.brought; fewer = t.fewer }) (t.client ∙ same_client)
 
   -- what is undecided stays so as by what comes behind the call
-  behind_taken : (p z : Pending) (o : Option Message) → mid.links.items ≡ links_behind (Ok o) at.repo before.links.items → StaysPending p z mid after → StaysPending p z before after
+  pub behind_taken : (p z : Pending) (o : Option Message) → mid.links.items ≡ links_behind (Ok o) at.repo before.links.items → StaysPending p z mid after → StaysPending p z before after
   behind_taken p z o links (inl e) = inl e
   behind_taken p z o links (inr f) = inr (f.0, λ k w. f.1 k (taken_written at.repo o before mid links same_copies k w))
 
@@ -148,7 +148,7 @@ module _ (old new : View) (at : At) (before mid after : Held) (rest : mid ≡ re
     fewer = l.fewer;
   }
 
-  refused_so : (k : Refusal) → Does {X = Option Message} old new at.repo (Err k) (ReceiveWork at.session (Err k)) → mid.links.items ≡ before.links.items → EndsReceive k at.repo mid after → Moves old new before after
+  pub refused_so : (k : Refusal) → Does {X = Option Message} old new at.repo (Err k) (ReceiveWork at.session (Err k)) → mid.links.items ≡ before.links.items → EndsReceive k at.repo mid after → Moves old new before after
   refused_so k d links (LosesThere l client) = ReceiveRefused at k d joined (loses_there k links l) (client ∙ same_client)
   refused_so k d links (StopsThere g s client f) = ReceiveStopped at k d joined (outage old new at.repo at.session k d g) (record {
     here = s.here ∙ ap (λ (ls : List Link). option_map (waiting Idle) (slice_get ls at.repo)) links;

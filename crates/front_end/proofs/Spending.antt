@@ -1,6 +1,6 @@
 -- A call is the same for a client of which the names that it may give are others.
 use Rattle.client_state.specs.Moving.{Aborted, Asked, AskedInVain, AskedOwn, CommitRefused, Committed, Connected, DecideRefused, Decided, Drawn, EndsSo, Fetched, Finished, Forgot, Granted, Learns, Loses, Moves, PrepareRefused, Prepared, ReceiveRefused, ReceiveStopped, Received, ReceivedNone, Rested, SendsNothing, Settled, StopsWaiting, Takes, Transformed, Unsent}
-use Rattle.client_state.specs.Pending.{MovesSo, Pending, PendsSo, RefusesToDecide, SendsPending}
+use Rattle.client_state.specs.Pending.{Pending, PendsSo, RefusesToDecide, SendsPending}
 use Rattle.client_state.specs.declared.held.Held.{Held}
 use Rattle.session_outbox.specs.declared.answers.At.{At}
 use Rattle.session_outbox.specs.declared.message.Message.{Message}
@@ -35,7 +35,7 @@ module _ (old new : View) (a b after : Held) where
   ends true e = e
   ends false e = e
 
-  other_names : Moves old new (record a { names = b.names }) after → Moves old new a after
+  pub other_names : Moves old new (record a { names = b.names }) after → Moves old new a after
   other_names (Unsent m) = Unsent (unsent m)
   other_names (Received at m d joined t client) = Received at m d joined (takes at.repo m t) client
   other_names (ReceivedNone at d joined links client f) = ReceivedNone at d joined links client f
@@ -69,7 +69,7 @@ module _ (old new : View) (a b after : Held) where
   refuses true at t p z h = h
   refuses false at t p z h = h
 
-  pends : (m : Moves old new (record a { names = b.names }) after) (p z : Pending) → PendsSo old new (record a { names = b.names }) after m p z → PendsSo old new a after (other_names m) p z
+  pub pends : (m : Moves old new (record a { names = b.names }) after) (p z : Pending) → PendsSo old new (record a { names = b.names }) after m p z → PendsSo old new a after (other_names m) p z
   unfolding other_names
   pends (Unsent m) p z h = unsent_pends m p z h
   pends (Received at m d joined t client) p z h = h
@@ -88,6 +88,3 @@ module _ (old new : View) (a b after : Held) where
   pends (Forgot r t result d less) p z h = h
   pends (AskedOwn r t v d e) p z h = h
   pends (AskedInVain r t result d leaves client f) p z h = h
-
-  pub other_names_so : (p z : Pending) → MovesSo old new (record a { names = b.names }) after p z → MovesSo old new a after p z
-  other_names_so p z m = record { moves = other_names m.moves; pends = pends m.moves p z m.pends }

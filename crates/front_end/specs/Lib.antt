@@ -1,4 +1,5 @@
 pub mod Moving
 pub mod Rules
 pub mod Showing
+pub mod Stepping
 pub mod Writing

@@ -1,14 +1,17 @@
 //! Before the rules: a transaction that its coordinator has prepared and whose try has ended is aborted
 //! there.
 
-ghost use Rattle.client_state.specs.Pending.{MovesSoIf, StaysPending, pending_in};
+ghost use Rattle.client_state.specs.Pending.{StaysPending, pending_in};
+ghost use Rattle.client_state.specs.Stepping.{Present};
+ghost use Rattle.client_state.specs.declared.duties.Duties.{Duties};
+ghost use Rattle.front_end.specs.Stepping.{StepsOwing};
 ghost use Rattle.front_end.specs.Writing.{ClientWrites};
 ghost use Rattle.client_state.specs.Learning.{Rises};
 ghost use Rattle.client_state.specs.Moving.{Loses};
 ghost use Rattle.client_state.specs.Owing.{count_of};
 ghost use Rattle.client_port.specs.Acting.{ActsIf};
 ghost use Rattle.front_end.specs.Moving.{uncounted};
-ghost use Rattle.std.specs.Prelude.{OnOk, ℕ, ◌+◌, ◌≡◌, ◌≤◌};
+ghost use Rattle.std.specs.Prelude.{OnOk, Some, ℕ, ◌+◌, ◌≡◌, ◌≤◌};
 
 use crate::client::Client;
 use client_port::Port;
@@ -22,7 +25,7 @@ impl Client {
     pub fn abort<Q: Port>(&mut self, port: &mut Q, abort: Abort) -> Result<(), NoMemory>
         ensures owed { OnOk result ((tries : ℕ) → uncounted tries self.new ≤ uncounted tries self.old + (count_of abort.prepared + 1)) }
         ensures acts { ActsIf Q.shows (Q.view port.old) (Q.view port.new) }
-        ensures moves { MovesSoIf Q.shows (Q.view port.old) (Q.view port.new) self.old.held self.new.held (pending_in self.old.phase) (pending_in self.new.phase) }
+        ensures moves { (item : Present) (d : Duties) → d.abort ≡ Some abort → self.old.duties.verdicts ≡ d.verdicts → self.old.duties.helping ≡ d.helping → OnOk result (StepsOwing Q.shows item (Q.view port.old) (Q.view port.new) d self.old self.new) }
         ensures writes { ClientWrites self.old → ClientWrites self.new }
         ensures rises { Rises self.old.held self.new.held }
     {
@@ -43,6 +46,7 @@ impl Client {
         ensures client { self.new.held.client ≡ self.old.held.client }
         ensures stays { StaysPending (pending_in self.old.phase) (pending_in self.new.phase) self.old.held self.new.held }
         ensures left { (tries : ℕ) → uncounted tries self.new ≤ uncounted tries self.old }
+        ensures duties { self.new.duties ≡ self.old.duties }
         ensures writes { ClientWrites self.old → ClientWrites self.new }
         ensures rises { Rises self.old.held self.new.held }
     {

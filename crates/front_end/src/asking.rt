@@ -1,6 +1,12 @@
 //! The fourth rule: the client asks for its own transaction, which was sent to be decided.
 
-ghost use Rattle.client_state.specs.Pending.{IsAsking, MovesSoIf, NonePending, StaysPending, pending_in};
+ghost use Rattle.client_items.specs.declared.news.News.TheVariants as news;
+ghost use Rattle.client_state.specs.Handing.{handed};
+ghost use Rattle.client_state.specs.Participants.{first_in, others_in};
+ghost use Rattle.client_state.specs.Pending.{IsAsking, NonePending, StaysAsked, pending_in};
+ghost use Rattle.client_state.specs.Stepping.{AsksInVain, EndsAsked, KeepsSent, one_more};
+ghost use Rattle.front_end.specs.Stepping.{ClientSteps, StepsFrom};
+ghost use Rattle.serial_model.specs.declared.outcomes.ItemOutcome.TheVariants as outcomes;
 ghost use Rattle.client_state.specs.Writing.{unsent};
 ghost use Rattle.front_end.specs.Writing.{ClientWrites};
 ghost use Rattle.client_state.specs.Learning.{Rises};
@@ -34,7 +40,7 @@ impl Client {
         ensures owed { IsSome (asking_in self.old.phase) → OnOk result (uncounted task.entry.tries self.new < uncounted task.entry.tries self.old) }
         ensures acts { ActsIf Q.shows (Q.view port.old) (Q.view port.new) }
         ensures shown { ShownIf Q.shows (Q.view port.old) (Q.view port.new) opened.now.repos result }
-        ensures moves { OnOk result (MovesSoIf Q.shows (Q.view port.old) (Q.view port.new) self.old.held self.new.held (pending_in self.old.phase) (pending_in self.new.phase)) }
+        ensures moves { IfOk result (ClientSteps Q.shows (record { who = task.entry.who; tries = task.entry.tries }) (Q.view port.old) (Q.view port.new) self.old self.new) }
         ensures writes { ClientWrites self.new }
         ensures rises { Rises self.old.held self.new.held }
     {
@@ -55,7 +61,7 @@ impl Client {
         ensures owed { OnOk result (uncounted task.entry.tries self.new < uncounted task.entry.tries self.old + calls_in task.entry.tries (phase.Asking sent answers)) }
         ensures acts { ActsIf Q.shows (Q.view port.old) (Q.view port.new) }
         ensures shown { ShownIf Q.shows (Q.view port.old) (Q.view port.new) opened.now.repos result }
-        ensures moves { pending_in self.old.phase ≡ NonePending → OnOk result (MovesSoIf Q.shows (Q.view port.old) (Q.view port.new) self.old.held self.new.held (IsAsking sent.at sent.ts) (pending_in self.new.phase)) }
+        ensures moves { pending_in self.old.phase ≡ NonePending → IfOk result (StepsFrom Q.shows (record { who = task.entry.who; tries = task.entry.tries }) (Q.view port.old) (Q.view port.new) (IsAsking sent answers) self.old self.new) }
         ensures writes { unsent self.old.phase ≡ None → ClientWrites self.new }
         ensures rises { Rises self.old.held self.new.held }
     {
@@ -81,6 +87,9 @@ impl Client {
         ensures shown { IfOk result (λ news. (old new : View) (repos : ℕ) → IsToldBy old new coordinator sent.ts verdict.commit → NewsShown old new repos news) }
         ensures ends { OnOk result (EndsSo verdict.commit self.old.held self.new.held) }
         ensures free { pending_in self.old.phase ≡ NonePending → OnOk result (pending_in self.new.phase ≡ NonePending) }
+        ensures own { IfOk result (EndsAsked verdict.commit sent) }
+        ensures hands { OnOk result (self.new.duties.verdicts ≡ handed verdict (others_in sent.participants (first_in sent.participants)) self.old.duties.verdicts) }
+        ensures helping { OnOk result (self.new.duties.helping ≡ self.old.duties.helping) }
         ensures writes { unsent self.old.phase ≡ None → ClientWrites self.new }
         ensures rises { Rises self.old.held self.new.held }
     {
@@ -96,7 +105,9 @@ impl Client {
         ensures owed { (before : ℕ) → (answers < task.entry.tries → before < answers) → uncounted task.entry.tries self.new < uncounted task.entry.tries self.old + calls_in task.entry.tries (phase.Asking sent before) }
         ensures shown { (old new : View) (repos : ℕ) → NewsShown old new repos result }
         ensures leaves { LeavesLess self.old.held self.new.held }
-        ensures stays { pending_in self.old.phase ≡ NonePending → StaysPending (IsAsking sent.at sent.ts) (pending_in self.new.phase) self.old.held self.new.held }
+        ensures stays { (before : ℕ) → pending_in self.old.phase ≡ NonePending → StaysAsked (IsAsking sent before) (pending_in self.new.phase) self.old.held self.new.held }
+        ensures asks { (before : ℕ) → pending_in self.old.phase ≡ NonePending → answers ≡ one_more before → AsksInVain (record { who = task.entry.who; tries = task.entry.tries }) self.new.held (first_in sent.participants) sent before (pending_in self.new.phase) result }
+        ensures duties { self.new.duties ≡ self.old.duties }
         ensures writes { unsent self.old.phase ≡ None → ClientWrites self.new }
         ensures rises { Rises self.old.held self.new.held }
     {
@@ -112,6 +123,8 @@ impl Client {
     fn hold_as_unknown(&mut self, task: Task<'_>, sent: Sent) -> News
         ensures rest { self.new ≡ record self.old { held = self.new.held } }
         ensures shown { (old new : View) (repos : ℕ) → NewsShown old new repos result }
+        ensures unknown { result ≡ news.Ended (outcomes.Unknown sent.ts) }
+        ensures link { KeepsSent (first_in sent.participants) sent task.entry.who.index self.new.held }
         ensures leaves { LeavesLess self.old.held self.new.held }
         ensures writes { unsent self.old.phase ≡ None → ClientWrites self.new }
         ensures rises { Rises self.old.held self.new.held }

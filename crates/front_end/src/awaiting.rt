@@ -1,12 +1,13 @@
 //! The first rule: a reply is outstanding.
 
-ghost use Rattle.client_state.specs.Pending.{MovesSoIf, pending_in};
+ghost use Rattle.client_state.specs.Stepping.{Present};
+ghost use Rattle.front_end.specs.Stepping.{ClientSteps};
 ghost use Rattle.front_end.specs.Writing.{ClientWrites};
 ghost use Rattle.client_state.specs.Learning.{Rises};
 ghost use Rattle.client_state.specs.Moving.{InSession};
 ghost use Rattle.front_end.specs.Showing.{ShownIf};
 ghost use Rattle.client_port.specs.Acting.{ActsIf};
-ghost use Rattle.std.specs.Prelude.{OnOk};
+ghost use Rattle.std.specs.Prelude.{IfOk};
 
 use crate::client::Client;
 use client_items::{News, Opened};
@@ -25,7 +26,7 @@ impl Client {
     ) -> Result<News, NoMemory>
         ensures acts { ActsIf Q.shows (Q.view port.old) (Q.view port.new) }
         ensures shown { ShownIf Q.shows (Q.view port.old) (Q.view port.new) opened.now.repos result }
-        ensures moves { InSession at self.old.held → OnOk result (MovesSoIf Q.shows (Q.view port.old) (Q.view port.new) self.old.held self.new.held (pending_in self.old.phase) (pending_in self.new.phase)) }
+        ensures moves { (item : Present) → InSession at self.old.held → IfOk result (ClientSteps Q.shows item (Q.view port.old) (Q.view port.new) self.old self.new) }
         ensures writes { ClientWrites self.old → ClientWrites self.new }
         ensures rises { Rises self.old.held self.new.held }
     {

@@ -1,22 +1,31 @@
 //! How a transaction is drawn, sent and decided.
 
-ghost use Rattle.client_state.specs.Pending.{IsAsking, IsPreparing, MovesSoIf, NonePending, is_preparing, pending_in};
+ghost use Rattle.client_items.specs.Meanings.{is_ended};
+ghost use Rattle.client_state.specs.Participants.{sent_of};
+ghost use Rattle.client_port.specs.Acting.{Refuses};
+ghost use Rattle.client_port.specs.Views.{View};
+ghost use Rattle.client_state.specs.Handing.{KeepsDuties};
+ghost use Rattle.client_state.specs.Pending.{HasStopped, IsAsking, IsPreparing, IsWrittenIn, NonePending, Pending, pending_in};
+ghost use Rattle.client_state.specs.Stepping.{AsksWhereStopped, DecidesAll, HoldsThere, Present, SendsAlone, SendsDrawn};
+ghost use Rattle.client_state.specs.declared.transaction.Transaction.{Transaction};
+ghost use Rattle.front_end.specs.Stepping.{ClientHands, IsSentMore, SameVerdicts, StepsFrom};
 ghost use Rattle.client_state.specs.Writing.{HoldsWritten, WritesShares, WritesThere, unsent};
 ghost use Rattle.front_end.specs.Writing.{ClientWrites};
 ghost use Rattle.client_state.specs.Learning.{Rises};
 ghost use Rattle.client_state.specs.Calling.{is_session_of};
 ghost use Rattle.client_state.specs.Links.{NoneAwaits};
-ghost use Rattle.client_state.specs.Moving.{InSession, Loses, SendsNothingIf};
+ghost use Rattle.client_state.specs.Moving.{InSession, Learns, Loses, SendsNothingIf};
 ghost use Rattle.client_state.specs.Sending.{IsOfSession};
-ghost use Rattle.front_end.specs.Showing.{ShownIf};
+ghost use Rattle.front_end.specs.Showing.{NewsShown, ShownIf};
 ghost use Rattle.client_port.specs.Acting.{ActsIf};
 ghost use Rattle.client_items.specs.declared.news.News.TheVariants as news;
-ghost use Rattle.std.specs.Prelude.{IfOk, OnOk, ℕ, ◌≡◌, None, [], IsTrue, slice_get, true};
+ghost use Rattle.session_outbox.specs.declared.answers.At.{At};
+ghost use Rattle.std.specs.Prelude.{IfOk, OnOk, ℕ, ◌≡◌, None, [], IsTrue, false, not, slice_get, true};
 
 use crate::client::Client;
 use client_items::{News, Opened};
 use client_port::Port;
-use client_state::{Drew, Phase, Sending, Sent, Transaction};
+use client_state::{Drew, Phase, Sending, Sent, Transaction, has_stopped};
 use repo_refusals::Refusal;
 use session_outbox::At;
 use thor_value::{NoMemory, Repos, Sequence, Ts, Who};
@@ -33,6 +42,8 @@ impl Client {
         ensures shown { ShownIf Q.shows (Q.view port.old) (Q.view port.new) opened.now.repos result }
         ensures moves { OnOk result (SendsNothingIf Q.shows (Q.view port.old) (Q.view port.new) self.old.held self.new.held) }
         ensures free { pending_in self.new.phase ≡ NonePending }
+        ensures ends { IfOk result (λ news. is_ended news ≡ false) }
+        ensures hands { OnOk result (ClientHands Q.shows (Q.view port.old) (Q.view port.new) self.old self.new) }
         ensures writes { WritesShares transaction.shares.items self.old.held.cache.cache → ClientWrites self.new }
         ensures rises { Rises self.old.held self.new.held }
     {
@@ -51,6 +62,8 @@ impl Client {
         ensures shown { (repos : ℕ) → ShownIf Q.shows (Q.view port.old) (Q.view port.new) repos result }
         ensures moves { SendsNothingIf Q.shows (Q.view port.old) (Q.view port.new) self.old.held self.new.held }
         ensures free { pending_in self.old.phase ≡ NonePending → pending_in self.new.phase ≡ NonePending }
+        ensures ends { IfOk result (λ news. is_ended news ≡ false) }
+        ensures verdicts { SameVerdicts self.old self.new }
         ensures writes { ClientWrites self.old → ClientWrites self.new }
         ensures rises { Rises self.old.held self.new.held }
     {
@@ -78,7 +91,7 @@ impl Client {
     ) -> Result<News, NoMemory>
         ensures acts { ActsIf Q.shows (Q.view port.old) (Q.view port.new) }
         ensures shown { ShownIf Q.shows (Q.view port.old) (Q.view port.new) opened.now.repos result }
-        ensures moves { pending_in self.old.phase ≡ NonePending → WritesShares transaction.shares.items self.old.held.cache.cache → NoneAwaits 8 self.old.held.links.items → OnOk result (MovesSoIf Q.shows (Q.view port.old) (Q.view port.new) self.old.held self.new.held NonePending (pending_in self.new.phase)) }
+        ensures moves { (item : Present) → item.who ≡ who → pending_in self.old.phase ≡ NonePending → WritesShares transaction.shares.items self.old.held.cache.cache → NoneAwaits 8 self.old.held.links.items → IfOk result (StepsFrom Q.shows item (Q.view port.old) (Q.view port.new) NonePending self.old self.new) }
         ensures writes { unsent self.old.phase ≡ None → ClientWrites self.new }
         ensures rises { Rises self.old.held self.new.held }
     {
@@ -100,7 +113,7 @@ impl Client {
     ) -> Result<News, NoMemory>
         ensures acts { ActsIf Q.shows (Q.view port.old) (Q.view port.new) }
         ensures shown { sending.request.tx ≡ ts → ShownIf Q.shows (Q.view port.old) (Q.view port.new) opened.now.repos result }
-        ensures moves { pending_in self.old.phase ≡ NonePending → sending.request.tx ≡ ts → (transaction.shares.items ≡ [] → WritesThere sending.at.repo sending.request.writes self.old.held.cache.cache) → IsOfSession self.old.held.links.items sending → NoneAwaits 8 self.old.held.links.items → OnOk result (MovesSoIf Q.shows (Q.view port.old) (Q.view port.new) self.old.held self.new.held NonePending (pending_in self.new.phase)) }
+        ensures moves { (item : Present) → pending_in self.old.phase ≡ NonePending → sending.request.tx ≡ ts → SendsDrawn item self.old.held.links.items self.old.held.cache.cache sending transaction → (transaction.shares.items ≡ [] → WritesThere sending.at.repo sending.request.writes self.old.held.cache.cache) → IsOfSession self.old.held.links.items sending → NoneAwaits 8 self.old.held.links.items → IfOk result (StepsFrom Q.shows item (Q.view port.old) (Q.view port.new) NonePending self.old self.new) }
         ensures writes { unsent self.old.phase ≡ None → ClientWrites self.new }
         ensures rises { Rises self.old.held self.new.held }
     {
@@ -134,12 +147,34 @@ impl Client {
     ) -> Result<News, NoMemory>
         ensures acts { ActsIf Q.shows (Q.view port.old) (Q.view port.new) }
         ensures shown { sending.request.tx ≡ ts → ShownIf Q.shows (Q.view port.old) (Q.view port.new) opened.now.repos result }
-        ensures moves { pending_in self.old.phase ≡ NonePending → sending.request.tx ≡ ts → InSession sending.at self.old.held → (transaction.shares.items ≡ [] → WritesThere sending.at.repo sending.request.writes self.old.held.cache.cache) → IsOfSession self.old.held.links.items sending → NoneAwaits 8 self.old.held.links.items → OnOk result (MovesSoIf Q.shows (Q.view port.old) (Q.view port.new) self.old.held self.new.held NonePending (pending_in self.new.phase)) }
+        ensures moves { (item : Present) → pending_in self.old.phase ≡ NonePending → sending.request.tx ≡ ts → InSession sending.at self.old.held → SendsDrawn item self.old.held.links.items self.old.held.cache.cache sending transaction → (transaction.shares.items ≡ [] → WritesThere sending.at.repo sending.request.writes self.old.held.cache.cache) → IsOfSession self.old.held.links.items sending → NoneAwaits 8 self.old.held.links.items → IfOk result (StepsFrom Q.shows item (Q.view port.old) (Q.view port.new) NonePending self.old self.new) }
         ensures writes { unsent self.old.phase ≡ None → ClientWrites self.new }
         ensures rises { Rises self.old.held self.new.held }
     {
         if transaction.shares.is_empty() {
             return self.commit_held(port, opened, transaction.sent(ts, sending.at), sending);
+        }
+        self.prepare_held(port, ts, transaction, sending)
+    }
+
+    /// The coordinator prepares it where the client has copies of all that it writes there and hasn't created. Where a page has come
+    /// that lacks such an object, the evaluation begins anew.
+    fn prepare_held<Q: Port>(
+        &mut self,
+        port: &mut Q,
+        ts: Ts,
+        transaction: Transaction,
+        sending: Sending,
+    ) -> Result<News, NoMemory>
+        ensures acts { ActsIf Q.shows (Q.view port.old) (Q.view port.new) }
+        ensures shown { (repos : ℕ) → ShownIf Q.shows (Q.view port.old) (Q.view port.new) repos result }
+        ensures moves { (item : Present) → pending_in self.old.phase ≡ NonePending → sending.request.tx ≡ ts → SendsDrawn item self.old.held.links.items self.old.held.cache.cache sending transaction → IsOfSession self.old.held.links.items sending → NoneAwaits 8 self.old.held.links.items → IfOk result (StepsFrom Q.shows item (Q.view port.old) (Q.view port.new) NonePending self.old self.new) }
+        ensures writes { unsent self.old.phase ≡ None → ClientWrites self.new }
+        ensures rises { Rises self.old.held self.new.held }
+    {
+        if !self.held.holds_written(&sending.request) {
+            self.begin_anew();
+            return Ok(News::Nothing);
         }
         self.prepare_first(port, ts, transaction, sending)
     }
@@ -155,7 +190,7 @@ impl Client {
     ) -> Result<News, NoMemory>
         ensures acts { ActsIf Q.shows (Q.view port.old) (Q.view port.new) }
         ensures shown { sending.request.tx ≡ sent.ts → ShownIf Q.shows (Q.view port.old) (Q.view port.new) opened.now.repos result }
-        ensures moves { pending_in self.old.phase ≡ NonePending → sending.request.tx ≡ sent.ts → sent.at ≡ sending.at → InSession sending.at self.old.held → WritesThere sending.at.repo sending.request.writes self.old.held.cache.cache → IsOfSession self.old.held.links.items sending → NoneAwaits 8 self.old.held.links.items → OnOk result (MovesSoIf Q.shows (Q.view port.old) (Q.view port.new) self.old.held self.new.held NonePending (pending_in self.new.phase)) }
+        ensures moves { (item : Present) (left : Transaction) → SendsAlone item self.old.held.links.items self.old.held.cache.cache sending left → sent ≡ sent_of sending.request.tx sending.at left → pending_in self.old.phase ≡ NonePending → InSession sending.at self.old.held → WritesThere sending.at.repo sending.request.writes self.old.held.cache.cache → IsOfSession self.old.held.links.items sending → NoneAwaits 8 self.old.held.links.items → IfOk result (StepsFrom Q.shows item (Q.view port.old) (Q.view port.new) NonePending self.old self.new) }
         ensures writes { unsent self.old.phase ≡ None → ClientWrites self.new }
         ensures rises { Rises self.old.held self.new.held }
     {
@@ -175,19 +210,34 @@ impl Client {
     ) -> Result<News, NoMemory>
         ensures acts { ActsIf Q.shows (Q.view port.old) (Q.view port.new) }
         ensures shown { sending.request.tx ≡ sent.ts → ShownIf Q.shows (Q.view port.old) (Q.view port.new) opened.now.repos result }
-        ensures moves { pending_in self.old.phase ≡ NonePending → sending.request.tx ≡ sent.ts → sent.at ≡ sending.at → InSession sending.at self.old.held → WritesThere sending.at.repo sending.request.writes self.old.held.cache.cache → HoldsWritten sending.request self.old.held.cache.cache → IsOfSession self.old.held.links.items sending → NoneAwaits 8 self.old.held.links.items → MovesSoIf Q.shows (Q.view port.old) (Q.view port.new) self.old.held self.new.held NonePending (pending_in self.new.phase) }
+        ensures moves { (item : Present) (left : Transaction) → SendsAlone item self.old.held.links.items self.old.held.cache.cache sending left → sent ≡ sent_of sending.request.tx sending.at left → pending_in self.old.phase ≡ NonePending → InSession sending.at self.old.held → WritesThere sending.at.repo sending.request.writes self.old.held.cache.cache → HoldsWritten sending.request self.old.held.cache.cache → IsOfSession self.old.held.links.items sending → NoneAwaits 8 self.old.held.links.items → IfOk result (StepsFrom Q.shows item (Q.view port.old) (Q.view port.new) NonePending self.old self.new) }
         ensures writes { unsent self.old.phase ≡ None → ClientWrites self.new }
         ensures rises { Rises self.old.held self.new.held }
     {
         let Sending { at, request } = sending;
         match port.commit_one(at, request) {
             Ok(_) => Ok(self.end_committed(opened, sent)),
-            Err(Refusal::Stopped { .. }) => {
-                self.begin_asking(sent);
-                Ok(News::Nothing)
-            }
-            Err(refusal) => self.end_refused(at.repo, refusal),
+            Err(refusal) => self.refuse_commit(at.repo, sent, refusal),
         }
+    }
+
+    /// A commit was refused. Where its call has stopped it may still come, and its verdict is asked for; else the try ends.
+    fn refuse_commit(&mut self, repo: u8, sent: Sent, refusal: Refusal) -> Result<News, NoMemory>
+        ensures shown { IfOk result (λ news. (old new : View) (repos : ℕ) → Refuses old new repo refusal → NewsShown old new repos news) }
+        ensures learns { Learns refusal repo self.old.held self.new.held }
+        ensures client { self.new.held.client ≡ self.old.held.client }
+        ensures asks { pending_in self.old.phase ≡ NonePending → OnOk result (AsksWhereStopped refusal sent (pending_in self.new.phase)) }
+        ensures written { (at : At) → IsWrittenIn at self.old.held → HasStopped refusal → IsWrittenIn at self.new.held }
+        ensures ends { IfOk result (λ news. is_ended news ≡ false) }
+        ensures duties { OnOk result (KeepsDuties self.old.duties self.new.duties) }
+        ensures writes { unsent self.old.phase ≡ None → ClientWrites self.new }
+        ensures rises { Rises self.old.held self.new.held }
+    {
+        if has_stopped(refusal) {
+            self.begin_asking(sent);
+            return Ok(News::Nothing);
+        }
+        self.end_refused(repo, refusal)
     }
 
     fn prepare_first<Q: Port>(
@@ -199,7 +249,7 @@ impl Client {
     ) -> Result<News, NoMemory>
         ensures acts { ActsIf Q.shows (Q.view port.old) (Q.view port.new) }
         ensures shown { (repos : ℕ) → ShownIf Q.shows (Q.view port.old) (Q.view port.new) repos result }
-        ensures moves { pending_in self.old.phase ≡ NonePending → sending.request.tx ≡ ts → IsOfSession self.old.held.links.items sending → NoneAwaits 8 self.old.held.links.items → MovesSoIf Q.shows (Q.view port.old) (Q.view port.new) self.old.held self.new.held NonePending (pending_in self.new.phase) }
+        ensures moves { (item : Present) → pending_in self.old.phase ≡ NonePending → sending.request.tx ≡ ts → SendsDrawn item self.old.held.links.items self.old.held.cache.cache sending transaction → HoldsWritten sending.request self.old.held.cache.cache → IsOfSession self.old.held.links.items sending → NoneAwaits 8 self.old.held.links.items → IfOk result (StepsFrom Q.shows item (Q.view port.old) (Q.view port.new) NonePending self.old self.new) }
         ensures writes { unsent self.old.phase ≡ None → ClientWrites self.new }
         ensures rises { Rises self.old.held self.new.held }
     {
@@ -232,14 +282,37 @@ impl Client {
     ) -> Result<News, NoMemory>
         ensures acts { ActsIf Q.shows (Q.view port.old) (Q.view port.new) }
         ensures shown { ShownIf Q.shows (Q.view port.old) (Q.view port.new) opened.now.repos result }
-        ensures moves { pending_in self.old.phase ≡ NonePending → NoneAwaits 8 self.old.held.links.items → OnOk result (MovesSoIf Q.shows (Q.view port.old) (Q.view port.new) self.old.held self.new.held (IsPreparing coordinator ts) (pending_in self.new.phase)) }
+        ensures moves { (item : Present) → item.who ≡ who → pending_in self.old.phase ≡ NonePending → NoneAwaits 8 self.old.held.links.items → IfOk result (StepsFrom Q.shows item (Q.view port.old) (Q.view port.new) (IsPreparing coordinator ts prepared transaction) self.old self.new) }
         ensures writes { unsent self.old.phase ≡ None → ClientWrites self.new }
         ensures rises { Rises self.old.held self.new.held }
     {
         if transaction.shares.is_empty() {
-            return self.decide(port, opened, transaction.sent(ts, coordinator), coordinator);
+            return self.decide_prepared(port, opened, ts, transaction, coordinator, prepared);
         }
         self.prepare_next(port, who, ts, transaction, coordinator, prepared)
+    }
+
+    /// Has the coordinator decide where all participants have prepared the transaction. They have, since each of them had its share; a
+    /// transaction of which that can't be told isn't decided.
+    fn decide_prepared<Q: Port>(
+        &mut self,
+        port: &mut Q,
+        opened: &Opened,
+        ts: Ts,
+        transaction: Transaction,
+        coordinator: At,
+        prepared: Repos,
+    ) -> Result<News, NoMemory>
+        ensures acts { ActsIf Q.shows (Q.view port.old) (Q.view port.new) }
+        ensures shown { ShownIf Q.shows (Q.view port.old) (Q.view port.new) opened.now.repos result }
+        ensures moves { (item : Present) → transaction.shares.items ≡ [] → pending_in self.old.phase ≡ NonePending → NoneAwaits 8 self.old.held.links.items → IfOk result (StepsFrom Q.shows item (Q.view port.old) (Q.view port.new) (IsPreparing coordinator ts prepared transaction) self.old self.new) }
+        ensures writes { unsent self.old.phase ≡ None → ClientWrites self.new }
+        ensures rises { Rises self.old.held self.new.held }
+    {
+        if !transaction.is_prepared_by(coordinator.repo, &prepared) {
+            return Err(NoMemory);
+        }
+        self.decide(port, opened, transaction.sent(ts, coordinator), coordinator)
     }
 
     fn prepare_next<Q: Port>(
@@ -253,7 +326,7 @@ impl Client {
     ) -> Result<News, NoMemory>
         ensures acts { ActsIf Q.shows (Q.view port.old) (Q.view port.new) }
         ensures shown { (repos : ℕ) → ShownIf Q.shows (Q.view port.old) (Q.view port.new) repos result }
-        ensures moves { NoneAwaits 8 self.old.held.links.items → MovesSoIf Q.shows (Q.view port.old) (Q.view port.new) self.old.held self.new.held (IsPreparing coordinator ts) (pending_in self.new.phase) }
+        ensures moves { (item : Present) → item.who ≡ who → NoneAwaits 8 self.old.held.links.items → IfOk result (StepsFrom Q.shows item (Q.view port.old) (Q.view port.new) (IsPreparing coordinator ts prepared transaction) self.old self.new) }
         ensures writes { ClientWrites self.new }
         ensures rises { Rises self.old.held self.new.held }
     {
@@ -265,16 +338,41 @@ impl Client {
             prepared,
         });
         match sending? {
-            Some(sending) => self.prepare(port, sending),
+            Some(sending) => self.prepare_more(port, sending),
             None => Ok(News::Nothing),
         }
+    }
+
+    /// Has a participant prepare where the client has copies of all that it writes there and hasn't created, in the session that there
+    /// is. It has them while it is in that session, since no page lacks an object that it had; else nothing is sent.
+    fn prepare_more<Q: Port>(&mut self, port: &mut Q, sending: Sending) -> Result<News, NoMemory>
+        ensures acts { ActsIf Q.shows (Q.view port.old) (Q.view port.new) }
+        ensures shown { (repos : ℕ) → ShownIf Q.shows (Q.view port.old) (Q.view port.new) repos result }
+        ensures moves { (item : Present) (a : Pending) → IsSentMore item self.old sending a → IsOfSession self.old.held.links.items sending → NoneAwaits 8 self.old.held.links.items → IfOk result (StepsFrom Q.shows item (Q.view port.old) (Q.view port.new) a self.old self.new) }
+        ensures writes { unsent self.old.phase ≡ None → ClientWrites self.new }
+        ensures rises { Rises self.old.held self.new.held }
+    {
+        if !self.holds_there(&sending) {
+            return Err(NoMemory);
+        }
+        self.prepare(port, sending)
+    }
+
+    /// Whether the client has copies of all that a request writes and hasn't created, where it goes out in the session that there is.
+    fn holds_there(&self, sending: &Sending) -> bool
+        ensures { IsTrue result → HoldsThere sending.now self.now.held.links.items self.now.held.cache.cache }
+    {
+        if !self.is_in_session(sending.at) {
+            return true;
+        }
+        self.held.holds_written(&sending.request)
     }
 
     /// Has a participant prepare. Where it refuses, the try ends, and its coordinator is to abort.
     fn prepare<Q: Port>(&mut self, port: &mut Q, sending: Sending) -> Result<News, NoMemory>
         ensures acts { ActsIf Q.shows (Q.view port.old) (Q.view port.new) }
         ensures shown { (repos : ℕ) → ShownIf Q.shows (Q.view port.old) (Q.view port.new) repos result }
-        ensures moves { is_preparing (pending_in self.old.phase) ≡ true → IsOfSession self.old.held.links.items sending → NoneAwaits 8 self.old.held.links.items → MovesSoIf Q.shows (Q.view port.old) (Q.view port.new) self.old.held self.new.held (pending_in self.old.phase) (pending_in self.new.phase) }
+        ensures moves { (item : Present) (a : Pending) → IsSentMore item self.old sending a → HoldsThere sending self.old.held.links.items self.old.held.cache.cache → IsOfSession self.old.held.links.items sending → NoneAwaits 8 self.old.held.links.items → IfOk result (StepsFrom Q.shows item (Q.view port.old) (Q.view port.new) a self.old self.new) }
         ensures writes { unsent self.old.phase ≡ None → ClientWrites self.new }
         ensures rises { Rises self.old.held self.new.held }
     {
@@ -298,7 +396,7 @@ impl Client {
     ) -> Result<News, NoMemory>
         ensures acts { ActsIf Q.shows (Q.view port.old) (Q.view port.new) }
         ensures shown { ShownIf Q.shows (Q.view port.old) (Q.view port.new) opened.now.repos result }
-        ensures moves { pending_in self.old.phase ≡ NonePending → sent.at ≡ coordinator → NoneAwaits 8 self.old.held.links.items → OnOk result (MovesSoIf Q.shows (Q.view port.old) (Q.view port.new) self.old.held self.new.held (IsPreparing coordinator sent.ts) (pending_in self.new.phase)) }
+        ensures moves { (item : Present) (a : Pending) (transaction : Transaction) → DecidesAll a coordinator sent.ts transaction → sent ≡ sent_of sent.ts coordinator transaction → pending_in self.old.phase ≡ NonePending → NoneAwaits 8 self.old.held.links.items → IfOk result (StepsFrom Q.shows item (Q.view port.old) (Q.view port.new) a self.old self.new) }
         ensures writes { unsent self.old.phase ≡ None → ClientWrites self.new }
         ensures rises { Rises self.old.held self.new.held }
     {
@@ -313,7 +411,8 @@ impl Client {
         ensures news { IfOk result (λ n. n ≡ news.Nothing) }
         ensures loses { Loses refusal repo self.old.held self.new.held }
         ensures client { self.new.held.client ≡ self.old.held.client }
-        ensures asks { OnOk result (pending_in self.new.phase ≡ IsAsking sent.at sent.ts) }
+        ensures asks { OnOk result (pending_in self.new.phase ≡ IsAsking sent 0) }
+        ensures duties { self.new.duties ≡ self.old.duties }
         ensures writes { unsent self.old.phase ≡ None → ClientWrites self.new }
         ensures rises { Rises self.old.held self.new.held }
     {
@@ -327,7 +426,8 @@ impl Client {
 
     fn begin_asking(&mut self, sent: Sent)
         ensures held { self.new.held ≡ self.old.held }
-        ensures asks { pending_in self.new.phase ≡ IsAsking sent.at sent.ts }
+        ensures asks { pending_in self.new.phase ≡ IsAsking sent 0 }
+        ensures duties { self.new.duties ≡ self.old.duties }
         ensures writes { ClientWrites self.new }
         ensures rises { Rises self.old.held self.new.held }
     {

@@ -53,6 +53,7 @@ impl FrontEnd {
     ghost use Rattle.front_end.specs.Moving.{GoesOn, Keeps, MovesOn, course_of, held_of, left_of, pending_of, standing_of, steps_left, tries_of, uncounted};
     ghost use Rattle.front_end.specs.Rules.{MayFollow};
     ghost use Rattle.front_end.specs.Showing.{GoesShown, ItemsShown};
+    ghost use Rattle.front_end.specs.Stepping.{AsksEach, HelpsBy, TakesStep};
     ghost use Rattle.front_end.specs.declared.front_end.Step.TheVariants as step;
     ghost use Rattle.client_items.specs.Courses.{Goes, IsInOrder};
     ghost use Rattle.client_items.specs.Ending.{EndsBy, GoesBy, ends_try};
@@ -98,6 +99,7 @@ impl FrontEnd {
         ensures shown { ItemsShown Q.shows (Q.view port.old) (Q.view port.new) opened.now.repos self.old self.new }
         ensures moves { OnOk result (MovesIf Q.shows (Q.view port.old) (Q.view port.new) (held_of self.old) (held_of self.new)) }
         ensures pends { OnOk result (MovesSoIf Q.shows (Q.view port.old) (Q.view port.new) (held_of self.old) (held_of self.new) (pending_of self.old) (pending_of self.new)) }
+        ensures tried { OnOk result (TakesStep Q.shows (Q.view port.old) (Q.view port.new) self.old self.new) }
         ensures rises { Rises (held_of self.old) (held_of self.new) }
     {
         if self.has_ended() {
@@ -123,7 +125,7 @@ impl FrontEnd {
         ensures falls { MovesOn self.old → OnOk result (Falls (left_of self.old) (left_of self.new)) }
         ensures acts { ActsIf Q.shows (Q.view port.old) (Q.view port.new) }
         ensures shown { ItemsShown Q.shows (Q.view port.old) (Q.view port.new) opened.now.repos self.old self.new }
-        ensures moves { OnOk result (MovesSoIf Q.shows (Q.view port.old) (Q.view port.new) (held_of self.old) (held_of self.new) (pending_of self.old) (pending_of self.new)) }
+        ensures moves { OnOk result (TakesStep Q.shows (Q.view port.old) (Q.view port.new) self.old self.new) }
         ensures rises { Rises (held_of self.old) (held_of self.new) }
     {
         match self.client.duties.abort.take() {
@@ -140,7 +142,7 @@ impl FrontEnd {
         ensures falls { GoesOn self.old → OnOk result (Falls (left_of self.old) (left_of self.new)) }
         ensures acts { ActsIf Q.shows (Q.view port.old) (Q.view port.new) }
         ensures shown { ItemsShown Q.shows (Q.view port.old) (Q.view port.new) opened.now.repos self.old self.new }
-        ensures moves { OnOk result (MovesSoIf Q.shows (Q.view port.old) (Q.view port.new) (held_of self.old) (held_of self.new) (pending_of self.old) (pending_of self.new)) }
+        ensures moves { OnOk result (TakesStep Q.shows (Q.view port.old) (Q.view port.new) self.old self.new) }
         ensures rises { Rises (held_of self.old) (held_of self.new) }
     {
         match self.client.next_rule(opened) {
@@ -163,7 +165,7 @@ impl FrontEnd {
         ensures falls { GoesOn self.old → OnOk result (Falls (left_of self.old) (left_of self.new)) }
         ensures acts { ActsIf Q.shows (Q.view port.old) (Q.view port.new) }
         ensures shown { ItemsShown Q.shows (Q.view port.old) (Q.view port.new) opened.now.repos self.old self.new }
-        ensures moves { MayFollow rule (held_of self.old) → OnOk result (MovesSoIf Q.shows (Q.view port.old) (Q.view port.new) (held_of self.old) (held_of self.new) (pending_of self.old) (pending_of self.new)) }
+        ensures moves { MayFollow rule (held_of self.old) → HelpsBy rule self.old.client.duties.helping → OnOk result (TakesStep Q.shows (Q.view port.old) (Q.view port.new) self.old self.new) }
         ensures rises { Rises (held_of self.old) (held_of self.new) }
     {
         if !self.count_call() {
@@ -182,6 +184,7 @@ impl FrontEnd {
         ensures used_up { IsTrue (not result) → most_calls ≤ self.old.attempts.calls }
         ensures held { held_of self.new ≡ held_of self.old }
         ensures pending { pending_of self.new ≡ pending_of self.old }
+        ensures client { self.new.client ≡ self.old.client }
     {
         self.attempts.count_call()
     }
@@ -198,7 +201,7 @@ impl FrontEnd {
         ensures left { OnOk result (NeverRises (standing_of self.old) (standing_of self.new)) }
         ensures acts { ActsIf Q.shows (Q.view port.old) (Q.view port.new) }
         ensures shown { (calls : ℕ) → GoesShown Q.shows (Q.view port.old) (Q.view port.new) opened.now.repos (tries_of self.old) calls (course_of self.old) (course_of self.new) }
-        ensures moves { MayFollow rule (held_of self.old) → OnOk result (MovesSoIf Q.shows (Q.view port.old) (Q.view port.new) (held_of self.old) (held_of self.new) (pending_of self.old) (pending_of self.new)) }
+        ensures moves { MayFollow rule (held_of self.old) → HelpsBy rule self.old.client.duties.helping → OnOk result (TakesStep Q.shows (Q.view port.old) (Q.view port.new) self.old self.new) }
         ensures rises { Rises (held_of self.old) (held_of self.new) }
     {
         let task = self.progress.task(opened, self.attempts.each);
@@ -214,7 +217,7 @@ impl FrontEnd {
         ensures falls { IsSome (asking_in self.old.client.phase) → OnOk result (Falls (left_of self.old) (left_of self.new)) }
         ensures acts { ActsIf Q.shows (Q.view port.old) (Q.view port.new) }
         ensures shown { ItemsShown Q.shows (Q.view port.old) (Q.view port.new) opened.now.repos self.old self.new }
-        ensures moves { OnOk result (MovesSoIf Q.shows (Q.view port.old) (Q.view port.new) (held_of self.old) (held_of self.new) (pending_of self.old) (pending_of self.new)) }
+        ensures moves { OnOk result (TakesStep Q.shows (Q.view port.old) (Q.view port.new) self.old self.new) }
         ensures rises { Rises (held_of self.old) (held_of self.new) }
     {
         let task = self.progress.task(opened, self.attempts.each);
@@ -231,7 +234,7 @@ impl FrontEnd {
         ensures falls { GoesOn self.old → OnOk result (Falls (left_of self.old) (left_of self.new)) }
         ensures acts { ActsIf Q.shows (Q.view port.old) (Q.view port.new) }
         ensures shown { (repos : ℕ) → most_calls ≤ self.old.attempts.calls → ItemsShown Q.shows (Q.view port.old) (Q.view port.new) repos self.old self.new }
-        ensures moves { OnOk result (MovesSoIf Q.shows (Q.view port.old) (Q.view port.new) (held_of self.old) (held_of self.new) (pending_of self.old) (pending_of self.new)) }
+        ensures moves { OnOk result (TakesStep Q.shows (Q.view port.old) (Q.view port.new) self.old self.new) }
         ensures rises { Rises (held_of self.old) (held_of self.new) }
     {
         if self.progress.has_ended() {
@@ -270,6 +273,7 @@ impl FrontEnd {
         ensures shown { ItemsShown Q.shows (Q.view port.old) (Q.view port.new) opened.now.repos self.old self.new }
         ensures moves { OnOk result (MovesIf Q.shows (Q.view port.old) (Q.view port.new) (held_of self.old) (held_of self.new)) }
         ensures pends { OnOk result (MovesSoIf Q.shows (Q.view port.old) (Q.view port.new) (held_of self.old) (held_of self.new) (pending_of self.old) (pending_of self.new)) }
+        ensures tried { OnOk result (TakesStep Q.shows (Q.view port.old) (Q.view port.new) self.old self.new) }
         ensures gives_up { OnOk result (GaveUpIf Q.shows (Q.view port.old) (Q.view port.new) repo self.old.client.phase (held_of self.new).cache.cache) }
         ensures rises { Rises (held_of self.old) (held_of self.new) }
     {
@@ -286,7 +290,7 @@ impl FrontEnd {
         ensures keeps { OnOk result (Keeps (left_of self.old) (left_of self.new)) }
         ensures acts { ActsIf Q.shows (Q.view port.old) (Q.view port.new) }
         ensures shown { ItemsShown Q.shows (Q.view port.old) (Q.view port.new) opened.now.repos self.old self.new }
-        ensures moves { InSession at (held_of self.old) → OnOk result (MovesSoIf Q.shows (Q.view port.old) (Q.view port.new) (held_of self.old) (held_of self.new) (pending_of self.old) (pending_of self.new)) }
+        ensures moves { InSession at (held_of self.old) → OnOk result (TakesStep Q.shows (Q.view port.old) (Q.view port.new) self.old self.new) }
         ensures gives_up { OnOk result (GaveUpIf Q.shows (Q.view port.old) (Q.view port.new) at.repo self.old.client.phase (held_of self.new).cache.cache) }
         ensures rises { Rises (held_of self.old) (held_of self.new) }
     {
@@ -297,6 +301,7 @@ impl FrontEnd {
     /// Asks once for each Unknown item. What is left for the client to do doesn't rise.
     pub fn last<Q: Port>(&mut self, port: &mut Q, opened: &Opened) -> Result<(), NoMemory>
         ensures keeps { OnOk result (Keeps (left_of self.old) (left_of self.new)) }
+        ensures asks { OnOk result (AsksEach Q.shows opened.now.repos (Q.view port.old) (Q.view port.new) self.old self.new) }
         ensures rises { Rises (held_of self.old) (held_of self.new) }
     {
         for repo in 0..REPOSITORIES {

@@ -1,6 +1,8 @@
 //! The sixth rule: the try goes on.
 
-ghost use Rattle.client_state.specs.Pending.{MovesSoIf, NonePending, pending_in};
+ghost use Rattle.client_items.specs.Meanings.{is_ended};
+ghost use Rattle.client_state.specs.Pending.{NonePending, pending_in};
+ghost use Rattle.front_end.specs.Stepping.{ClientHands, ClientSteps};
 ghost use Rattle.client_state.specs.Writing.{unsent};
 ghost use Rattle.front_end.specs.Writing.{ClientWrites};
 ghost use Rattle.client_state.specs.Learning.{Rises};
@@ -8,7 +10,7 @@ ghost use Rattle.client_state.specs.Links.{NoneAwaits};
 ghost use Rattle.client_state.specs.Moving.{SendsNothingIf};
 ghost use Rattle.front_end.specs.Showing.{ShownIf};
 ghost use Rattle.client_port.specs.Acting.{ActsIf};
-ghost use Rattle.std.specs.Prelude.{OnOk, None, ◌≡◌};
+ghost use Rattle.std.specs.Prelude.{IfOk, OnOk, None, false, ◌≡◌};
 
 use crate::client::Client;
 use client_items::{Asked, News, Opened, Task};
@@ -27,7 +29,7 @@ impl Client {
     ) -> Result<News, NoMemory>
         ensures acts { ActsIf Q.shows (Q.view port.old) (Q.view port.new) }
         ensures shown { ShownIf Q.shows (Q.view port.old) (Q.view port.new) opened.now.repos result }
-        ensures moves { ClientWrites self.old → NoneAwaits 8 self.old.held.links.items → OnOk result (MovesSoIf Q.shows (Q.view port.old) (Q.view port.new) self.old.held self.new.held (pending_in self.old.phase) (pending_in self.new.phase)) }
+        ensures moves { ClientWrites self.old → NoneAwaits 8 self.old.held.links.items → IfOk result (ClientSteps Q.shows (record { who = task.entry.who; tries = task.entry.tries }) (Q.view port.old) (Q.view port.new) self.old self.new) }
         ensures writes { ClientWrites self.old → ClientWrites self.new }
         ensures rises { Rises self.old.held self.new.held }
     {
@@ -71,6 +73,8 @@ impl Client {
         ensures shown { ShownIf Q.shows (Q.view port.old) (Q.view port.new) opened.now.repos result }
         ensures moves { NoneAwaits 8 self.old.held.links.items → OnOk result (SendsNothingIf Q.shows (Q.view port.old) (Q.view port.new) self.old.held self.new.held) }
         ensures free { pending_in self.old.phase ≡ NonePending → pending_in self.new.phase ≡ NonePending }
+        ensures ends { IfOk result (λ news. is_ended news ≡ false) }
+        ensures hands { OnOk result (ClientHands Q.shows (Q.view port.old) (Q.view port.new) self.old self.new) }
         ensures writes { unsent self.old.phase ≡ None → ClientWrites self.new }
         ensures rises { Rises self.old.held self.new.held }
     {

@@ -1,13 +1,15 @@
 //! The fifth rule: verdicts are handed on.
 
-ghost use Rattle.client_state.specs.Pending.{MovesSoIf, Pending, pending_in};
+ghost use Rattle.client_state.specs.Stepping.{Present};
+ghost use Rattle.front_end.specs.Stepping.{IsFinished, IsForgotten, StepsOwing};
 ghost use Rattle.front_end.specs.Writing.{ClientWrites};
 ghost use Rattle.client_state.specs.Learning.{Rises};
 ghost use Rattle.client_state.specs.Owing.{calls_of, count_of};
-ghost use Rattle.client_state.specs.declared.held.Held.{Held};
+ghost use Rattle.client_state.specs.declared.duties.Duties.{Duties};
 ghost use Rattle.client_port.specs.Acting.{ActsIf};
 ghost use Rattle.front_end.specs.Moving.{uncounted};
-ghost use Rattle.std.specs.Prelude.{MatchOption, OnOk, [], length, ℕ, ◌+◌, ◌<◌, ◌≡◌};
+ghost use Rattle.client_state.specs.declared.duties.Duty.TheVariants as duties;
+ghost use Rattle.std.specs.Prelude.{IfOk, MatchOption, OnOk, [], length, true, ℕ, ◌&&◌, ◌+◌, ◌<◌, ◌∷◌, ◌≡◌};
 
 use crate::client::Client;
 use client_port::Port;
@@ -21,7 +23,7 @@ impl Client {
     pub fn hand_on<Q: Port>(&mut self, port: &mut Q) -> Result<(), NoMemory>
         ensures owed { 0 < length self.old.duties.verdicts → OnOk result ((tries : ℕ) → uncounted tries self.new < uncounted tries self.old) }
         ensures acts { ActsIf Q.shows (Q.view port.old) (Q.view port.new) }
-        ensures moves { MovesSoIf Q.shows (Q.view port.old) (Q.view port.new) self.old.held self.new.held (pending_in self.old.phase) (pending_in self.new.phase) }
+        ensures moves { (item : Present) → OnOk result (StepsOwing Q.shows item (Q.view port.old) (Q.view port.new) self.old.duties self.old self.new) }
         ensures writes { ClientWrites self.old → ClientWrites self.new }
         ensures rises { Rises self.old.held self.new.held }
     {
@@ -35,7 +37,7 @@ impl Client {
     fn do_next<Q: Port>(&mut self, port: &mut Q, duty: Duty) -> Result<(), NoMemory>
         ensures owed { OnOk result ((tries : ℕ) → uncounted tries self.new < uncounted tries self.old + calls_of duty) }
         ensures acts { ActsIf Q.shows (Q.view port.old) (Q.view port.new) }
-        ensures moves { MovesSoIf Q.shows (Q.view port.old) (Q.view port.new) self.old.held self.new.held (pending_in self.old.phase) (pending_in self.new.phase) }
+        ensures moves { (item : Present) (d : Duties) → d.verdicts ≡ duty ∷ self.old.duties.verdicts → self.old.duties.helping ≡ d.helping → OnOk result (StepsOwing Q.shows item (Q.view port.old) (Q.view port.new) d self.old self.new) }
         ensures writes { ClientWrites self.old → ClientWrites self.new }
         ensures rises { Rises self.old.held self.new.held }
     {
@@ -59,24 +61,33 @@ impl Client {
     ) -> Result<(), NoMemory>
         ensures owed { OnOk result ((tries : ℕ) → uncounted tries self.new < uncounted tries self.old + (count_of to + 1)) }
         ensures acts { ActsIf Q.shows (Q.view port.old) (Q.view port.new) }
-        ensures moves { MovesSoIf Q.shows (Q.view port.old) (Q.view port.new) self.old.held self.new.held (pending_in self.old.phase) (pending_in self.new.phase) }
+        ensures moves { (item : Present) (d : Duties) → d.verdicts ≡ duties.Finish verdict to forgets ∷ self.old.duties.verdicts → self.old.duties.helping ≡ d.helping → OnOk result (StepsOwing Q.shows item (Q.view port.old) (Q.view port.new) d self.old self.new) }
         ensures writes { ClientWrites self.old → ClientWrites self.new }
         ensures rises { Rises self.old.held self.new.held }
     {
         match take_next(&mut to) {
             Some(repo) => {
                 let told = tell(port, repo, &verdict)?;
-                self.duties.keep_behind(verdict, to, forgets && told)
+                self.duties
+                    .keep_behind(verdict, to, forgets_behind(forgets, told))
             }
             None => Ok(()),
         }
     }
 }
 
+/// Whether the coordinator may still be made to forget, behind a participant of which it is known whether it has taken the verdict.
+fn forgets_behind(forgets: bool, told: bool) -> bool
+    ensures { result ≡ (forgets && told) }
+{
+    forgets && told
+}
+
 /// Takes the participant that is to be told next.
-#[tactic(auto, using(client_state::proofs::Owing::one_fewer))]
+#[tactic(auto, using(client_state::proofs::Owing::one_fewer, client_state::proofs::Handing::first_told))]
 fn take_next(to: &mut Repos) -> Option<u8>
-    ensures { MatchOption result (to.old ≡ []) (λ repo. count_of to.new < count_of to.old) }
+    ensures fewer { MatchOption result (to.old ≡ []) (λ repo. count_of to.new < count_of to.old) }
+    ensures first { MatchOption result (to.old ≡ []) (λ repo. to.old ≡ repo ∷ to.new) }
 {
     if to.len() == 0 {
         return None;
@@ -87,7 +98,7 @@ fn take_next(to: &mut Repos) -> Option<u8>
 /// Tells a participant the verdict. It answers whether it has taken it.
 fn tell<Q: Port>(port: &mut Q, repo: u8, verdict: &Verdict) -> Result<bool, NoMemory>
     ensures acts { ActsIf Q.shows (Q.view port.old) (Q.view port.new) }
-    ensures moves { (held : Held) (a : Pending) → MovesSoIf Q.shows (Q.view port.old) (Q.view port.new) held held a a }
+    ensures told { IfOk result (λ told. Q.shows ≡ true → IsFinished (Q.view port.old) (Q.view port.new) repo verdict.now told) }
 {
     match port.finish(repo, verdict) {
         Ok(_) => Ok(true),
@@ -99,7 +110,7 @@ fn tell<Q: Port>(port: &mut Q, repo: u8, verdict: &Verdict) -> Result<bool, NoMe
 /// Has the coordinator forget a decision. A refusal leaves it there.
 fn forget<Q: Port>(port: &mut Q, ts: Ts) -> Result<(), NoMemory>
     ensures acts { ActsIf Q.shows (Q.view port.old) (Q.view port.new) }
-    ensures moves { (held : Held) (a : Pending) → MovesSoIf Q.shows (Q.view port.old) (Q.view port.new) held held a a }
+    ensures told { OnOk result (Q.shows ≡ true → IsForgotten (Q.view port.old) (Q.view port.new) ts) }
 {
     match port.forget(ts.repo, ts) {
         Ok(()) => Ok(()),

@@ -1,12 +1,14 @@
 //! The third rule: the client helps on a transaction that stood against its request.
 
-ghost use Rattle.client_state.specs.Pending.{MovesSoIf, Pending, pending_in};
+ghost use Rattle.client_state.specs.Pending.{pending_in};
+ghost use Rattle.client_state.specs.Stepping.{Present, StepsSoIf};
+ghost use Rattle.client_state.specs.declared.duties.Duties.{Duties};
+ghost use Rattle.front_end.specs.Stepping.{ClientSteps, IsFinishedSo};
 ghost use Rattle.front_end.specs.Writing.{ClientWrites};
 ghost use Rattle.client_state.specs.Learning.{Rises};
-ghost use Rattle.client_state.specs.declared.held.Held.{Held};
 ghost use Rattle.front_end.specs.Showing.{ShownIf};
 ghost use Rattle.client_port.specs.Acting.{ActsIf};
-ghost use Rattle.std.specs.Prelude.{OnOk};
+ghost use Rattle.std.specs.Prelude.{IfOk, None, OnOk, Some, true, ◌≡◌};
 
 use crate::client::Client;
 use client_items::{Learnt, News, Opened};
@@ -26,7 +28,7 @@ impl Client {
     ) -> Result<News, NoMemory>
         ensures acts { ActsIf Q.shows (Q.view port.old) (Q.view port.new) }
         ensures shown { ShownIf Q.shows (Q.view port.old) (Q.view port.new) opened.now.repos result }
-        ensures moves { OnOk result (MovesSoIf Q.shows (Q.view port.old) (Q.view port.new) self.old.held self.new.held (pending_in self.old.phase) (pending_in self.new.phase)) }
+        ensures moves { (item : Present) → self.old.duties.helping ≡ Some helping → IfOk result (ClientSteps Q.shows item (Q.view port.old) (Q.view port.new) self.old self.new) }
         ensures writes { ClientWrites self.old → ClientWrites self.new }
         ensures rises { Rises self.old.held self.new.held }
     {
@@ -51,7 +53,7 @@ impl Client {
     ) -> Result<News, NoMemory>
         ensures acts { ActsIf Q.shows (Q.view port.old) (Q.view port.new) }
         ensures shown { ShownIf Q.shows (Q.view port.old) (Q.view port.new) opened.now.repos result }
-        ensures moves { OnOk result (MovesSoIf Q.shows (Q.view port.old) (Q.view port.new) self.old.held self.new.held (pending_in self.old.phase) (pending_in self.new.phase)) }
+        ensures moves { (item : Present) (d : Duties) → self.old.duties.verdicts ≡ d.verdicts → self.old.duties.helping ≡ None → IfOk result (StepsSoIf Q.shows item (Q.view port.old) (Q.view port.new) self.old.held self.new.held (pending_in self.old.phase) (pending_in self.new.phase) d self.new.duties) }
         ensures writes { ClientWrites self.old → ClientWrites self.new }
         ensures rises { Rises self.old.held self.new.held }
     {
@@ -76,7 +78,7 @@ impl Client {
 /// Hands a verdict to a repository. A refusal leaves it to whoever asks later.
 fn finish<Q: Port>(port: &mut Q, verdict: Verdict, repo: u8) -> Result<(), NoMemory>
     ensures acts { ActsIf Q.shows (Q.view port.old) (Q.view port.new) }
-    ensures moves { (held : Held) (a : Pending) → MovesSoIf Q.shows (Q.view port.old) (Q.view port.new) held held a a }
+    ensures told { OnOk result (Q.shows ≡ true → IsFinishedSo (Q.view port.old) (Q.view port.new) repo verdict) }
 {
     match port.finish(repo, &verdict) {
         Ok(_) => Ok(()),

@@ -1,6 +1,8 @@
 //! How a session begins where a try needs one.
 
+ghost use Rattle.client_items.specs.Meanings.{is_ended};
 ghost use Rattle.client_state.specs.Pending.{NonePending, pending_in};
+ghost use Rattle.front_end.specs.Stepping.{ClientHands};
 ghost use Rattle.front_end.specs.Writing.{ClientWrites};
 ghost use Rattle.client_state.specs.Learning.{Rises};
 ghost use Rattle.client_state.specs.Links.{session_in};
@@ -8,7 +10,7 @@ ghost use Rattle.client_state.specs.Moving.{SendsNothingIf};
 ghost use Rattle.front_end.specs.Showing.{ShownIf};
 ghost use Rattle.client_state.specs.Showing.{CameIf};
 ghost use Rattle.client_port.specs.Acting.{ActsIf};
-ghost use Rattle.std.specs.Prelude.{None, OnOk, slice_get, ◌≡◌};
+ghost use Rattle.std.specs.Prelude.{IfOk, None, OnOk, false, slice_get, ◌≡◌};
 
 use crate::client::Client;
 use client_items::{News, Opened};
@@ -29,6 +31,8 @@ impl Client {
         ensures shown { ShownIf Q.shows (Q.view port.old) (Q.view port.new) opened.now.repos result }
         ensures moves { session_in repo (slice_get self.old.held.links.items repo) ≡ None → OnOk result (SendsNothingIf Q.shows (Q.view port.old) (Q.view port.new) self.old.held self.new.held) }
         ensures free { pending_in self.old.phase ≡ NonePending → pending_in self.new.phase ≡ NonePending }
+        ensures ends { IfOk result (λ news. is_ended news ≡ false) }
+        ensures hands { OnOk result (ClientHands Q.shows (Q.view port.old) (Q.view port.new) self.old self.new) }
         ensures writes { ClientWrites self.old → ClientWrites self.new }
         ensures rises { Rises self.old.held self.new.held }
     {
@@ -48,6 +52,7 @@ impl Client {
         ensures shown { CameIf Q.shows (Q.view port.old) (Q.view port.new) result }
         ensures moves { session_in repo (slice_get self.old.held.links.items repo) ≡ None → OnOk result (SendsNothingIf Q.shows (Q.view port.old) (Q.view port.new) self.old.held self.new.held) }
         ensures phase { self.new.phase ≡ self.old.phase }
+        ensures hands { OnOk result (ClientHands Q.shows (Q.view port.old) (Q.view port.new) self.old self.new) }
         ensures cache { self.new.held.cache ≡ self.old.held.cache }
         ensures rises { Rises self.old.held self.new.held }
     {
@@ -70,6 +75,7 @@ impl Client {
         ensures shown { CameIf Q.shows (Q.view port.old) (Q.view port.new) result }
         ensures moves { OnOk result (SendsNothingIf Q.shows (Q.view port.old) (Q.view port.new) self.old.held self.new.held) }
         ensures phase { self.new.phase ≡ self.old.phase }
+        ensures hands { OnOk result (ClientHands Q.shows (Q.view port.old) (Q.view port.new) self.old self.new) }
         ensures cache { self.new.held.cache ≡ self.old.held.cache }
         ensures rises { Rises self.old.held self.new.held }
     {

@@ -1,6 +1,11 @@
 //! What a client does with the messages of a repository.
 
-ghost use Rattle.client_state.specs.Pending.{MovesSoIf, NonePending, StaysPending, pending_in};
+ghost use Rattle.client_items.specs.Meanings.{is_ended};
+ghost use Rattle.client_state.specs.Handing.{KeepsDuties};
+ghost use Rattle.client_state.specs.Pending.{NonePending, StaysPending, pending_in};
+ghost use Rattle.client_state.specs.Reading.{ReadsNone};
+ghost use Rattle.client_state.specs.Stepping.{Present};
+ghost use Rattle.front_end.specs.Stepping.{ClientSteps, IsStaleBy, SameVerdicts, news_in};
 ghost use Rattle.front_end.specs.Writing.{ClientWrites};
 ghost use Rattle.client_cache.specs.Copies.{changed};
 ghost use Rattle.client_state.specs.Learning.{KeepsBounds, Rises};
@@ -15,7 +20,7 @@ ghost use Rattle.client_port.specs.Views.{View};
 ghost use Rattle.front_end.specs.Moving.{uncounted};
 ghost use Rattle.session_outbox.specs.declared.message.Message.TheVariants as message;
 ghost use Rattle.client_items.specs.declared.news.News.TheVariants as news;
-ghost use Rattle.std.specs.Prelude.{IfOk, IsTrue, List, None, OnOk, not, true, ℕ, ◌≡◌, ◌≤◌};
+ghost use Rattle.std.specs.Prelude.{IfOk, IsTrue, List, None, OnOk, false, not, true, ℕ, ◌≡◌, ◌≤◌};
 
 use crate::client::Client;
 use base_reasons::Reason;
@@ -47,7 +52,9 @@ impl Client {
     ) -> Result<Option<News>, NoMemory>
         ensures acts { ActsIf Q.shows (Q.view port.old) (Q.view port.new) }
         ensures shown { SomeShownIf Q.shows (Q.view port.old) (Q.view port.new) opened.now.repos result }
-        ensures moves { InSession at self.old.held → OnOk result (MovesSoIf Q.shows (Q.view port.old) (Q.view port.new) self.old.held self.new.held (pending_in self.old.phase) (pending_in self.new.phase)) }
+        ensures moves { (item : Present) → InSession at self.old.held → IfOk result (λ some. ClientSteps Q.shows item (Q.view port.old) (Q.view port.new) self.old self.new (news_in some)) }
+        ensures ends { IfOk result (λ some. is_ended (news_in some) ≡ false) }
+        ensures duties { OnOk result (KeepsDuties self.old.duties self.new.duties) }
         ensures none { IfOk result (λ some. some ≡ None → ReceivesNone Q.shows (Q.view port.old) (Q.view port.new) at self.old.held self.new.held) }
         ensures still { IfOk result (λ some. some ≡ None → self.new.phase ≡ self.old.phase) }
         ensures gives_up { OnOk result (GaveUpIf Q.shows (Q.view port.old) (Q.view port.new) at.repo self.old.phase self.new.held.cache.cache) }
@@ -65,6 +72,8 @@ impl Client {
     fn end_unless_gone(&mut self, repo: u8, refusal: Refusal, left: bool) -> Result<News, NoMemory>
         ensures shown { IfOk result (λ news. (old new : View) (repos : ℕ) → Refuses old new repo refusal → NewsShown old new repos news) }
         ensures ends { OnOk result (EndsReceive refusal repo self.old.held self.new.held) }
+        ensures news { IfOk result (λ news. is_ended news ≡ false) }
+        ensures duties { OnOk result (KeepsDuties self.old.duties self.new.duties) }
         ensures stays { OnOk result (StaysPending (pending_in self.old.phase) (pending_in self.new.phase) self.old.held self.new.held) }
         ensures writes { ClientWrites self.old → ClientWrites self.new }
         ensures rises { Rises self.old.held self.new.held }
@@ -81,6 +90,7 @@ impl Client {
         ensures news { result ≡ news.TryEnded cause }
         ensures ends { (refusal : Refusal) → IsNotGone refusal → EndsReceive refusal repo self.old.held self.new.held }
         ensures free { pending_in self.new.phase ≡ NonePending }
+        ensures duties { KeepsDuties self.old.duties self.new.duties }
         ensures writes { ClientWrites self.new }
         ensures rises { Rises self.old.held self.new.held }
     {
@@ -102,7 +112,7 @@ impl Client {
         ensures owed { OnOk result ((tries : ℕ) → uncounted tries self.new ≤ uncounted tries self.old) }
         ensures acts { ActsIf Q.shows (Q.view port.old) (Q.view port.new) }
         ensures shown { ShownIf Q.shows (Q.view port.old) (Q.view port.new) opened.now.repos result }
-        ensures moves { InSession at self.old.held → OnOk result (MovesSoIf Q.shows (Q.view port.old) (Q.view port.new) self.old.held self.new.held (pending_in self.old.phase) (pending_in self.new.phase)) }
+        ensures moves { (item : Present) → InSession at self.old.held → IfOk result (ClientSteps Q.shows item (Q.view port.old) (Q.view port.new) self.old self.new) }
         ensures gives_up { OnOk result (GaveUpIf Q.shows (Q.view port.old) (Q.view port.new) at.repo self.old.phase self.new.held.cache.cache) }
         ensures writes { ClientWrites self.old → ClientWrites self.new }
         ensures rises { Rises self.old.held self.new.held }
@@ -118,6 +128,7 @@ impl Client {
     fn lose_delivered(&mut self, repo: u8, refusal: Refusal) -> Result<News, NoMemory>
         ensures owed { (tries : ℕ) → uncounted tries self.new ≤ uncounted tries self.old }
         ensures news { IfOk result (λ n. n ≡ news.Nothing) }
+        ensures duties { self.new.duties ≡ self.old.duties }
         ensures loses { Loses refusal repo self.old.held self.new.held }
         ensures client { self.new.held.client ≡ self.old.held.client }
         ensures stays { StaysPending (pending_in self.old.phase) (pending_in self.new.phase) self.old.held self.new.held }
@@ -141,6 +152,7 @@ impl Client {
         ensures client { self.new.held.client ≡ self.old.held.client }
         ensures stays { StaysPending (pending_in self.old.phase) (pending_in self.new.phase) self.old.held self.new.held }
         ensures rest { IsTrue (not result) → self.new.held ≡ self.old.held }
+        ensures duties { self.new.duties ≡ self.old.duties }
         ensures gone { IsTrue (not result) → IsNotGone refusal }
         ensures writes { ClientWrites self.old → ClientWrites self.new }
         ensures rises { Rises self.old.held self.new.held }
@@ -157,6 +169,8 @@ impl Client {
     fn take(&mut self, opened: &Opened, repo: u8, message: Message) -> Result<News, NoMemory>
         ensures owed { OnOk result ((tries : ℕ) → uncounted tries self.new ≤ uncounted tries self.old) }
         ensures shown { IfOk result (λ news. (old new : View) (repos : ℕ) → IsTaken old new repo message → NewsShown old new repos news) }
+        ensures ends { IfOk result (λ news. is_ended news ≡ false) }
+        ensures duties { OnOk result (KeepsDuties self.old.duties self.new.duties) }
         ensures takes { OnOk result (TakesCopies repo message self.old.held self.new.held) }
         ensures gives_up { OnOk result (GivesUp repo message self.old.phase self.new.held.cache.cache) }
         ensures stays { OnOk result (StaysPending (pending_in self.old.phase) (pending_in self.new.phase) self.old.held self.new.held) }
@@ -175,6 +189,8 @@ impl Client {
     fn take_page(&mut self, repo: u8, page: u32, bytes: &PageImage) -> Result<News, NoMemory>
         ensures owed { OnOk result ((tries : ℕ) → uncounted tries self.new ≤ uncounted tries self.old) }
         ensures shown { IfOk result (λ news. (old new : View) (repos : ℕ) → (place : ℕ) → IsTaken old new repo (message.Page page bytes.now place) → NewsShown old new repos news) }
+        ensures ends { IfOk result (λ news. is_ended news ≡ false) }
+        ensures verdicts { SameVerdicts self.old self.new }
         ensures takes { (place : ℕ) → OnOk result (TakesCopies repo (message.Page page bytes.now place) self.old.held self.new.held) }
         ensures stays { OnOk result (StaysPending (pending_in self.old.phase) (pending_in self.new.phase) self.old.held self.new.held) }
         ensures writes { ClientWrites self.old → ClientWrites self.new }
@@ -193,6 +209,8 @@ impl Client {
     fn take_grant(&mut self, repo: u8, page: u32) -> Result<News, NoMemory>
         ensures owed { OnOk result ((tries : ℕ) → uncounted tries self.new ≤ uncounted tries self.old) }
         ensures shown { IfOk result (λ news. (old new : View) (repos : ℕ) → NewsShown old new repos news) }
+        ensures ends { IfOk result (λ news. is_ended news ≡ false) }
+        ensures verdicts { SameVerdicts self.old self.new }
         ensures takes { (place : ℕ) → OnOk result (TakesCopies repo (message.Grant page place) self.old.held self.new.held) }
         ensures stays { OnOk result (StaysPending (pending_in self.old.phase) (pending_in self.new.phase) self.old.held self.new.held) }
         ensures writes { ClientWrites self.old → ClientWrites self.new }
@@ -211,6 +229,10 @@ impl Client {
     fn take_invalid(&mut self, repo: u8, orefs: &Orefs, place: u64) -> News
         ensures owed { (tries : ℕ) → uncounted tries self.new ≤ uncounted tries self.old }
         ensures shown { (old new : View) (repos : ℕ) → (repo : ℕ) → IsTaken old new repo (message.Invalid orefs.now place) → NewsShown old new repos result }
+        ensures ends { is_ended result ≡ false }
+        ensures verdicts { SameVerdicts self.old self.new }
+        ensures unread { ReadsNone self.new.phase orefs.now }
+        ensures read { IsStaleBy self.old.phase orefs.now place result }
         ensures takes { (repo : ℕ) → TakesCopies repo (message.Invalid orefs.now place) self.old.held self.new.held }
         ensures gives_up { GivesUp repo (message.Invalid orefs.now place) self.old.phase self.new.held.cache.cache }
         ensures stays { StaysPending (pending_in self.old.phase) (pending_in self.new.phase) self.old.held self.new.held }
@@ -246,6 +268,8 @@ impl Client {
     fn take_upgrade(&mut self, opened: &Opened, number: u32) -> News
         ensures owed { (tries : ℕ) → uncounted tries self.new ≤ uncounted tries self.old }
         ensures shown { (old new : View) (repos : ℕ) → (repo place : ℕ) (text : List ℕ) → IsTaken old new repo (message.Upgrade number text place) → NewsShown old new repos result }
+        ensures ends { is_ended result ≡ false }
+        ensures verdicts { SameVerdicts self.old self.new }
         ensures takes { (repo place : ℕ) (text : List ℕ) → TakesCopies repo (message.Upgrade number text place) self.old.held self.new.held }
         ensures stays { StaysPending (pending_in self.old.phase) (pending_in self.new.phase) self.old.held self.new.held }
         ensures writes { ClientWrites self.old → ClientWrites self.new }

@@ -1,7 +1,12 @@
 //! What becomes of items whose verdict is known.
 
+ghost use Rattle.client_items.specs.Meanings.{committed_as};
+ghost use Rattle.client_items.specs.declared.news.News.TheVariants as news;
+ghost use Rattle.client_state.specs.Handing.{MayTell};
 ghost use Rattle.client_state.specs.Learning.{Rises};
 ghost use Rattle.client_state.specs.Moving.{HoldsLess, KeepsTry, MaySettle, SendsNothingIf};
+ghost use Rattle.client_state.specs.Pending.{Pending};
+ghost use Rattle.client_state.specs.Showing.{IsToldBy};
 ghost use Rattle.client_state.specs.declared.held.Held.{Held};
 ghost use Rattle.front_end.specs.Moving.{TakesUnsettled};
 ghost use Rattle.front_end.specs.Showing.{NewsShown, ShownIf};
@@ -22,6 +27,7 @@ impl Client {
     /// The present item has committed: what its try has changed is kept.
     pub fn end_committed(&mut self, opened: &Opened, sent: Sent) -> News
         ensures shown { (old new : View) (repos : ℕ) → IsDecided old new sent.ts true → NewsShown old new repos result }
+        ensures own { result ≡ news.Ended (committed_as sent.ts sent.meaning) }
         ensures rest { self.new ≡ record self.old { held = self.new.held } }
         ensures keeps { KeepsTry self.old.held self.new.held }
         ensures rises { Rises self.old.held self.new.held }
@@ -60,6 +66,8 @@ impl Client {
         ensures tx { IfOk result (λ learnt. IfSome learnt (λ l. l.settled.ts ≡ verdict.tx)) }
         ensures down { IfOk result (λ learnt. IfSome learnt (λ l. IsDownAt repo l.settled.outcome)) }
         ensures settles { OnOk result (MaySettle repo self.old.held self.new.held) }
+        ensures hands { (a : Pending) (old new : View) → IsToldBy old new repo verdict.tx verdict.commit → OnOk result (MayTell old new a self.old.held.links.items self.old.duties.verdicts self.new.duties.verdicts) }
+        ensures helping { self.new.duties.helping ≡ self.old.duties.helping }
         ensures phase { self.new.phase ≡ self.old.phase }
         ensures cache { self.new.held.cache ≡ self.old.held.cache }
         ensures rises { Rises self.old.held self.new.held }
@@ -102,6 +110,8 @@ impl Client {
         ensures tx { IfOk result (λ learnt. IfSome learnt (λ l. l.settled.ts ≡ verdict.tx)) }
         ensures down { IfOk result (λ learnt. IfSome learnt (λ l. IsDownAt repo l.settled.outcome)) }
         ensures settles { (before : Held) → TakesUnsettled repo sent index before self.old.held → OnOk result (MaySettle repo before self.new.held) }
+        ensures hands { (before : Held) → TakesUnsettled repo sent index before self.old.held → (a : Pending) (old new : View) → IsToldBy old new repo verdict.tx verdict.commit → OnOk result (MayTell old new a before.links.items self.old.duties.verdicts self.new.duties.verdicts) }
+        ensures helping { self.new.duties.helping ≡ self.old.duties.helping }
         ensures phase { self.new.phase ≡ self.old.phase }
         ensures cache { self.new.held.cache ≡ self.old.held.cache }
         ensures rises { Rises self.old.held self.new.held }

@@ -1,6 +1,6 @@
 //! Which rule a step follows.
 
-ghost use Rattle.client_state.specs.Pending.{MovesSoIf, pending_in};
+ghost use Rattle.front_end.specs.Stepping.{ClientSteps, HelpsBy, RuleHelpsBy};
 ghost use Rattle.front_end.specs.Writing.{ClientWrites};
 ghost use Rattle.client_state.specs.Learning.{Rises};
 ghost use Rattle.client_state.specs.Links.{NoneAwaits};
@@ -8,7 +8,7 @@ ghost use Rattle.front_end.specs.Showing.{ShownIf};
 ghost use Rattle.client_port.specs.Acting.{ActsIf};
 ghost use Rattle.client_state.specs.Owing.{asking_in};
 ghost use Rattle.front_end.specs.Rules.{Follows, MayFollow, NothingHoldsBack, asks, goes_on, hands_on};
-ghost use Rattle.std.specs.Prelude.{IsSome, OnOk, length, max, true, ◌<◌, ◌≡◌};
+ghost use Rattle.std.specs.Prelude.{IfOk, IsSome, length, max, true, ◌<◌, ◌≡◌};
 
 use crate::client::Client;
 use client_items::{News, Opened, Task};
@@ -49,6 +49,7 @@ impl Client {
         ensures hands_on { hands_on result ≡ true → 0 < length self.now.duties.verdicts }
         ensures goes_on { goes_on result ≡ true → NothingHoldsBack (max opened.now.epoch self.now.held.learnt) self.now }
         ensures follows { Follows result self.now.held }
+        ensures helps { RuleHelpsBy result self.now.duties.helping }
     {
         if let Some(at) = self.held.awaited() {
             let rule = Counted::Await { at };
@@ -70,6 +71,7 @@ impl Client {
         ensures asks { asks result ≡ true → IsSome (asking_in self.now.phase) }
         ensures hands_on { hands_on result ≡ true → 0 < length self.now.duties.verdicts }
         ensures follows { NoneAwaits 8 self.now.held.links.items → Follows result self.now.held }
+        ensures helps { RuleHelpsBy result self.now.duties.helping }
     {
         if let Phase::Asking { .. } = &self.phase {
             return Rule::Ask;
@@ -91,7 +93,7 @@ impl Client {
     ) -> Result<News, NoMemory>
         ensures acts { ActsIf Q.shows (Q.view port.old) (Q.view port.new) }
         ensures shown { ShownIf Q.shows (Q.view port.old) (Q.view port.new) opened.now.repos result }
-        ensures moves { ClientWrites self.old → MayFollow rule self.old.held → OnOk result (MovesSoIf Q.shows (Q.view port.old) (Q.view port.new) self.old.held self.new.held (pending_in self.old.phase) (pending_in self.new.phase)) }
+        ensures moves { ClientWrites self.old → MayFollow rule self.old.held → HelpsBy rule self.old.duties.helping → IfOk result (ClientSteps Q.shows (record { who = task.entry.who; tries = task.entry.tries }) (Q.view port.old) (Q.view port.new) self.old self.new) }
         ensures writes { ClientWrites self.old → ClientWrites self.new }
         ensures rises { Rises self.old.held self.new.held }
     {

@@ -2,7 +2,11 @@
 //!
 //! Lazy transforms are those of Boyapati and others (OOPSLA 2003).
 
-ghost use Rattle.client_state.specs.Pending.{MovesSoIf, NonePending, pending_in};
+ghost use Rattle.client_items.specs.Meanings.{is_ended};
+ghost use Rattle.client_state.specs.Handing.{KeepsDuties};
+ghost use Rattle.client_state.specs.Pending.{NonePending, pending_in};
+ghost use Rattle.client_state.specs.Stepping.{Present, SendsTransform};
+ghost use Rattle.front_end.specs.Stepping.{ClientHands, SameVerdicts, StepsFrom};
 ghost use Rattle.client_state.specs.Writing.{HoldsWritten, unsent};
 ghost use Rattle.front_end.specs.Writing.{ClientWrites};
 ghost use Rattle.client_state.specs.Learning.{Rises};
@@ -12,7 +16,7 @@ ghost use Rattle.client_state.specs.Sending.{IsOfSession};
 ghost use Rattle.front_end.specs.Showing.{NewsShown, ShownIf};
 ghost use Rattle.client_port.specs.Acting.{ActsIf, Refuses};
 ghost use Rattle.client_port.specs.Views.{View};
-ghost use Rattle.std.specs.Prelude.{IfOk, OnOk, Some, [], slice_get, ℕ, ◌∷◌, ◌≡◌, None};
+ghost use Rattle.std.specs.Prelude.{IfOk, OnOk, Some, [], false, slice_get, ℕ, ◌∷◌, ◌≡◌, None};
 
 use crate::client::Client;
 use client_items::{News, Opened};
@@ -39,6 +43,8 @@ impl Client {
         ensures shown { ShownIf Q.shows (Q.view port.old) (Q.view port.new) opened.now.repos result }
         ensures moves { NoneAwaits 8 self.old.held.links.items → OnOk result (SendsNothingIf Q.shows (Q.view port.old) (Q.view port.new) self.old.held self.new.held) }
         ensures free { pending_in self.old.phase ≡ NonePending → pending_in self.new.phase ≡ NonePending }
+        ensures ends { IfOk result (λ news. is_ended news ≡ false) }
+        ensures hands { OnOk result (ClientHands Q.shows (Q.view port.old) (Q.view port.new) self.old self.new) }
         ensures writes { unsent self.old.phase ≡ None → ClientWrites self.new }
         ensures rises { Rises self.old.held self.new.held }
     {
@@ -59,7 +65,7 @@ impl Client {
     ) -> Result<News, NoMemory>
         ensures acts { ActsIf Q.shows (Q.view port.old) (Q.view port.new) }
         ensures shown { ShownIf Q.shows (Q.view port.old) (Q.view port.new) opened.now.repos result }
-        ensures moves { NoneAwaits 8 self.old.held.links.items → OnOk result (MovesSoIf Q.shows (Q.view port.old) (Q.view port.new) self.old.held self.new.held NonePending (pending_in self.new.phase)) }
+        ensures moves { (item : Present) → NoneAwaits 8 self.old.held.links.items → IfOk result (StepsFrom Q.shows item (Q.view port.old) (Q.view port.new) NonePending self.old self.new) }
         ensures writes { ClientWrites self.new }
         ensures rises { Rises self.old.held self.new.held }
     {
@@ -83,6 +89,8 @@ impl Client {
         ensures shown { ShownIf Q.shows (Q.view port.old) (Q.view port.new) opened.now.repos result }
         ensures moves { NoneAwaits 8 self.old.held.links.items → OnOk result (SendsNothingIf Q.shows (Q.view port.old) (Q.view port.new) self.old.held self.new.held) }
         ensures free { pending_in self.old.phase ≡ NonePending → pending_in self.new.phase ≡ NonePending }
+        ensures ends { IfOk result (λ news. is_ended news ≡ false) }
+        ensures hands { OnOk result (ClientHands Q.shows (Q.view port.old) (Q.view port.new) self.old self.new) }
         ensures writes { unsent self.old.phase ≡ None → ClientWrites self.new }
         ensures rises { Rises self.old.held self.new.held }
     {
@@ -98,6 +106,7 @@ impl Client {
     /// The try goes on with this transform.
     fn go_on_with(&mut self, transform: Transform)
         ensures held { self.new.held ≡ self.old.held }
+        ensures duties { self.new.duties ≡ self.old.duties }
         ensures phase { unsent self.new.phase ≡ unsent self.old.phase }
         ensures pending { pending_in self.new.phase ≡ pending_in self.old.phase }
         ensures rises { Rises self.old.held self.new.held }
@@ -118,6 +127,8 @@ impl Client {
         ensures shown { ShownIf Q.shows (Q.view port.old) (Q.view port.new) opened.now.repos result }
         ensures moves { NoneAwaits 8 self.old.held.links.items → OnOk result (SendsNothingIf Q.shows (Q.view port.old) (Q.view port.new) self.old.held self.new.held) }
         ensures free { pending_in self.old.phase ≡ NonePending → pending_in self.new.phase ≡ NonePending }
+        ensures ends { IfOk result (λ news. is_ended news ≡ false) }
+        ensures hands { OnOk result (ClientHands Q.shows (Q.view port.old) (Q.view port.new) self.old self.new) }
         ensures writes { unsent self.old.phase ≡ None → ClientWrites self.new }
         ensures rises { Rises self.old.held self.new.held }
     {
@@ -146,6 +157,8 @@ impl Client {
         ensures shown { (repos : ℕ) → ShownIf Q.shows (Q.view port.old) (Q.view port.new) repos result }
         ensures moves { session_in at.repo (slice_get self.old.held.links.items at.repo) ≡ Some at → SendsNothingIf Q.shows (Q.view port.old) (Q.view port.new) self.old.held self.new.held }
         ensures free { pending_in self.old.phase ≡ NonePending → pending_in self.new.phase ≡ NonePending }
+        ensures ends { IfOk result (λ news. is_ended news ≡ false) }
+        ensures verdicts { SameVerdicts self.old self.new }
         ensures writes { unsent self.old.phase ≡ None → ClientWrites self.new }
         ensures rises { Rises self.old.held self.new.held }
     {
@@ -166,7 +179,7 @@ impl Client {
     ) -> Result<News, NoMemory>
         ensures acts { ActsIf Q.shows (Q.view port.old) (Q.view port.new) }
         ensures shown { (repos : ℕ) → ShownIf Q.shows (Q.view port.old) (Q.view port.new) repos result }
-        ensures moves { pending_in self.old.phase ≡ NonePending → NoneAwaits 8 self.old.held.links.items → OnOk result (MovesSoIf Q.shows (Q.view port.old) (Q.view port.new) self.old.held self.new.held NonePending (pending_in self.new.phase)) }
+        ensures moves { (item : Present) → pending_in self.old.phase ≡ NonePending → NoneAwaits 8 self.old.held.links.items → IfOk result (StepsFrom Q.shows item (Q.view port.old) (Q.view port.new) NonePending self.old self.new) }
         ensures writes { unsent self.old.phase ≡ None → ClientWrites self.new }
         ensures rises { Rises self.old.held self.new.held }
     {
@@ -195,7 +208,7 @@ impl Client {
     ) -> Result<News, NoMemory>
         ensures acts { ActsIf Q.shows (Q.view port.old) (Q.view port.new) }
         ensures shown { (repos : ℕ) → ShownIf Q.shows (Q.view port.old) (Q.view port.new) repos result }
-        ensures moves { pending_in self.old.phase ≡ NonePending → InSession at self.old.held → IsOfSession self.old.held.links.items (record { at = at; request = request }) → request.writes ≡ (oref, made) ∷ [] → oref.repo ≡ at.repo → NoneAwaits 8 self.old.held.links.items → OnOk result (MovesSoIf Q.shows (Q.view port.old) (Q.view port.new) self.old.held self.new.held NonePending (pending_in self.new.phase)) }
+        ensures moves { (item : Present) → pending_in self.old.phase ≡ NonePending → InSession at self.old.held → SendsTransform self.old.held.client self.old.held.links.items (record { at = at; request = request }) → IsOfSession self.old.held.links.items (record { at = at; request = request }) → request.writes ≡ (oref, made) ∷ [] → oref.repo ≡ at.repo → NoneAwaits 8 self.old.held.links.items → IfOk result (StepsFrom Q.shows item (Q.view port.old) (Q.view port.new) NonePending self.old self.new) }
         ensures writes { unsent self.old.phase ≡ None → ClientWrites self.new }
         ensures rises { Rises self.old.held self.new.held }
     {
@@ -217,7 +230,7 @@ impl Client {
     ) -> Result<News, NoMemory>
         ensures acts { ActsIf Q.shows (Q.view port.old) (Q.view port.new) }
         ensures shown { (repos : ℕ) → ShownIf Q.shows (Q.view port.old) (Q.view port.new) repos result }
-        ensures moves { pending_in self.old.phase ≡ NonePending → InSession at self.old.held → IsOfSession self.old.held.links.items (record { at = at; request = request }) → request.writes ≡ (oref, made) ∷ [] → oref.repo ≡ at.repo → HoldsWritten request self.old.held.cache.cache → NoneAwaits 8 self.old.held.links.items → OnOk result (MovesSoIf Q.shows (Q.view port.old) (Q.view port.new) self.old.held self.new.held NonePending (pending_in self.new.phase)) }
+        ensures moves { (item : Present) → pending_in self.old.phase ≡ NonePending → InSession at self.old.held → SendsTransform self.old.held.client self.old.held.links.items (record { at = at; request = request }) → IsOfSession self.old.held.links.items (record { at = at; request = request }) → request.writes ≡ (oref, made) ∷ [] → oref.repo ≡ at.repo → HoldsWritten request self.old.held.cache.cache → NoneAwaits 8 self.old.held.links.items → IfOk result (StepsFrom Q.shows item (Q.view port.old) (Q.view port.new) NonePending self.old self.new) }
         ensures writes { unsent self.old.phase ≡ None → ClientWrites self.new }
         ensures rises { Rises self.old.held self.new.held }
     {
@@ -231,6 +244,8 @@ impl Client {
     fn end_transform(&mut self, ts: Ts, oref: Oref, made: Obj) -> Result<News, NoMemory>
         ensures shown { IfOk result (λ news. (old new : View) (repos : ℕ) → NewsShown old new repos news) }
         ensures keeps { OnOk result (KeepsMade oref made self.old.held self.new.held) }
+        ensures ends { IfOk result (λ news. is_ended news ≡ false) }
+        ensures duties { self.new.duties ≡ self.old.duties }
         ensures free { pending_in self.old.phase ≡ NonePending → pending_in self.new.phase ≡ NonePending }
         ensures writes { unsent self.old.phase ≡ None → ClientWrites self.new }
         ensures rises { Rises self.old.held self.new.held }
@@ -246,6 +261,8 @@ impl Client {
     fn refuse_transform(&mut self, at: At, ts: Ts, refusal: Refusal) -> Result<News, NoMemory>
         ensures shown { IfOk result (λ news. (old new : View) (repos : ℕ) → Refuses old new at.repo refusal → NewsShown old new repos news) }
         ensures learns { Learns refusal at.repo self.old.held self.new.held }
+        ensures ends { IfOk result (λ news. is_ended news ≡ false) }
+        ensures duties { OnOk result (KeepsDuties self.old.duties self.new.duties) }
         ensures client { self.new.held.client ≡ self.old.held.client }
         ensures free { pending_in self.old.phase ≡ NonePending → pending_in self.new.phase ≡ NonePending }
         ensures writes { unsent self.old.phase ≡ None → ClientWrites self.new }
@@ -258,6 +275,7 @@ impl Client {
     /// The timestamp of a call that stopped is counted.
     fn count_if_stopped(&mut self, ts: Ts, refusal: Refusal)
         ensures phase { self.new.phase ≡ self.old.phase }
+        ensures duties { self.new.duties ≡ self.old.duties }
         ensures rest { self.new.held ≡ record self.old.held { floor = self.new.held.floor } }
         ensures rises { Rises self.old.held self.new.held }
     {

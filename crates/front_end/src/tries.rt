@@ -1,6 +1,9 @@
 //! How a try goes on behind a call, begins anew, and ends.
 
-ghost use Rattle.client_state.specs.Pending.{NonePending, StaysPending, pending_in};
+ghost use Rattle.client_items.specs.Meanings.{is_ended};
+ghost use Rattle.client_state.specs.Handing.{KeepsDuties, helps_by};
+ghost use Rattle.client_state.specs.Pending.{NonePending, StaysPending, abort_in, pending_in};
+ghost use Rattle.front_end.specs.Stepping.{SameVerdicts};
 ghost use Rattle.client_state.specs.Writing.{CameStays, PhaseWrites};
 ghost use Rattle.client_cache.specs.Copies.{Contents, changed};
 ghost use Rattle.front_end.specs.Writing.{ClientWrites};
@@ -13,7 +16,7 @@ ghost use Rattle.front_end.specs.Showing.{NewsShown};
 ghost use Rattle.client_items.specs.declared.news.News.TheVariants as news;
 ghost use Rattle.client_port.specs.Acting.{Refuses};
 ghost use Rattle.client_port.specs.Views.{View};
-ghost use Rattle.std.specs.Prelude.{IfOk, None, OnOk, ℕ, ◌≡◌, ◌≤◌};
+ghost use Rattle.std.specs.Prelude.{IfOk, IsSome, None, OnOk, false, ℕ, ◌≡◌, ◌≤◌, ◌⊎◌};
 ghost use Rattle.thor_value.specs.declared.names.Oref.{Oref};
 
 use crate::client::Client;
@@ -26,7 +29,9 @@ use std::mem;
 use thor_value::NoMemory;
 
 /// The transaction that stood against a request and is to be asked about, if there is one.
-fn helping_behind(refusal: Refusal, refuser: u8) -> Option<Helping> {
+fn helping_behind(refusal: Refusal, refuser: u8) -> Option<Helping>
+    ensures { helps_by result ≡ None }
+{
     match refusal {
         Refusal::Reason(Reason::Earlier { tx, .. } | Reason::Blocked { tx }) => {
             Some(Helping::Ask { ts: tx, refuser })
@@ -56,6 +61,8 @@ impl Client {
         ensures shown { (old new : View) (repos : ℕ) → CameShown old new came → NewsShown old new repos result }
         ensures less { HoldsLess self.old.held self.new.held }
         ensures free { pending_in self.old.phase ≡ NonePending → pending_in self.new.phase ≡ NonePending }
+        ensures ends { is_ended result ≡ false }
+        ensures verdicts { SameVerdicts self.old self.new }
         ensures writes { (before : Contents) → CameStays came before self.old.held.cache.cache → PhaseWrites self.old.phase before → ClientWrites self.new }
         ensures rises { Rises self.old.held self.new.held }
     {
@@ -76,6 +83,8 @@ impl Client {
         ensures shown { (old new : View) (repos : ℕ) → IsLearnt old new learnt.settled → NewsShown old new repos result }
         ensures less { HoldsLess self.old.held self.new.held }
         ensures free { pending_in self.old.phase ≡ NonePending → pending_in self.new.phase ≡ NonePending }
+        ensures ends { is_ended result ≡ false }
+        ensures duties { self.new.duties ≡ self.old.duties }
         ensures writes { ClientWrites self.old → ClientWrites self.new }
         ensures rises { Rises self.old.held self.new.held }
     {
@@ -108,6 +117,8 @@ impl Client {
         ensures writes { ClientWrites self.new }
         ensures bounds { KeepsBounds self.old.held self.new.held }
         ensures phase { self.new.phase ≡ phase.Between }
+        ensures verdicts { SameVerdicts self.old self.new }
+        ensures abort { IsSome (abort_in self.old.phase) → self.new.duties.abort ≡ abort_in self.old.phase }
         ensures left { (tries : ℕ) → uncounted tries self.new ≤ uncounted tries self.old }
     {
         self.end_phase();
@@ -119,6 +130,8 @@ impl Client {
     fn end_phase(&mut self)
         ensures held { self.new.held ≡ self.old.held }
         ensures phase { self.new.phase ≡ phase.Between }
+        ensures verdicts { SameVerdicts self.old self.new }
+        ensures abort { IsSome (abort_in self.old.phase) → self.new.duties.abort ≡ abort_in self.old.phase }
         ensures left { (tries : ℕ) → uncounted tries self.new ≤ uncounted tries self.old }
     {
         match self.take_phase().into_abort() {
@@ -130,6 +143,8 @@ impl Client {
     /// A request was refused: the client learns from it, and the try ends.
     pub fn end_refused(&mut self, repo: u8, refusal: Refusal) -> Result<News, NoMemory>
         ensures phase { OnOk result (self.new.phase ≡ phase.Between) }
+        ensures ends { IfOk result (λ news. is_ended news ≡ false) }
+        ensures duties { OnOk result (KeepsDuties self.old.duties self.new.duties) }
         ensures shown { IfOk result (λ news. (old new : View) (repos : ℕ) → Refuses old new repo refusal → NewsShown old new repos news) }
         ensures links { OnOk result (self.new.held.links.items ≡ links_learnt refusal repo self.old.held.links.items) }
         ensures floor { OnOk result (self.new.held.floor ≡ floor_learnt refusal self.old.held.floor) }
@@ -141,10 +156,18 @@ impl Client {
     {
         let cause = cause_of(refusal, repo)?;
         self.held.learn(repo, refusal);
-        if let Some(helping) = helping_behind(refusal, repo) {
-            self.duties.helping = Some(helping);
-        }
+        self.note_helping(helping_behind(refusal, repo));
         Ok(self.end_try(cause))
+    }
+
+    /// Another's transaction is to be helped on before the next try, where there is one.
+    fn note_helping(&mut self, helping: Option<Helping>)
+        ensures rest { self.new ≡ record self.old { duties = record self.old.duties { helping = self.new.duties.helping } } }
+        ensures helping { (self.new.duties.helping ≡ self.old.duties.helping) ⊎ (self.new.duties.helping ≡ helping) }
+    {
+        if helping.is_some() {
+            self.duties.helping = helping;
+        }
     }
 
     /// What holds a next try back is given up, since none is left. The reply that is outstanding at a repository isn't waited for
@@ -153,6 +176,7 @@ impl Client {
         ensures stops { StopsWaiting repo self.old.held self.new.held }
         ensures held { self.new.held ≡ record self.old.held { links = self.new.held.links } }
         ensures phase { self.new.phase ≡ self.old.phase }
+        ensures duties { KeepsDuties self.old.duties self.new.duties }
         ensures uncounted { (tries : ℕ) → uncounted tries self.new ≡ uncounted tries self.old }
         ensures writes { ClientWrites self.old → ClientWrites self.new }
         ensures rises { Rises self.old.held self.new.held }

@@ -9,12 +9,13 @@ use Rattle.law_cache_coherence.specs.Steps.{AllSeenRight, LinksFit}
 use Rattle.law_cache_coherence.specs.Verdicts.{OutcomesTold}
 use Rattle.client_state.specs.Links.{session_in}
 use Rattle.client_state.specs.Moving.{Aborted, Asked, AskedInVain, AskedOwn, CommitRefused, Committed, Connected, Decided, DecideRefused, Drawn, Fetched, Finished, Forgot, Granted, InSession, Moves, PrepareRefused, Prepared, ReceiveRefused, ReceiveStopped, Received, ReceivedNone, Rested, SendsNothing, Settled, Transformed, Unsent}
-use Rattle.client_state.specs.Pending.{AsksBehind, HasStopped, IsAsking, IsPreparing, IsWrittenIn, NonePending, Pending, PendsSo, RefusesToDecide, SendsPending, StaysPending}
+use Rattle.client_state.specs.Pending.{AsksBehind, HasStopped, IsAsking, IsAskingFor, IsPreparing, IsWrittenIn, NonePending, Pending, PendsSo, RefusesToDecide, SendsPending, StaysAsked, StaysPending}
 use Rattle.client_state.specs.declared.held.Held.{Held}
 use Rattle.client_state.specs.declared.link.Link.TheVariants as links
 use Rattle.client_state.specs.declared.link.Link.{Link}
 use Rattle.client_state.specs.declared.requests.Sending.{Sending}
 use Rattle.log_entries.specs.declared.request.Request.{Request}
+use Rattle.law_client_steps.proofs.Pended.{asked_stops, none_prepares, stops_asked}
 use Rattle.law_client_steps.specs.Acting.{acts_of}
 use Rattle.law_client_steps.specs.Owed.{ClientFits}
 use Rattle.law_client_steps.specs.Undecided.{HasEndedIn, HasStoppedIn, StopsAlone}
@@ -164,15 +165,17 @@ module _ (old new : View) (before after : Held) (same : new.opened ≡ old.opene
       where
         by : (q : Pending) → StopsAlone q old before → StopsAlone q new after
         by NonePending k = tt
-        by (IsPreparing at t) k = absurd k
-        by (IsAsking at t) k = stopped_on at f.1 k
+        by (IsPreparing at t rs transaction) k = absurd k
+        by (IsAsking sent n) k = stopped_on sent.at f.1 k
 
-  none_prepares : (at : At) (t : Ts) (p : Pending) → p ≡ IsPreparing at t → StopsAlone p old before → ⊥
-  none_prepares at t p e h = subst (λ (q : Pending). StopsAlone q old before) e h
+    -- an answer had no verdict
+    stays_asked : (t : Ts) (p z : Pending) → IsAskingFor t p → StaysAsked p z before after → StopsAlone p old before → StopsAlone z new after
+    stays_asked t p z asking (inl e) h = free z e
+    stays_asked t p z asking (inr f) h = stops_asked new after asking.0 t z (f.0 ∙ asking.1) (stopped_on asking.0 f.1 (asked_stops old before asking.0 t p asking.1 h))
 
   asks_behind : (s : Sending) (k : Refusal) (z : Pending) → Does {X = ℕ} old new s.at.repo (Err k) (CommitWork s.at.session s.request (Err k)) → AsksBehind s k z after → StopsAlone z new after
   asks_behind s k z d (inl e) = subst (λ (q : Pending). StopsAlone q new after) (sym e) tt
-  asks_behind s k z d (inr f) = subst (λ (q : Pending). StopsAlone q new after) (sym f.0) (held_on s.at new after f.2 (λ within calm live. not_calm old new s.at.repo s.at.session s.request k f.1 d calm))
+  asks_behind s k z d (inr f) = stops_asked new after s.at s.request.tx z f.0 (held_on s.at new after f.2 (λ within calm live. not_calm old new s.at.repo s.at.session s.request k f.1 d calm))
 
   sends_alone : (a : SendsNothing old new before after) (p z : Pending) → SendsPending old new before after a p z → StopsAlone p old before → StopsAlone z new after
   sends_alone (Rested still less) p z h k = stays (Unsent (Rested still less)) p z h k
@@ -184,7 +187,7 @@ module _ (old new : View) (before after : Held) (same : new.opened ≡ old.opene
   sends_alone (Settled r t v sent index d there links' client fewer) p z h k = stays (Unsent (Settled r t v sent index d there links' client fewer)) p z h k
 
   refuses : (moves : Moves old new before after) (commit : Bool) (at : At) (t : Ts) (p z : Pending) → RefusesToDecide commit at t p z before after → StopsAlone p old before → StopsAlone z new after
-  refuses moves true at t p z h k = absurd (none_prepares at t p h.0 k)
+  refuses moves true at t p z h k = absurd (none_prepares old before at t p h.0 k)
   refuses moves false at t p z h k = stays moves p z h k
 
   -- where nothing is prepared by it
@@ -199,13 +202,13 @@ module _ (old new : View) (before after : Held) (same : new.opened ≡ old.opene
   step_stops (Committed s place d of in_it wrote held idle keeps) un p z h k = free (Committed s place d of in_it wrote held idle keeps) z h
   step_stops (Transformed s place oref made d of in_it writes here held idle keeps) un p z h k = free (Transformed s place oref made d of in_it writes here held idle keeps) z h
   step_stops (CommitRefused s e d of idle learns client) un p z h k = asks_behind s e z d h
-  step_stops (Decided at t v d idle ends) un p z h k = absurd (none_prepares at t p h.0 k)
+  step_stops (Decided at t v d idle ends) un p z h k = absurd (none_prepares old before at t p h.0 k)
   step_stops (Aborted at t v d less) un p z h k = stays (Aborted at t v d less) p z h k
   step_stops (DecideRefused at t commit e d loses client) un p z h k = refuses (DecideRefused at t commit e d loses client) commit at t p z h k
   step_stops (Finished r t commit result d less) un p z h k = stays (Finished r t commit result d less) p z h k
   step_stops (Forgot r t result d less) un p z h k = stays (Forgot r t result d less) p z h k
   step_stops (AskedOwn r t v d ends) un p z h k = free (AskedOwn r t v d ends) z h.1
-  step_stops (AskedInVain r t result d leave client fewer) un p z h k = stays (AskedInVain r t result d leave client fewer) p z h.1 k
+  step_stops (AskedInVain r t result d leave client fewer) un p z h k = stays_asked (AskedInVain r t result d leave client fewer) t p z h.0 h.1 k
 
 -- what others do keeps it
 module _ (old new : View) (held : Held) (same : new.opened ≡ old.opened) (grew : (r : ℕ) → r < old.opened.repos → Grew (old.opened.base r) old.opened.client (old.unsettled r) (old.seen r) (new.unsettled r) (new.seen r))
@@ -221,8 +224,8 @@ module _ (old new : View) (held : Held) (same : new.opened ≡ old.opened) (grew
 
   pub waits_stops : (p : Pending) → StopsAlone p old held → StopsAlone p new held
   waits_stops NonePending k = tt
-  waits_stops (IsPreparing at t) k = absurd k
-  waits_stops (IsAsking at t) k = waits_in at k
+  waits_stops (IsPreparing at t rs transaction) k = absurd k
+  waits_stops (IsAsking sent n) k = waits_in sent.at k
 
 -- ---- what the client learns of what it asks
 

@@ -10,6 +10,7 @@ pub mod OnePage
 pub mod OneRun
 pub mod OneStep
 pub mod Paging
+pub mod Pended
 pub mod PartStep
 pub mod Quieting
 pub mod Rising

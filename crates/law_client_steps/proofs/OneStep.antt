@@ -24,6 +24,7 @@ use Rattle.law_client_steps.proofs.Losing.{seen_grows}
 use Rattle.law_client_steps.proofs.Running.{new_client}
 use Rattle.law_client_steps.specs.Acting.{acts_of}
 use Rattle.law_client_steps.specs.OneRepository.{BringsWhatStood, FitsOne, HasOneRepository, Leads, StepOwed, committed_there}
+use Rattle.law_client_steps.proofs.Pended.{asked_stops, none_prepares}
 use Rattle.law_client_steps.specs.Owed.{ClientFits, MessageOwed, Owed, SendsOwed, SettledOwed, verdict_of}
 use Rattle.law_client_steps.specs.Positions.{Position, Stepped, TurnBy, Waited}
 use Rattle.law_client_steps.specs.Undecided.{HasStoppedIn, StopsAlone}
@@ -182,7 +183,7 @@ module _ (old new : View) (same : new.opened ≡ old.opened) (one : HasOneReposi
       asked : (r : ℕ) (t : Ts) (v : Verdict) → Does {X = answer.Asked} old new r (Ok (answers.Settled v)) (AskWork t (Ok (answers.Settled v))) → (x : Bool) → v.commit ≡ x → EndsSo x before after → (p : Pending) → IsAskingFor t p → Stops p → ClientFits new later after
       asked r t v d true is ends p asking stops =
           then_client old new before after committed later right fits ends.0 d.called.same (then_less old new before after committed later right fits (seen before.cache.cache) ends.1 ends.2
-          (ask_all old new r before.links.items (seen before.cache.cache) later right (stopped asking.0 (subst Stops asking.1 stops)) t (Ok (answers.Settled v)) d))
+          (ask_all old new r before.links.items (seen before.cache.cache) later right (stopped asking.0 (asked_stops old before asking.0 t p asking.1 stops)) t (Ok (answers.Settled v)) d))
       asked r t v d false is ends p asking stops = asks old new before after committed later right fits r t v d false is ends tt (outcomes before.links.items None)
 
       by_owed : (moves : Moves old new before after) → Owed old new before after committed later moves → ClientFits new later after
@@ -199,7 +200,7 @@ module _ (old new : View) (same : new.opened ≡ old.opened) (one : HasOneReposi
       step (Committed s place d of in_it wrote held idle keeps) p z h k o = by_owed (Committed s place d of in_it wrote held idle keeps) (settled_at s.at.repo s.at.session d.at (commit_front old new s.at.repo s.at.session s.request place d))
       step (Transformed s place oref made d of session writes here held idle keeps) p z h k o = by_owed (Transformed s place oref made d of session writes here held idle keeps) (settled_at s.at.repo s.at.session d.at (commit_front old new s.at.repo s.at.session s.request place d))
       step (CommitRefused s e d of idle learns stays) p z h k o = by_owed (CommitRefused s e d of idle learns stays) tt
-      step (Decided at t v d idle ends) p z h k o = absurd (subst Stops h.0 k)
+      step (Decided at t v d idle ends) p z h k o = absurd (none_prepares old before at t p h.0 k)
       step (Aborted at t v d less) p z h k o = by_owed (Aborted at t v d less) tt
       step (DecideRefused at t commit e d loses stays) p z h k o = by_owed (DecideRefused at t commit e d loses stays) tt
       step (Finished r t commit result d less) p z h k o = by_owed (Finished r t commit result d less) tt

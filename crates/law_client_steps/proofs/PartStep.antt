@@ -33,6 +33,7 @@ use Rattle.law_client_steps.proofs.OneStep.{commit_front}
 use Rattle.law_client_steps.proofs.Paging.{accepted_lives}
 use Rattle.law_client_steps.proofs.Quieting.{from_quiet, settles, stay_quiet, waits_quiet}
 use Rattle.law_client_steps.proofs.Running.{new_client}
+use Rattle.law_client_steps.proofs.Pended.{asked_stops, none_prepares}
 use Rattle.law_client_steps.specs.Acting.{acts_of}
 use Rattle.law_client_steps.specs.OneRepository.{BringsWhatStood}
 use Rattle.law_client_steps.specs.Owed.{ClientFits, MessageOwed, Owed, SendsOwed, SettledOwed, verdict_of}
@@ -168,7 +169,7 @@ PartMay old new before after (AskedInVain r t result does leaves same fewer) = U
 
 module _ (old new : View) (before after : Held) where
   decides_so : (commit : Bool) (at : At) (t : Ts) (p z : Pending) → RefusesToDecide commit at t p z before after → StopsAlone p old before → commit ≡ false
-  decides_so true at t p z h k = absurd (subst (λ (q : Pending). StopsAlone q old before) h.0 k)
+  decides_so true at t p z h k = absurd (none_prepares old before at t p h.0 k)
   decides_so false at t p z h k = refl
 
   may : (moves : Moves old new before after) (p z : Pending) → PendsSo old new before after moves p z → StopsAlone p old before → PartOwed old new before after moves → PartMay old new before after moves
@@ -182,12 +183,12 @@ module _ (old new : View) (before after : Held) where
   may (Committed s place does of session wrote held idle keeps) p z h k o = tt
   may (Transformed s place oref made does of session writes here held idle keeps) p z h k o = tt
   may (CommitRefused s e does of idle learns same) p z h k o = tt
-  may (Decided at t v does idle ends) p z h k o = subst (λ (q : Pending). StopsAlone q old before) h.0 k
+  may (Decided at t v does idle ends) p z h k o = none_prepares old before at t p h.0 k
   may (Aborted at t v does less) p z h k o = tt
   may (DecideRefused at t commit e does loses same) p z h k o = decides_so commit at t p z h k
   may (Finished r t commit result does less) p z h k o = tt
   may (Forgot r t result does less) p z h k o = tt
-  may (AskedOwn r t v does ends) p z h k o = (h.0.0, subst (λ (q : Pending). StopsAlone q old before) h.0.1 k)
+  may (AskedOwn r t v does ends) p z h k o = (h.0.0, asked_stops old before h.0.0 t p h.0.1 k)
   may (AskedInVain r t result does leaves same fewer) p z h k o = tt
 
   -- no step prepares anything

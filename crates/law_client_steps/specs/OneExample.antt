@@ -1,6 +1,7 @@
 -- A small run over a store's only repository: client 1 connects, draws a timestamp, is granted a page of names and takes it, and
 -- commits an object that it creates there. Then another client connects.
 use Rattle.client_cache.specs.Copies.{kept}
+use Rattle.client_items.specs.declared.meaning.Meaning.TheVariants.{Ran}
 use Rattle.law_cache_coherence.specs.Examples.{no_copy}
 use Rattle.law_cache_coherence.specs.Fitting.{Copies, with_writes}
 use Rattle.client_state.specs.Pending.{IsAsking, NonePending, Pending}
@@ -80,7 +81,7 @@ stopping = record {
 
 -- what is undecided then: the verdict on the request is asked for
 abbrev pub asking : Pending
-asking = IsAsking (record { repo = 0; session = 1 }) made.tx
+asking = IsAsking (record { ts = made.tx; at = record { repo = 0; session = 1 }; meaning = Ran made.answer; participants = 0 ∷ [] }) 0
 
 -- the position as the call has stopped, and one behind the restart
 abbrev pub stopped : Held → Position

@@ -24,5 +24,5 @@ HasStoppedIn at port held = ((x : Oref) → changed held.cache.cache x ≡ None)
 -- Nothing is prepared, and the verdict is asked for only of what a call has sent that stopped.
 abbrev pub StopsAlone : Pending → View → Held → Type 0
 StopsAlone NonePending port held = Unit {0}
-StopsAlone (IsPreparing at t) port held = ⊥
-StopsAlone (IsAsking at t) port held = HasStoppedIn at port held
+StopsAlone (IsPreparing at t rs transaction) port held = ⊥
+StopsAlone (IsAsking sent n) port held = HasStoppedIn sent.at port held

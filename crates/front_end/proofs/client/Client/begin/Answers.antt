@@ -1,7 +1,8 @@
 use Rattle.client_state.proofs.Writing.{nothing_unsent}
 use Rattle.front_end.proofs.Calling.{same_sends}
+use Rattle.front_end.proofs.Stepping.{hands_nothing, hands_same}
 use Rattle.front_end.proofs.client.Client.begin.Goals as goal
-use Rattle.std.proofs.Common.{sym, ◌∙◌}
+use Rattle.std.proofs.Common.{refl, sym, ◌∙◌}
 
 pub returns-in_err-run-in-Some-Tx-clause-writes : goal.returns-in_err-run-in-Some-Tx-clause-writes
 returns-in_err-run-in-Some-Tx-clause-writes g c = λ none. nothing_unsent _ _ none
@@ -20,3 +21,9 @@ returns-in-None-clause-writes g c = λ none. nothing_unsent _ _ none
 
 pub returns-in_ok-transaction-in-Some-Upgrade-clause-moves : goal.returns-in_ok-transaction-in-Some-Upgrade-clause-moves
 returns-in_ok-transaction-in-Some-Upgrade-clause-moves g c = λ idle. same_sends _ _ _ c.args.self.now.held c.undo.new.self (c.undo.ensures.less.0, c.undo.ensures.less.1, c.undo.ensures.copies) _ c.join_and_draw.result c.join_and_draw.ensures.moves
+
+pub returns-in_ok-transaction-in-Some-Upgrade-clause-hands : goal.returns-in_ok-transaction-in-Some-Upgrade-clause-hands
+returns-in_ok-transaction-in-Some-Upgrade-clause-hands g c = hands_same _ _ _ c.args.self.now (record c.args.self.now { held = c.undo.new.self }) c.join_and_draw.new.self c.undo.ensures.less.1 refl c.join_and_draw.result c.join_and_draw.ensures.hands
+
+pub returns-in-None-clause-hands : goal.returns-in-None-clause-hands
+returns-in-None-clause-hands g c = hands_nothing _ _ _ c.args.self.now c.args.self.now (refl, refl)

@@ -2,8 +2,9 @@ use Rattle.client_state.proofs.Writing.{nothing_unsent}
 use Rattle.client_state.specs.Moving.{HoldsSame}
 use Rattle.client_state.specs.declared.held.Held.{Held}
 use Rattle.front_end.proofs.Calling.{same_sends_idle}
+use Rattle.front_end.proofs.Stepping.{hands_same}
 use Rattle.front_end.proofs.client.Client.collect.Goals as goal
-use Rattle.std.proofs.Common.{subst, sym, ◌∙◌}
+use Rattle.std.proofs.Common.{ap, refl, subst, sym, ◌∙◌}
 
 pub returns-in-All-clause-moves : goal.returns-in-All-clause-moves
 returns-in-All-clause-moves g c = same_sends_idle _ _ _ c.args.self.now.held c.collect.new.self c.collect.ensures.same _ c.draw_transform.result c.draw_transform.ensures.moves
@@ -19,3 +20,9 @@ returns-in-Part-clause-writes g c = λ none. c.fetch_needed.ensures.writes (c.go
 
 pub returns-in-Part-clause-free : goal.returns-in-Part-clause-free
 returns-in-Part-clause-free g c = λ none. c.fetch_needed.ensures.free (c.go_on_with.ensures.pending ∙ none)
+
+pub returns-in-All-clause-hands : goal.returns-in-All-clause-hands
+returns-in-All-clause-hands g c = hands_same _ _ _ c.args.self.now (record c.args.self.now { held = c.collect.new.self }) c.draw_transform.new.self c.collect.ensures.same.1 refl c.draw_transform.result c.draw_transform.ensures.hands
+
+pub returns-in-Part-clause-hands : goal.returns-in-Part-clause-hands
+returns-in-Part-clause-hands g c = hands_same _ _ _ c.args.self.now c.go_on_with.new.self c.fetch_needed.new.self (ap (λ (h : Held). h.links.items) c.go_on_with.ensures.held ∙ c.collect.ensures.same.1) c.go_on_with.ensures.duties c.fetch_needed.result c.fetch_needed.ensures.hands

@@ -1,12 +1,15 @@
+use Rattle.client_items.specs.Meanings.{is_ended}
 use Rattle.client_state.proofs.Moving.{sends_then_drops}
 use Rattle.client_state.proofs.Writing.{came_itself, nothing_unsent}
 use Rattle.client_state.specs.Moving.{Rested}
 use Rattle.client_state.specs.Pending.{pending_in}
 use Rattle.client_state.specs.Writing.{unsent}
 use Rattle.front_end.proofs.Showing.{try_shown}
+use Rattle.front_end.proofs.Stepping.{hands_nothing, hands_then}
 use Rattle.front_end.proofs.client.Client.fetch_needed.Goals as goal
 use Rattle.front_end.specs.Showing.{ByNoRepository}
-use Rattle.std.proofs.Common.{ap, arith, refl, ◌∙◌, ◌≤◌}
+use Rattle.std.proofs.Common.{ap, arith, refl, ◌∙◌}
+use Rattle.std.specs.Prelude.{◌≤◌}
 
 pub returns-then-oref-opened-clause-shown : goal.returns-then-oref-opened-clause-shown
 returns-then-oref-opened-clause-shown g c = λ s. let far : c.args.opened.now.repos ≤ c.args.oref.repo = omega (arith, c.if-oref-opened.true) in try_shown _ _ _ _ _ c.end_try.ensures.news (ByNoRepository c.args.oref far refl)
@@ -34,3 +37,12 @@ returns-clause-free g c = λ none. c.go_behind.ensures.free (ap pending_in c.fet
 
 pub returns-then-oref-opened-clause-free : goal.returns-then-oref-opened-clause-free
 returns-then-oref-opened-clause-free g c = λ none. ap pending_in c.end_try.ensures.phase
+
+pub returns-then-oref-opened-clause-hands : goal.returns-then-oref-opened-clause-hands
+returns-then-oref-opened-clause-hands g c = hands_nothing _ _ _ c.args.self.now c.end_try.new.self c.end_try.ensures.verdicts
+
+pub returns-then-oref-opened-clause-ends : goal.returns-then-oref-opened-clause-ends
+returns-then-oref-opened-clause-ends g c = ap is_ended c.end_try.ensures.news
+
+pub returns-clause-hands : goal.returns-clause-hands
+returns-clause-hands g c = hands_then _ _ _ c.args.self.now c.fetch.new.self c.go_behind.new.self c.in_ok-came.ensures.hands c.go_behind.ensures.verdicts

@@ -1,6 +1,7 @@
 use Rattle.client_state.proofs.Moving.{sends_then_drops}
 use Rattle.client_state.proofs.Writing.{came_itself}
 use Rattle.client_state.specs.Pending.{pending_in}
+use Rattle.front_end.proofs.Stepping.{hands_then}
 use Rattle.front_end.proofs.Writing.{same_client}
 use Rattle.front_end.proofs.client.Client.join_behind.Goals as goal
 use Rattle.std.proofs.Common.{ap, ◌∙◌}
@@ -22,3 +23,6 @@ returns-in_err-came-clause-free g c = λ none. ap pending_in c.join.ensures.phas
 
 pub returns-clause-free : goal.returns-clause-free
 returns-clause-free g c = λ none. c.go_behind.ensures.free (ap pending_in c.join.ensures.phase ∙ none)
+
+pub returns-clause-hands : goal.returns-clause-hands
+returns-clause-hands g c = hands_then _ _ _ c.args.self.now c.join.new.self c.go_behind.new.self c.in_ok-came.ensures.hands c.go_behind.ensures.verdicts

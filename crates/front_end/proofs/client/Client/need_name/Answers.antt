@@ -1,12 +1,16 @@
+use Rattle.client_items.specs.Meanings.{is_ended}
 use Rattle.client_state.proofs.Moving.{sends_then_drops}
 use Rattle.client_state.proofs.Writing.{came_itself, nothing_unsent}
 use Rattle.client_state.specs.Moving.{Rested}
 use Rattle.client_state.specs.Pending.{pending_in}
 use Rattle.client_state.specs.Writing.{unsent}
 use Rattle.front_end.proofs.Showing.{try_shown}
+use Rattle.front_end.proofs.Stepping.{hands_nothing, hands_then}
 use Rattle.front_end.proofs.client.Client.need_name.Goals as goal
 use Rattle.front_end.specs.Showing.{ByNoRepository}
-use Rattle.std.proofs.Common.{ap, arith, refl, ◌∙◌, ◌≤◌}
+use Rattle.page_format.specs.Pages as page
+use Rattle.std.proofs.Common.{ap, arith, refl, ◌∙◌}
+use Rattle.std.specs.Prelude.{◌≤◌}
 
 pub returns-then-repo-opened-clause-shown : goal.returns-then-repo-opened-clause-shown
 returns-then-repo-opened-clause-shown g c = λ s. let far : c.args.opened.now.repos ≤ c.args.repo = omega (arith, c.if-repo-opened.true) in try_shown _ _ _ _ _ c.end_try.ensures.news (ByNoRepository (record { repo = c.args.repo; page = 0; slot = 0 }) far refl)
@@ -34,3 +38,12 @@ returns-clause-free g c = λ none. c.go_behind.ensures.free (ap pending_in c.ask
 
 pub returns-then-repo-opened-clause-free : goal.returns-then-repo-opened-clause-free
 returns-then-repo-opened-clause-free g c = λ none. ap pending_in c.end_try.ensures.phase
+
+pub returns-then-repo-opened-clause-hands : goal.returns-then-repo-opened-clause-hands
+returns-then-repo-opened-clause-hands g c = hands_nothing _ _ _ c.args.self.now c.end_try.new.self c.end_try.ensures.verdicts
+
+pub returns-then-repo-opened-clause-ends : goal.returns-then-repo-opened-clause-ends
+returns-then-repo-opened-clause-ends g c = ap is_ended c.end_try.ensures.news
+
+pub returns-clause-hands : goal.returns-clause-hands
+returns-clause-hands g c = hands_then _ _ _ c.args.self.now c.ask_for_names.new.self c.go_behind.new.self c.in_ok-came.ensures.hands c.go_behind.ensures.verdicts

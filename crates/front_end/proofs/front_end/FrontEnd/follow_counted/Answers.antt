@@ -1,10 +1,13 @@
+use Rattle.client_items.proofs.Falling.{then_never_rises}
 use Rattle.client_state.specs.Learning.{Rises}
 use Rattle.client_state.specs.declared.held.Held.{Held}
-use Rattle.front_end.proofs.Calling.{moves_from, moves_same}
 use Rattle.front_end.proofs.Showing.{shown_counted, shown_used}
+use Rattle.front_end.proofs.Stepping.{takes_counted}
 use Rattle.front_end.proofs.front_end.FrontEnd.follow_counted.Goals as goal
 use Rattle.front_end.specs.Moving.{held_of, standing_of}
-use Rattle.client_items.proofs.Falling.{then_never_rises}
+use Rattle.front_end.specs.Rules.{MayFollow}
+use Rattle.front_end.specs.Stepping.{HelpsBy}
+use Rattle.front_end.specs.declared.client.Client.{Client}
 use Rattle.std.proofs.Common.{refl, subst, sym}
 use Rattle.std.proofs.lemmas.Result.{on_ok_weaker}
 
@@ -21,7 +24,7 @@ pub returns-clause-rises : goal.returns-clause-rises
 returns-clause-rises g c = subst (λ (h : Held). Rises h (held_of c.make_counted.new.self)) c.count_call.ensures.held c.make_counted.ensures.rises
 
 pub returns-clause-moves : goal.returns-clause-moves
-returns-clause-moves g c = moves_from _ _ _ _ _ _ c.count_call.ensures.held _ _ _ (sym c.count_call.ensures.pending) c.args.rule c.make_counted.result c.make_counted.ensures.moves
+returns-clause-moves g c = λ may helps. on_ok_weaker c.make_counted.result (λ t. takes_counted _ _ _ c.args.self.now c.count_call.new.self c.make_counted.new.self c.count_call.ensures.client c.count_call.ensures.course c.count_call.ensures.each t) (c.make_counted.ensures.moves (subst (λ (k : Client). MayFollow c.args.rule k.held) (sym c.count_call.ensures.client) may) (subst (λ (k : Client). HelpsBy c.args.rule k.duties.helping) (sym c.count_call.ensures.client) helps))
 
 pub returns-then-not-count_call-clause-moves : goal.returns-then-not-count_call-clause-moves
-returns-then-not-count_call-clause-moves g c = λ may. moves_same _ _ _ _ _ _ c.count_call.ensures.held _ _ _ (sym c.count_call.ensures.pending) c.run_out_of_calls.result c.run_out_of_calls.ensures.moves
+returns-then-not-count_call-clause-moves g c = λ may helps. on_ok_weaker c.run_out_of_calls.result (λ t. takes_counted _ _ _ c.args.self.now c.count_call.new.self c.run_out_of_calls.new.self c.count_call.ensures.client c.count_call.ensures.course c.count_call.ensures.each t) c.run_out_of_calls.ensures.moves

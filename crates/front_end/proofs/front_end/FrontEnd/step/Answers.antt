@@ -1,5 +1,7 @@
-use Rattle.client_state.proofs.Pending.{moves_so}
+use Rattle.client_state.proofs.Moving.{less_itself}
+use Rattle.client_state.proofs.Pending.{moves_so, stays_itself}
 use Rattle.front_end.proofs.Calling.{nothing_done}
+use Rattle.front_end.proofs.Stepping.{by_rest_kept, takes_moves, takes_none}
 use Rattle.front_end.proofs.Steps.{steps_fall}
 use Rattle.front_end.proofs.front_end.FrontEnd.step.Goals as goal
 use Rattle.front_end.specs.Moving.{held_of}
@@ -12,4 +14,10 @@ pub returns-then-has_ended-clause-pends : goal.returns-then-has_ended-clause-pen
 returns-then-has_ended-clause-pends g c = nothing_done _ _ (held_of c.args.self.now) _ _ refl
 
 pub returns-clause-moves : goal.returns-clause-moves
-returns-clause-moves g c = moves_so _ _ _ _ _ _ _ c.in_ok-move_on.ensures.moves
+returns-clause-moves g c = moves_so _ _ _ _ _ _ _ (takes_moves _ _ _ c.args.self.now c.move_on.new.self c.in_ok-move_on.ensures.moves)
+
+pub returns-then-has_ended-clause-tried : goal.returns-then-has_ended-clause-tried
+returns-then-has_ended-clause-tried g c = takes_none _ _ _ c.args.self.now c.args.self.now (by_rest_kept _ _ _ (held_of c.args.self.now) (held_of c.args.self.now) _ _ _ _ _ (less_itself (held_of c.args.self.now)) (stays_itself _ (held_of c.args.self.now)) refl refl refl) refl
+
+pub returns-clause-pends : goal.returns-clause-pends
+returns-clause-pends g c = takes_moves _ _ _ c.args.self.now c.move_on.new.self c.in_ok-move_on.ensures.moves

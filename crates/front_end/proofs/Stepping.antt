@@ -1,0 +1,475 @@
+-- A step of a client keeps to two-phase commit: what it makes of its try's transaction, of its duties and of its present item.
+use Rattle.client_cache.specs.Copies.{Contents, changed, kept}
+use Rattle.client_items.specs.Courses.{Course, who_next}
+use Rattle.client_items.specs.Ending.{GoesBy}
+use Rattle.client_items.specs.Meanings.{committed_as, is_ended}
+use Rattle.client_items.specs.declared.news.News.TheVariants as news
+use Rattle.client_items.specs.declared.news.News.{News}
+use Rattle.client_port.specs.Views.{Calm, Halted, MayCome, Unsettled, View}
+use Rattle.client_port.specs.Works.{Answered, AskWork, CommitWork, DecideWork, Does, PrepareWork, ReceiveWork}
+use Rattle.client_state.proofs.Pending.{sends_free, settled_written, still_written}
+use Rattle.client_state.proofs.Stopping.{at_here}
+use Rattle.client_state.specs.Handing.{AbortsInVain, AbortsNext, ByAsking, ByLink, ByPreparing, ForgetsNext, HandsIf, HandsTold, HandsVerdict, KeepsDuties, MayTell, TellsNext, TellsRefuser, handed, helps_by}
+use Rattle.client_state.specs.Links.{NoneAwaits, at_repo, waiting}
+use Rattle.client_state.specs.Moving.{Aborted, Asked, AskedInVain, AskedOwn, CommitRefused, Committed, DecideRefused, Decided, EndsSo, Finished, Forgot, HoldsLess, InSession, KeepsMade, KeepsTry, Learns, LeavesLess, Loses, MaySettle, Moves, PrepareRefused, Prepared, ReceiveRefused, ReceiveStopped, Received, ReceivedNone, Rested, SendsNothingIf, Settled, Transformed, Unsent}
+use Rattle.client_state.specs.Participants.{first_in, others_in, sent_of}
+use Rattle.client_state.specs.Pending.{AsksBehind, IsAsking, IsPreparing, MovesSo, MovesSoIf, NonePending, Pending, RefusesToDecide, StaysAsked, StaysPending, asked_at, is_preparing, noted, pending_in, prepared_at}
+use Rattle.client_state.specs.Receiving.{EndsReceive, LosesThere, ReceivesNone, StopsThere, TakesCopies}
+use Rattle.client_state.specs.Sending.{IsOfSession, SendsShare}
+use Rattle.client_state.specs.Showing.{IsToldBy, ToldByAnswer, ToldByDecision}
+use Rattle.client_state.specs.Stepping.{AsksInVain, AsksOwn, CommitsInVain, DecidesAll, EndsAsked, EndsOwn, HandsSo, HoldsThere, PreparesInVain, PreparesNext, PreparesSo, Present, RefusesNext, SendsAlone, SendsDrawn, SendsTransform, StepsSo, StepsSoIf, TriesSo}
+use Rattle.client_state.specs.Taking.{links_behind}
+use Rattle.client_state.specs.Writing.{HoldsWritten, WritesShares, WritesStay, WritesThere}
+use Rattle.client_state.specs.declared.duties.Duties.{Duties}
+use Rattle.client_state.specs.declared.duties.Duty.{Duty}
+use Rattle.client_state.specs.declared.duties.Helping.{Helping}
+use Rattle.client_state.specs.declared.held.Held.{Held}
+use Rattle.client_state.specs.declared.link.Link.TheVariants.{Unsettled}
+use Rattle.client_state.specs.declared.link.Link.{Link}
+use Rattle.client_state.specs.declared.link.Waits.TheVariants.{Idle}
+use Rattle.client_state.specs.declared.phase.Phase.{Phase}
+use Rattle.client_state.specs.declared.requests.Sending.{Sending}
+use Rattle.client_state.specs.declared.transaction.Sent.{Sent}
+use Rattle.client_state.specs.declared.transaction.Transaction.{Transaction}
+use Rattle.front_end.proofs.Receiving as receiving
+use Rattle.front_end.proofs.Spending as spending
+use Rattle.front_end.specs.Moving.{course_of, tries_of}
+use Rattle.front_end.specs.Stepping.{AsksBy, AsksEach, AsksOnce, ClientHands, ClientSteps, IsFinished, IsFinishedSo, IsForgotten, IsSentMore, SameVerdicts, StepsFrom, TakesStep, present_of}
+use Rattle.front_end.specs.declared.client.Client.{Client}
+use Rattle.front_end.specs.declared.front_end.FrontEnd.{FrontEnd}
+use Rattle.paused_eval.specs.declared.copies.Copies.{Copies}
+use Rattle.repo_refusals.specs.declared.refusal.Refusal.{Refusal}
+use Rattle.session_outbox.specs.declared.answers.Asked as answer
+use Rattle.session_outbox.specs.declared.answers.Asked.TheVariants as answers
+use Rattle.session_outbox.specs.declared.answers.At.{At}
+use Rattle.session_outbox.specs.declared.answers.Verdict.{Verdict}
+use Rattle.session_outbox.specs.declared.message.Message.{Message}
+use Rattle.std.proofs.Common.{Bool, List, [], ap, false, inl, inr, refl, subst, sym, true, ◌++◌, ◌≡◌, ◌∙◌, ℕ}
+use Rattle.std.proofs.lemmas.Option.{same_Some}
+use Rattle.std.specs.List.{list_any}
+use Rattle.std.specs.Option.{option_map}
+use Rattle.std.specs.Prelude.{Err, IfOk, None, Ok, OnOk, Option, Result, Some, slice_get, ◌∷◌, ◌⊎◌}
+use Rattle.thor_value.specs.declared.memory.NoMemory.{NoMemory}
+use Rattle.thor_value.specs.declared.names.Oref.{Oref}
+use Rattle.thor_value.specs.declared.names.Ts.{Ts}
+use Rattle.thor_value.specs.declared.values.Obj.{Obj}
+use Rattle.thor_value.specs.declared.values.Who.{Who}
+
+-- ---- duties
+
+pub same_duties : (d e : Duties) → e ≡ d → KeepsDuties d e
+same_duties d e same = (ap (λ (x : Duties). x.verdicts) same, inl (ap (λ (x : Duties). x.helping) same))
+
+pub kept_duties : (d e : Duties) → e.verdicts ≡ d.verdicts → e.helping ≡ d.helping → KeepsDuties d e
+kept_duties d e v h = (v, inl h)
+
+pub keeps_twice : (d m e : Duties) → KeepsDuties d m → KeepsDuties m e → KeepsDuties d e
+keeps_twice d m e f g = (g.0 ∙ f.0, by f.1 g.1)
+  where
+    by : (m.helping ≡ d.helping) ⊎ (helps_by m.helping ≡ None) → (e.helping ≡ m.helping) ⊎ (helps_by e.helping ≡ None) → (e.helping ≡ d.helping) ⊎ (helps_by e.helping ≡ None)
+    by f (inr none) = inr none
+    by (inl p) (inl q) = inl (q ∙ p)
+    by (inr none) (inl q) = inr (ap helps_by q ∙ none)
+
+module _ (old new : View) (a : Pending) (links : List Link) where
+  pub told_nothing : (d e : Duties) → e.verdicts ≡ d.verdicts → e.helping ≡ d.helping → HandsTold old new a links d e
+  told_nothing d e v h = record { verdicts = inl (inl v); helping = inl h }
+
+  -- behind what comes to the duties they stay
+  pub told_then : (d m e : Duties) → HandsTold old new a links d m → e.verdicts ≡ m.verdicts → e.helping ≡ m.helping → HandsTold old new a links d e
+  told_then d m e h v k = subst (λ (ds : List Duty). HandsTold old new a links d (record e { verdicts = ds })) (sym v) (subst (λ (o : Option Helping). HandsTold old new a links d (record e { verdicts = m.verdicts; helping = o })) (sym k) (record { verdicts = h.verdicts; helping = h.helping }))
+
+module _ (shows : Bool) (old new : View) where
+  -- the same of a client that is the one before, but for its phase and copies
+  pub hands_then : (f m g : Client) → ClientHands shows old new f m → SameVerdicts m g → ClientHands shows old new f g
+  hands_then f m g h same = λ a s. told_then old new a f.held.links.items f.duties m.duties g.duties (h a s) same.0 same.1
+
+  pub hands_nothing : (f g : Client) → SameVerdicts f g → ClientHands shows old new f g
+  hands_nothing f g same = λ a s. told_nothing old new a f.held.links.items f.duties g.duties same.0 same.1
+
+  -- what is let go before a call
+  pub hands_same : (f m g : Client) → m.held.links.items ≡ f.held.links.items → m.duties ≡ f.duties → {X : Type 0} (result : Result X NoMemory) → OnOk result (ClientHands shows old new m g) → OnOk result (ClientHands shows old new f g)
+  hands_same f m g links duties (Ok x) h = λ a s. subst (λ (d : Duties). HandsTold old new a f.held.links.items d g.duties) duties (subst (λ (ls : List Link). HandsTold old new a ls m.duties g.duties) links (h a s))
+  hands_same f m g links duties (Err e) h = tt
+
+pub same_verdicts : (f g : Client) → g.duties ≡ f.duties → SameVerdicts f g
+same_verdicts f g same = (ap (λ (x : Duties). x.verdicts) same, ap (λ (x : Duties). x.helping) same)
+
+-- ---- what a verdict is about
+
+module _ (old new : View) (r : ℕ) (t : Ts) (v : Verdict) where
+  asked_by : (d : Does {X = answer.Asked} old new r (Ok (answers.Settled v)) (AskWork t (Ok (answers.Settled v)))) (u : Unsettled)
+      → Answered {X = answer.Asked} r (Ok (answers.Settled v)) u d.at (new.seen r) (new.unsettled r) (AskWork t (Ok (answers.Settled v)) (old.opened.base r) d.at (new.seen r) (new.unsettled r)) → v.tx ≡ t
+  asked_by d Calm h = h.0.0
+  asked_by d (MayCome e) h = absurd h.0
+  asked_by d Halted h = absurd h.0
+
+  pub asked_tx : Does {X = answer.Asked} old new r (Ok (answers.Settled v)) (AskWork t (Ok (answers.Settled v))) → v.tx ≡ t
+  asked_tx d = asked_by d d.met d.answer
+
+  decided_by : (s : ℕ) (commit : Bool) (d : Does {X = Verdict} old new r (Ok v) (DecideWork s t commit (Ok v))) (u : Unsettled)
+      → Answered {X = Verdict} r (Ok v) u d.at (new.seen r) (new.unsettled r) (DecideWork s t commit (Ok v) (old.opened.base r) d.at (new.seen r) (new.unsettled r)) → v.tx ≡ t
+  decided_by s commit d Calm h = h.1
+  decided_by s commit d (MayCome e) h = absurd h.0
+  decided_by s commit d Halted h = absurd h.0
+
+  pub decided_tx : (s : ℕ) (commit : Bool) → Does {X = Verdict} old new r (Ok v) (DecideWork s t commit (Ok v)) → v.tx ≡ t
+  decided_tx s commit d = decided_by s commit d d.met d.answer
+
+module _ (shows : Bool) (old new : View) (r : ℕ) (t : Ts) (o : answer.Asked) (v : Verdict) (is : o ≡ answers.Settled v) (call : shows ≡ true → Does {X = answer.Asked} old new r (Ok o) (AskWork t (Ok o))) where
+  pub answer_told : shows ≡ true → Does {X = answer.Asked} old new r (Ok (answers.Settled v)) (AskWork t (Ok (answers.Settled v)))
+  answer_told s = subst (λ (x : answer.Asked). Does {X = answer.Asked} old new r (Ok x) (AskWork t (Ok x))) is (call s)
+
+  pub told_by : shows ≡ true → IsToldBy old new r t v.commit
+  told_by s = ToldByAnswer v refl (answer_told s)
+
+  -- the same by the verdict's own transaction
+  pub told_so : shows ≡ true → IsToldBy old new r v.tx v.commit
+  told_so s = subst (λ (u : Ts). IsToldBy old new r u v.commit) (sym (asked_tx old new r t v (answer_told s))) (told_by s)
+
+-- ---- a step, by its call
+
+module _ (shows : Bool) (item : Present) (old new : View) (before after : Held) (a z : Pending) (d e : Duties) (came : News) where
+  abbrev pub So : Type 0
+  So = StepsSoIf shows item old new before after a z d e came
+
+  abbrev pub Quiet : Type 0
+  Quiet = is_ended came ≡ false
+
+  module _ (s : Sending) (of : IsOfSession before.links.items s) where
+    pub by_prepare_so : (place : ℕ) → (shows ≡ true → Does {X = ℕ} old new s.at.repo (Ok place) (PrepareWork s.at.session s.request (Ok place))) → HoldsLess before after
+        → (prepared_at z ≡ Some (s.at, s.request.tx)) ⊎ ((prepared_at z ≡ prepared_at a) × (is_preparing a ≡ true)) → PreparesSo item before.links.items before.cache.cache s a z → Quiet → KeepsDuties d e → So
+    by_prepare_so place call less pends prepares quiet keeps = λ w. record { moves = Prepared s place (call w) of less; pends = pends; tries = (prepares, quiet); hands = keeps }
+
+    module _ (idle : NoneAwaits 8 before.links.items) where
+      pub by_prepare_refused_so : (k : Refusal) → (shows ≡ true → Does {X = ℕ} old new s.at.repo (Err k) (PrepareWork s.at.session s.request (Err k))) → Learns k s.at.repo before after → after.client ≡ before.client → StaysPending a z before after
+          → PreparesInVain item before.links.items before.cache.cache s a → Quiet → KeepsDuties d e → So
+      by_prepare_refused_so k call learns client stays vain quiet keeps = λ w. record { moves = PrepareRefused s k (call w) of idle learns client; pends = stays; tries = (vain, quiet); hands = keeps }
+
+      pub by_commit_so : (place : ℕ) → (shows ≡ true → Does {X = ℕ} old new s.at.repo (Ok place) (CommitWork s.at.session s.request (Ok place))) → InSession s.at before → WritesThere s.at.repo s.request.writes before.cache.cache → HoldsWritten s.request before.cache.cache → KeepsTry before after → z ≡ NonePending
+          → (left : Transaction) → SendsAlone item before.links.items before.cache.cache s left → EndsOwn true s.request.tx left came → KeepsDuties d e → So
+      by_commit_so place call joined wrote held keeps none left alone own kept = λ w. record { moves = Committed s place (call w) of joined wrote held idle keeps; pends = none; tries = (left, alone, own); hands = kept }
+
+      pub by_transform_so : (place : ℕ) (oref : Oref) (made : Obj) → (shows ≡ true → Does {X = ℕ} old new s.at.repo (Ok place) (CommitWork s.at.session s.request (Ok place)))
+          → InSession s.at before → s.request.writes ≡ (oref, made) ∷ [] → oref.repo ≡ s.at.repo → HoldsWritten s.request before.cache.cache → KeepsMade oref made before after → z ≡ NonePending
+          → SendsTransform before.client before.links.items s → Quiet → KeepsDuties d e → So
+      by_transform_so place oref made call joined writes here held keeps none sends quiet kept = λ w. record { moves = Transformed s place oref made (call w) of joined writes here held idle keeps; pends = none; tries = (sends, quiet); hands = kept }
+
+      pub by_commit_refused_so : (k : Refusal) → (shows ≡ true → Does {X = ℕ} old new s.at.repo (Err k) (CommitWork s.at.session s.request (Err k))) → Learns k s.at.repo before after → after.client ≡ before.client → AsksBehind s k z after
+          → CommitsInVain item before.client before.links.items before.cache.cache s k z → Quiet → KeepsDuties d e → So
+      by_commit_refused_so k call learns client asks vain quiet keeps = λ w. record { moves = CommitRefused s k (call w) of idle learns client; pends = asks; tries = (vain, quiet); hands = keeps }
+
+  pub by_decide_so : (at : At) (t : Ts) (v : Verdict) → (shows ≡ true → Does {X = Verdict} old new at.repo (Ok v) (DecideWork at.session t true (Ok v))) → NoneAwaits 8 before.links.items → EndsSo v.commit before after → prepared_at a ≡ Some (at, t) → z ≡ NonePending
+      → (transaction : Transaction) → DecidesAll a at t transaction → EndsOwn v.commit t transaction came → (shows ≡ true → HandsVerdict old new a before.links.items d e) → So
+  by_decide_so at t v call idle ends may none transaction all own hands = λ w. record { moves = Decided at t v (call w) idle ends; pends = (may, none); tries = (transaction, all, own); hands = hands w }
+
+  pub by_decide_refused_so : (at : At) (t : Ts) (k : Refusal) → (shows ≡ true → Does {X = Verdict} old new at.repo (Err k) (DecideWork at.session t true (Err k))) → Loses k at.repo before after → after.client ≡ before.client → RefusesToDecide true at t a z before after
+      → (transaction : Transaction) → DecidesAll a at t transaction → z ≡ IsAsking (record { ts = t; at = at; meaning = transaction.meaning; participants = transaction.participants }) 0 → Quiet → KeepsDuties d e → So
+  by_decide_refused_so at t k call loses client pends transaction all asks quiet keeps = λ w. record { moves = DecideRefused at t true k (call w) loses client; pends = pends; tries = (transaction, all, asks, quiet); hands = keeps }
+
+  pub by_abort_so : (at : At) (t : Ts) (v : Verdict) → (shows ≡ true → Does {X = Verdict} old new at.repo (Ok v) (DecideWork at.session t false (Ok v))) → HoldsLess before after → StaysPending a z before after → AbortsNext at t v d e → Quiet → So
+  by_abort_so at t v call less stays aborts quiet = λ w. record { moves = Aborted at t v (call w) less; pends = stays; tries = quiet; hands = aborts }
+
+  pub by_abort_refused_so : (at : At) (t : Ts) (k : Refusal) → (shows ≡ true → Does {X = Verdict} old new at.repo (Err k) (DecideWork at.session t false (Err k))) → Loses k at.repo before after → after.client ≡ before.client → StaysPending a z before after → AbortsInVain at t d e → Quiet → So
+  by_abort_refused_so at t k call loses client stays aborts quiet = λ w. record { moves = DecideRefused at t false k (call w) loses client; pends = stays; tries = quiet; hands = aborts }
+
+  pub by_finish_so : (r : ℕ) (v : Verdict) (answered : Bool) → (shows ≡ true → IsFinished old new r v answered) → HoldsLess before after → StaysPending a z before after → TellsNext r v.tx v.commit answered d e → Quiet → So
+  by_finish_so r v answered call less stays tells quiet = λ w. record { moves = Finished r v.tx v.commit (call w).result (call w).call less; pends = stays; tries = quiet; hands = inl (subst (λ (b : Bool). TellsNext r v.tx v.commit b d e) (call w).answered_is tells) }
+
+  pub by_help_so : (r : ℕ) (v : Verdict) → (shows ≡ true → IsFinishedSo old new r v) → HoldsLess before after → StaysPending a z before after → TellsRefuser r v.tx v.commit d e → Quiet → So
+  by_help_so r v call less stays tells quiet = λ w. record { moves = Finished r v.tx v.commit (call w).1.result (call w).1.call less; pends = stays; tries = quiet; hands = inr tells }
+
+  pub by_forget_so : (t : Ts) → (shows ≡ true → IsForgotten old new t) → HoldsLess before after → StaysPending a z before after → ForgetsNext t.repo t d e → Quiet → So
+  by_forget_so t call less stays forgets quiet = λ w. record { moves = Forgot t.repo t (call w).result (call w).call less; pends = stays; tries = quiet; hands = forgets }
+
+  pub by_ask_so : (r : ℕ) (t : Ts) (result : Result answer.Asked Refusal) → (shows ≡ true → Does old new r result (AskWork t result)) → HoldsLess before after → StaysPending a z before after → Quiet → (shows ≡ true → HandsTold old new a before.links.items d e) → So
+  by_ask_so r t result call less stays quiet hands = λ w. record { moves = Unsent (Asked r t result (call w) less); pends = stays; tries = quiet; hands = hands w }
+
+  pub by_own_answer_so : (r : ℕ) (t : Ts) (v : Verdict) → (shows ≡ true → Does {X = answer.Asked} old new r (Ok (answers.Settled v)) (AskWork t (Ok (answers.Settled v)))) → EndsSo v.commit before after → (at : At) → asked_at a ≡ Some (at, t) → z ≡ NonePending
+      → (sent : Sent) (n : ℕ) → AsksOwn a r t sent n → EndsAsked v.commit sent came → (shows ≡ true → HandsVerdict old new a before.links.items d e) → So
+  by_own_answer_so r t v call ends at asks none sent n asked own hands = λ w. record { moves = AskedOwn r t v (call w) ends; pends = ((at, asks), none); tries = (sent, n, asked, own); hands = hands w }
+
+  pub by_no_answer_so : (r : ℕ) (t : Ts) (result : Result answer.Asked Refusal) → (shows ≡ true → Does old new r result (AskWork t result)) → LeavesLess before after → (at : At) → asked_at a ≡ Some (at, t) → StaysAsked a z before after
+      → (sent : Sent) (n : ℕ) → AsksOwn a r t sent n → AsksInVain item after r sent n z came → KeepsDuties d e → So
+  by_no_answer_so r t result call leaves at asks stays sent n asked vain keeps = λ w. record { moves = AskedInVain r t result (call w) leaves.1 leaves.0 leaves.2; pends = ((at, asks), stays); tries = (sent, n, asked, vain); hands = keeps }
+
+  -- the verdict on a transaction was told, which may be that of an Unknown item
+  pub by_settled_so : (r : ℕ) (t : Ts) (o : answer.Asked) (v : Verdict) → o ≡ answers.Settled v → (shows ≡ true → Does {X = answer.Asked} old new r (Ok o) (AskWork t (Ok o))) → z ≡ a → after.cache ≡ before.cache → MaySettle r before after
+      → Quiet → (shows ≡ true → HandsTold old new a before.links.items d e) → So
+  by_settled_so r t o v is call same cache may quiet hands = λ w. by (answer_told shows old new r t o v is call w) (hands w) may
+    where
+      kept_so : WritesStay before.cache.cache after.cache.cache
+      kept_so x = ap (λ (k : Copies). changed k.cache x) cache
+
+      by : Does {X = answer.Asked} old new r (Ok (answers.Settled v)) (AskWork t (Ok (answers.Settled v))) → HandsTold old new a before.links.items d e → MaySettle r before after → StepsSo item old new before after a z d e came
+      by c h (inl f) = record { moves = Unsent (Asked r t (Ok (answers.Settled v)) c f); pends = inr (same, still_written before after f.1 kept_so); tries = quiet; hands = h }
+      by c h (inr f) = record { moves = Unsent (Settled r t v f.sent f.index c f.there f.links f.client f.fewer); pends = inr (same, settled_written r f.sent f.index before after f.there f.links kept_so); tries = quiet; hands = h }
+
+  -- a call that sends nothing, behind which nothing is undecided
+  pub by_sends_so : SendsNothingIf shows old new before after → z ≡ NonePending → Quiet → HandsIf shows old new a before.links.items d e → So
+  by_sends_so sends none quiet hands = λ w. record { moves = Unsent (sends w); pends = sends_free old new before after a z (sends w) none; tries = quiet; hands = hands w }
+
+  pub moves_of : So → MovesSoIf shows old new before after a z
+  moves_of f = λ w. record { moves = (f w).moves; pends = (f w).pends }
+
+-- nothing was called
+module _ (shows : Bool) (item : Present) (view : View) (before after : Held) (a z : Pending) (d e : Duties) (came : News) where
+  pub by_rest : HoldsLess before after → StaysPending a z before after → is_ended came ≡ false → (shows ≡ true → HandsTold view view a before.links.items d e) → StepsSoIf shows item view view before after a z d e came
+  by_rest less stays quiet hands = λ w. record { moves = Unsent (Rested refl less); pends = stays; tries = quiet; hands = hands w }
+
+  pub by_rest_kept : HoldsLess before after → StaysPending a z before after → is_ended came ≡ false → e.verdicts ≡ d.verdicts → e.helping ≡ d.helping → StepsSoIf shows item view view before after a z d e came
+  by_rest_kept less stays quiet v h = by_rest less stays quiet (λ w. told_nothing view view a before.links.items d e v h)
+
+-- ---- messages
+
+module _ (item : Present) (old new : View) (at : At) (before mid after : Held) (rest : mid ≡ record before { links = mid.links }) (joined : InSession at before) (shows : Bool) (p z : Pending) (d e : Duties) (came : News) (quiet : is_ended came ≡ false) (keeps : KeepsDuties d e) where
+  pub by_message_so : (o : Option Message) (m : Message) → o ≡ Some m → (shows ≡ true → Does {X = Option Message} old new at.repo (Ok o) (ReceiveWork at.session (Ok o)))
+      → mid.links.items ≡ links_behind (Ok o) at.repo before.links.items → TakesCopies at.repo m mid after → StaysPending p z mid after → StepsSoIf shows item old new before after p z d e came
+  unfolding receiving.by_message receiving.taken
+  by_message_so o m is call links t stays = λ w.
+      let k : MovesSo old new before after p z = receiving.by_message old new at before mid after rest joined shows o m is call links t p z stays w in
+      record { moves = k.moves; pends = k.pends; tries = quiet; hands = keeps }
+
+  refused_steps : (k : Refusal) → Does {X = Option Message} old new at.repo (Err k) (ReceiveWork at.session (Err k)) → mid.links.items ≡ before.links.items → EndsReceive k at.repo mid after
+      → StaysPending p z before after → StepsSo item old new before after p z d e came
+  unfolding receiving.refused_so
+  refused_steps k c links (LosesThere l client) stays = record { moves = receiving.refused_so old new at before mid after rest joined k c links (LosesThere l client); pends = stays; tries = quiet; hands = keeps }
+  refused_steps k c links (StopsThere g s client f) stays = record { moves = receiving.refused_so old new at before mid after rest joined k c links (StopsThere g s client f); pends = stays; tries = quiet; hands = keeps }
+
+  pub by_refusal_so : (k : Refusal) → (shows ≡ true → Does {X = Option Message} old new at.repo (Err k) (ReceiveWork at.session (Err k))) → mid.links.items ≡ before.links.items
+      → EndsReceive k at.repo mid after → StaysPending p z mid after → StepsSoIf shows item old new before after p z d e came
+  by_refusal_so k call links ends stays = λ w. refused_steps k (call w) links ends (receiving.behind_taken old new at before mid after rest joined p z None links stays)
+
+module _ (item : Present) (shows : Bool) (old new : View) (at : At) (before mid : Held) (k : ReceivesNone shows old new at before mid) (joined : InSession at before) (p z : Pending) (same : z ≡ p) (d e : Duties) (keeps : KeepsDuties d e) where
+  pub by_none_so : StepsSoIf shows item old new before mid p z d e news.Nothing
+  unfolding receiving.by_none
+  by_none_so = λ w.
+      let m : MovesSo old new before mid p z = receiving.by_none shows old new at before mid k joined p z same w in
+      record { moves = m.moves; pends = m.pends; tries = refl; hands = keeps }
+
+  pub by_none_idle_so : (after : Held) → after ≡ record mid { links = after.links } → after.links.items ≡ at_repo mid.links.items at.repo (waiting Idle) → StepsSoIf shows item old new before after p z d e news.Nothing
+  unfolding receiving.by_none_idle
+  by_none_idle_so after rest links = λ w.
+      let m : MovesSo old new before after p z = receiving.by_none_idle shows old new at before mid k joined after rest links p z same w in
+      record { moves = m.moves; pends = m.pends; tries = refl; hands = keeps }
+
+-- ---- a client of which the names that it may give are others
+
+module _ (item : Present) (old new : View) (a b after : Held) (p z : Pending) (d e : Duties) (came : News) where
+  spent_tries : (n : Moves old new (record a { names = b.names }) after) → TriesSo item old new (record a { names = b.names }) after n p z came → TriesSo item old new a after (spending.other_names old new a b after n) p z came
+  unfolding spending.other_names
+  spent_tries (Unsent n) h = h
+  spent_tries (Received at n c joined t client) h = h
+  spent_tries (ReceivedNone at c joined links client f) h = h
+  spent_tries (ReceiveRefused at k c joined l client) h = h
+  spent_tries (ReceiveStopped at k c joined out s client f) h = h
+  spent_tries (Prepared s place c of less) h = h
+  spent_tries (PrepareRefused s k c of idle l client) h = h
+  spent_tries (Committed s place c of joined wrote held idle keeps) h = h
+  spent_tries (Transformed s place oref made c of joined writes here held idle keeps) h = h
+  spent_tries (CommitRefused s k c of idle l client) h = h
+  spent_tries (Decided at t v c idle f) h = h
+  spent_tries (Aborted at t v c less) h = h
+  spent_tries (DecideRefused at t true k c l client) h = h
+  spent_tries (DecideRefused at t false k c l client) h = h
+  spent_tries (Finished r t commit result c less) h = h
+  spent_tries (Forgot r t result c less) h = h
+  spent_tries (AskedOwn r t v c f) h = h
+  spent_tries (AskedInVain r t result c leaves client f) h = h
+
+  spent_hands : (n : Moves old new (record a { names = b.names }) after) → HandsSo old new (record a { names = b.names }) after n p d e → HandsSo old new a after (spending.other_names old new a b after n) p d e
+  unfolding spending.other_names
+  spent_hands (Unsent n) h = h
+  spent_hands (Received at n c joined t client) h = h
+  spent_hands (ReceivedNone at c joined links client f) h = h
+  spent_hands (ReceiveRefused at k c joined l client) h = h
+  spent_hands (ReceiveStopped at k c joined out s client f) h = h
+  spent_hands (Prepared s place c of less) h = h
+  spent_hands (PrepareRefused s k c of idle l client) h = h
+  spent_hands (Committed s place c of joined wrote held idle keeps) h = h
+  spent_hands (Transformed s place oref made c of joined writes here held idle keeps) h = h
+  spent_hands (CommitRefused s k c of idle l client) h = h
+  spent_hands (Decided at t v c idle f) h = h
+  spent_hands (Aborted at t v c less) h = h
+  spent_hands (DecideRefused at t true k c l client) h = h
+  spent_hands (DecideRefused at t false k c l client) h = h
+  spent_hands (Finished r t commit result c less) h = h
+  spent_hands (Forgot r t result c less) h = h
+  spent_hands (AskedOwn r t v c f) h = h
+  spent_hands (AskedInVain r t result c leaves client f) h = h
+
+  pub spent_steps : StepsSo item old new (record a { names = b.names }) after p z d e came → StepsSo item old new a after p z d e came
+  spent_steps m = record {
+    moves = spending.other_names old new a b after m.moves;
+    pends = spending.pends old new a b after m.moves p z m.pends;
+    tries = spent_tries m.moves m.tries;
+    hands = spent_hands m.moves m.hands;
+  }
+
+-- ---- what stands before and behind a call
+
+module _ (shows : Bool) (item : Present) (old new : View) where
+  -- the client before, but for its phase
+  pub from_phase : (k f g : Client) (q : Phase) (p a : Pending) → f ≡ record k { phase = q } → p ≡ a → (result : Result News NoMemory)
+      → IfOk result (StepsFrom shows item old new a f g) → IfOk result (StepsFrom shows item old new p k g)
+  from_phase k f g q p a rest e result h = subst (λ (x : Client). IfOk result (StepsFrom shows item old new p x g)) rest (subst (λ (y : Pending). IfOk result (StepsFrom shows item old new y f g)) (sym e) h)
+
+  pub from_idle : (k f g : Client) (q : Phase) (p a : Pending) → f ≡ record k { phase = q } → p ≡ a → (result : Result News NoMemory)
+      → (NoneAwaits 8 f.held.links.items → IfOk result (StepsFrom shows item old new a f g)) → NoneAwaits 8 k.held.links.items → IfOk result (StepsFrom shows item old new p k g)
+  from_idle k f g q p a rest e result h idle = from_phase k f g q p a rest e result (h (subst (λ (x : Client). NoneAwaits 8 x.held.links.items) (sym rest) idle))
+
+  -- a call that sends nothing
+  pub sends_from : (f g : Client) (a : Pending) (result : Result News NoMemory) → OnOk result (SendsNothingIf shows old new f.held g.held) → pending_in g.phase ≡ NonePending → IfOk result (λ n. is_ended n ≡ false) → OnOk result (ClientHands shows old new f g)
+      → IfOk result (StepsFrom shows item old new a f g)
+  sends_from f g a (Ok n) sends none quiet hands = by_sends_so shows item old new f.held g.held a (pending_in g.phase) f.duties g.duties n sends none quiet (hands a)
+  sends_from f g a (Err e) sends none quiet hands = tt
+
+  pub sends_idle_from : (k f g : Client) (q : Phase) (p : Pending) → f ≡ record k { phase = q } → (result : Result News NoMemory) → (NoneAwaits 8 f.held.links.items → OnOk result (SendsNothingIf shows old new f.held g.held)) → pending_in g.phase ≡ NonePending → IfOk result (λ n. is_ended n ≡ false) → OnOk result (ClientHands shows old new f g)
+      → NoneAwaits 8 k.held.links.items → IfOk result (StepsFrom shows item old new p k g)
+  sends_idle_from k f g q p rest result sends none quiet hands = from_idle k f g q p p rest refl result (λ idle. sends_from f g p result (sends idle) none quiet hands)
+
+-- what is told of a refused call, with what is told of what that came to
+pub both_if : {T : Type 0} {P Q : T → Type 0} {A : Type 0} (r : Result T NoMemory) → ((x : T) → P x → A → Q x) → IfOk r P → OnOk r A → IfOk r Q
+both_if (Ok x) f p a = f x p a
+both_if (Err e) f p a = tt
+
+-- ---- a step with the items
+
+module _ (shows : Bool) (old new : View) (f : FrontEnd) where
+  -- what a client's function came to is taken down
+  pub takes_down : {X : Type 0} (item : Present) (g : FrontEnd) (c : Client) (came : News) → item ≡ present_of f → g.client ≡ c → (result : Result X NoMemory) → ClientSteps shows item old new f.client c came → GoesBy (tries_of f) came (course_of f) (course_of g) → OnOk result (TakesStep shows old new f g)
+  takes_down item g c came is same result steps goes = receiving.whenever result (record {
+    came = came;
+    steps = subst (λ (k : Client). ClientSteps shows (present_of f) old new f.client k came) (sym same) (subst (λ (i : Present). ClientSteps shows i old new f.client c came) is steps);
+    goes = goes;
+  })
+
+  -- nothing has become of the items
+  pub takes_none : (g : FrontEnd) → ClientSteps shows (present_of f) old new f.client g.client news.Nothing → course_of g ≡ course_of f → TakesStep shows old new f g
+  takes_none g steps same = record { came = news.Nothing; steps = steps; goes = same }
+
+  pub takes_moves : (g : FrontEnd) → TakesStep shows old new f g → MovesSoIf shows old new f.client.held g.client.held (pending_in f.client.phase) (pending_in g.client.phase)
+  takes_moves g t = moves_of shows (present_of f) old new f.client.held g.client.held (pending_in f.client.phase) (pending_in g.client.phase) f.client.duties g.client.duties t.came t.steps
+
+-- none of some objects was read
+pub none_among : (names : List Oref) → list_any (λ (x : Oref). false) names ≡ false
+none_among [] = refl
+none_among (x ∷ xs) = none_among xs
+
+abbrev record_of : Who → ℕ → Present
+record_of w t = record { who = w; tries = t }
+
+pub item_is : (w v : Who) (t u : ℕ) → w ≡ v → t ≡ u → record_of w t ≡ record_of v u
+item_is w v t u e f = ap (λ (x : Who). record_of x t) e ∙ ap (λ (n : ℕ). record_of v n) f
+
+-- a call was counted before
+pub takes_counted : (shows : Bool) (old new : View) (f m g : FrontEnd) → m.client ≡ f.client → course_of m ≡ course_of f → tries_of m ≡ tries_of f → TakesStep shows old new m g → TakesStep shows old new f g
+takes_counted shows old new f m g client course tries t = record {
+  came = t.came;
+  steps = subst (λ (i : Present). ClientSteps shows i old new f.client g.client t.came) (item_is (who_next (course_of m)) (who_next (course_of f)) (tries_of m) (tries_of f) (ap who_next course) tries) (subst (λ (k : Client). ClientSteps shows (present_of m) old new k g.client t.came) client t.steps);
+  goes = subst (λ (k : Course). GoesBy (tries_of f) t.came k (course_of g)) course (subst (λ (n : ℕ). GoesBy n t.came (course_of m) (course_of g)) tries t.goes);
+}
+
+-- ---- what is sent
+
+pub sends_as : (links : List Link) (who w : Who) (t u : Ts) (before left : Transaction) (s : Sending) → SendsShare links w u before left s → w ≡ who → u ≡ t → SendsShare links who t before left s
+sends_as links who w t u before left s h e f = subst (λ (x : Who). SendsShare links x t before left s) e (subst (λ (y : Ts). SendsShare links w y before left s) f h)
+
+-- of a drawn transaction
+pub sends_drawn : (item : Present) (links : List Link) (c : Contents) (who : Who) (t : Ts) (drawn left : Transaction) (s : Sending) → SendsShare links who t drawn left s → item.who ≡ who → s.request.tx ≡ t → WritesShares drawn.shares.items c → SendsDrawn item links c s left
+sends_drawn item links c who t drawn left s h e f wrote = record { drawn = drawn; sends = sends_as links item.who who s.request.tx t drawn left s h (sym e) (sym f); wrote = wrote }
+
+-- of one that the coordinator has prepared
+pub sends_more : (item : Present) (f : Client) (who : Who) (t : Ts) (at : At) (rs : List ℕ) (before left : Transaction) (s : Sending) → SendsShare f.held.links.items who t before left s → item.who ≡ who → s.request.tx ≡ t → pending_in f.phase ≡ IsPreparing at t rs left → IsSentMore item f s (IsPreparing at t rs before)
+sends_more item f who t at rs before left s h e tx now = record {
+  at = at;
+  rs = rs;
+  left = left;
+  sends = record { transaction = before; was = ap (λ (u : Ts). IsPreparing at u rs before) (sym tx); sends = sends_as f.held.links.items item.who who s.request.tx t before left s h (sym e) (sym tx) };
+  now = now ∙ ap (λ (u : Ts). IsPreparing at u rs left) (sym tx);
+}
+
+-- one more has prepared it
+module _ (item : Present) (f : Client) (s : Sending) (a z : Pending) (h : IsSentMore item f s a) where
+  pub more_pends : z ≡ noted s.at.repo (pending_in f.phase) → (prepared_at z ≡ Some (s.at, s.request.tx)) ⊎ ((prepared_at z ≡ prepared_at a) × (is_preparing a ≡ true))
+  more_pends e = inr (ap prepared_at (e ∙ ap (noted s.at.repo) h.now) ∙ sym (ap prepared_at h.sends.was), ap is_preparing h.sends.was)
+
+  pub more_prepared : z ≡ noted s.at.repo (pending_in f.phase) → HoldsThere s f.held.links.items f.held.cache.cache → PreparesSo item f.held.links.items f.held.cache.cache s a z
+  more_prepared e holds = PreparesNext h.at h.rs h.left h.sends holds (e ∙ ap (noted s.at.repo) h.now)
+
+  pub more_refused : PreparesInVain item f.held.links.items f.held.cache.cache s a
+  more_refused = RefusesNext h.at h.rs h.left h.sends
+
+-- ---- what is decided
+
+-- the verdict was told, and is handed on
+module _ (shows : Bool) (item : Present) (old new : View) (before after : Held) (z : Pending) (d e : Duties) where
+  pub decided_so : (a : Pending) (at : At) (sent : Sent) (v : Verdict) → (shows ≡ true → Does {X = Verdict} old new at.repo (Ok v) (DecideWork at.session sent.ts true (Ok v))) → NoneAwaits 8 before.links.items
+      → (transaction : Transaction) → DecidesAll a at sent.ts transaction → sent ≡ sent_of sent.ts at transaction
+      → (result : Result News NoMemory) → OnOk result (EndsSo v.commit before after) → OnOk result (z ≡ NonePending) → IfOk result (EndsAsked v.commit sent)
+      → OnOk result (e.verdicts ≡ handed v (others_in sent.participants (first_in sent.participants)) d.verdicts) → OnOk result (e.helping ≡ d.helping) → IfOk result (StepsSoIf shows item old new before after a z d e)
+  decided_so a at sent v call idle transaction all is (Ok n) ends none own verdicts helping =
+      by_decide_so shows item old new before after a z d e n at sent.ts v call idle ends (ap prepared_at all.was) none transaction all (own_of v.commit own) (λ w. record {
+        verdicts = record {
+          r = at.repo;
+          sent = sent;
+          v = v;
+          known = ByPreparing all.rs transaction (all.was ∙ ap (λ (k : At). IsPreparing k sent.ts all.rs transaction) (sym at_is)) (is ∙ ap (λ (k : At). sent_of sent.ts k transaction) (sym at_is)) (ap (λ (k : At). k.repo) (sym at_is));
+          tx = decided_tx old new at.repo sent.ts v at.session true (call w);
+          told = ToldByDecision at.session true v refl (call w);
+          behind = verdicts;
+        };
+        helping = helping;
+      })
+    where
+      at_is : sent.at ≡ at
+      at_is = ap (λ (x : Sent). x.at) is
+
+      own_of : (b : Bool) → EndsAsked b sent n → EndsOwn b sent.ts transaction n
+      own_of true h = h ∙ ap (λ (x : Sent). news.Ended (committed_as sent.ts x.meaning)) is
+      own_of false h = h
+  decided_so a at sent v call idle transaction all is (Err k) ends none own verdicts helping = tt
+
+  pub answered_so : (r : ℕ) (sent : Sent) (n : ℕ) (o : answer.Asked) (v : Verdict) → o ≡ answers.Settled v → (shows ≡ true → Does {X = answer.Asked} old new r (Ok o) (AskWork sent.ts (Ok o))) → r ≡ first_in sent.participants
+      → (result : Result News NoMemory) → OnOk result (EndsSo v.commit before after) → OnOk result (z ≡ NonePending) → IfOk result (EndsAsked v.commit sent)
+      → OnOk result (e.verdicts ≡ handed v (others_in sent.participants (first_in sent.participants)) d.verdicts) → OnOk result (e.helping ≡ d.helping) → IfOk result (StepsSoIf shows item old new before after (IsAsking sent n) z d e)
+  answered_so r sent n o v is call coordinator (Ok x) ends none own verdicts helping =
+      by_own_answer_so shows item old new before after (IsAsking sent n) z d e x r sent.ts v (answer_told shows old new r sent.ts o v is call) ends sent.at refl none sent n (record { was = refl; tx = refl; coordinator = coordinator }) own (λ w. record {
+        verdicts = record {
+          r = r;
+          sent = sent;
+          v = v;
+          known = ByAsking n refl coordinator;
+          tx = asked_tx old new r sent.ts v (answer_told shows old new r sent.ts o v is call w);
+          told = told_by shows old new r sent.ts o v is call w;
+          behind = verdicts;
+        };
+        helping = helping;
+      })
+  answered_so r sent n o v is call coordinator (Err k) ends none own verdicts helping = tt
+
+-- the verdict on an Unknown item was told, and is handed on
+pub tells_late : (old new : View) (a : Pending) (links : List Link) (r : ℕ) (sent : Sent) (index : ℕ) (v : Verdict) (before after : List Duty) → slice_get links r ≡ Some (Unsettled sent index) → v.tx ≡ sent.ts → IsToldBy old new r v.tx v.commit
+    → after ≡ handed v (others_in sent.participants (first_in sent.participants)) before → MayTell old new a links before after
+tells_late old new a links r sent index v before after there tx told behind = inr (record { r = r; sent = sent; v = v; known = ByLink index there; tx = tx; told = subst (λ (t : Ts). IsToldBy old new r t v.commit) tx told; behind = behind })
+
+-- where there is a link, it is the one that was put there
+pub put_there : (links after : List Link) (r : ℕ) (l : Link) → after ≡ at_repo links r (λ x. l) → (k : Link) → slice_get after r ≡ Some k → k ≡ l
+put_there links after r l is k there = by (slice_get links r) (sym (at_here (λ x. l) links r) ∙ (ap (λ (ls : List Link). slice_get ls r) (sym is) ∙ there))
+  where
+    by : (o : Option Link) → option_map (λ (x : Link). l) o ≡ Some k → k ≡ l
+    by None h = cc
+    by (Some x) h = sym (same_Some l k h)
+
+-- ---- behind the last step
+
+module _ (shows : Bool) (repos : ℕ) where
+  pub asks_none : (old : View) (f : FrontEnd) → AsksEach shows repos old old f f
+  asks_none old f = record { calls = []; asks = (refl, refl) }
+
+  one_more_by : (old mid new : View) (f g h : FrontEnd) (calls : List (View × FrontEnd)) → AsksBy shows repos old f calls mid g → AsksOnce shows repos mid new g h → AsksBy shows repos old f (calls ++ (new, h) ∷ []) new h
+  one_more_by old mid new f g h [] same once = (subst (λ (k : FrontEnd). AsksOnce shows repos old new k h) same.1 (subst (λ (v : View). AsksOnce shows repos v new g h) same.0 once), (refl, refl))
+  one_more_by old mid new f g h (s ∷ ss) asks once = (asks.0, one_more_by s.0 mid new s.1 g h ss asks.1 once)
+
+  pub asks_more : (old mid new : View) (f g h : FrontEnd) → AsksEach shows repos old mid f g → AsksOnce shows repos mid new g h → AsksEach shows repos old new f h
+  asks_more old mid new f g h asks once = record { calls = asks.calls ++ (new, h) ∷ []; asks = one_more_by old mid new f g h asks.calls asks.asks once }

@@ -1,0 +1,11 @@
+use Rattle.client_items.specs.declared.news.News.{News}
+use Rattle.front_end.proofs.client.Client.await_reply.Goals as goal
+use Rattle.front_end.specs.Stepping.{ClientSteps, news_in}
+use Rattle.std.proofs.Common.{subst}
+use Rattle.std.specs.Prelude.{Option}
+
+pub returns-in-Some-clause-moves : goal.returns-in-Some-clause-moves
+returns-in-Some-clause-moves g c = λ item joined. subst (λ (o : Option News). ClientSteps g.Q.Port.shows item (g.Q.Port.view c.args.port.now) (g.Q.Port.view c.receive.new.port) c.args.self.now c.receive.new.self (news_in o)) c.in-Some.is (c.in_ok-news.ensures.moves item joined)
+
+pub returns-in-None-clause-moves : goal.returns-in-None-clause-moves
+returns-in-None-clause-moves g c = λ item joined. subst (λ (o : Option News). ClientSteps g.Q.Port.shows item (g.Q.Port.view c.args.port.now) (g.Q.Port.view c.receive.new.port) c.args.self.now c.receive.new.self (news_in o)) c.in-None.is (c.in_ok-news.ensures.moves item joined)
