@@ -1,10 +1,10 @@
 use crate::literals::Literal;
-use thor_value::{NoMemory, Sequence, Shared, Text, TryCopy, both};
+use thor_value::{NoMemory, Sequence, Shared, TryCopy, Word, both};
 
 /// A name as it stands in the text.
 #[derive(Debug, Drop)]
 pub struct Name {
-    pub text: Text,
+    pub text: Word,
     /// The line on which it stands, from 1.
     pub line: u32,
 }
@@ -92,7 +92,7 @@ pub type Exprs = Shared<Sequence<Expr>>;
 impl TryCopy for Name {
     fn copy(&self) -> Result<Name, NoMemory> {
         Ok(Name {
-            text: self.text.copy()?,
+            text: self.text,
             line: self.line,
         })
     }

@@ -7,26 +7,26 @@ ghost use Rattle.class_defs.specs.Types.{class_named, class_or_untold, class_or_
 use crate::classes::{Class, Classes, Field, Fields, Method, Methods};
 use crate::expressions::{Name, TypeName};
 use crate::types::ExprType;
-use thor_value::{Text, Value, Word};
+use thor_value::{Value, Word};
 
-fn has_name(text: &Text, name: &[u8]) -> bool
-    ensures { result ≡ bytes_eq text.now name.now }
+fn has_bytes(text: &Word, bytes: &[u8]) -> bool
+    ensures { result ≡ bytes_eq text.now bytes.now }
 {
-    text.as_slice() == name
+    text.bytes() == bytes
 }
 
-fn class_place(classes: &Classes, name: &[u8]) -> Option<usize>
+fn class_place(classes: &Classes, name: &Word) -> Option<usize>
     ensures place { result ≡ position (λ c. bytes_eq c.name.text name.now) classes.now }
     ensures within { IfSome result (λ place. place < length classes.now) }
 {
     classes
         .as_slice()
         .iter()
-        .position(|class| has_name(&class.name.text, name))
+        .position(|class| class.name.text.is(name))
 }
 
 /// The number of the first class with this name.
-pub fn class_named(classes: &Classes, name: &[u8]) -> Option<u16>
+pub fn class_named(classes: &Classes, name: &Word) -> Option<u16>
     requires { length classes.now ≤ 65536 }
     ensures { result ≡ class_named classes.now name.now }
 {
@@ -41,7 +41,7 @@ pub fn class_type(classes: &Classes, name: &Name) -> ExprType
     requires { length classes.now ≤ 65536 }
     ensures { result ≡ class_or_untold (class_named classes.now name.now.text) }
 {
-    match class_named(classes, name.text.as_slice()) {
+    match class_named(classes, &name.text) {
         Some(class) => ExprType::Class(class),
         None => ExprType::Untold,
     }
@@ -52,10 +52,10 @@ pub fn word_type(classes: &Classes, word: &Name) -> ExprType
     requires { length classes.now ≤ 65536 }
     ensures { result ≡ class_or_word word.now.text (class_named classes.now word.now.text) }
 {
-    match class_named(classes, word.text.as_slice()) {
+    match class_named(classes, &word.text) {
         Some(class) => ExprType::Class(class),
         None => {
-            if has_name(&word.text, b"text") {
+            if has_bytes(&word.text, b"text") {
                 ExprType::Text
             } else {
                 ExprType::Untold
@@ -68,10 +68,10 @@ pub fn word_type(classes: &Classes, word: &Name) -> ExprType
 fn first_of_word(classes: &Classes, word: &Name) -> Value
     ensures { result ≡ beginning (class_or_word word.now.text (class_named classes.now word.now.text)) }
 {
-    match class_place(classes, word.text.as_slice()) {
+    match class_place(classes, &word.text) {
         Some(_) => Value::Null,
         None => {
-            if has_name(&word.text, b"text") {
+            if has_bytes(&word.text, b"text") {
                 Value::Text(Word::empty())
             } else {
                 Value::Null
@@ -102,31 +102,31 @@ pub fn type_named(classes: &Classes, type_name: &TypeName) -> ExprType
 }
 
 /// The place among its fields of the first field of a class with this name.
-pub fn field_named(fields: &Fields, name: &[u8]) -> Option<usize>
+pub fn field_named(fields: &Fields, name: &Word) -> Option<usize>
     ensures { result ≡ position (λ f. bytes_eq f.name.text name.now) fields.now }
 {
     fields
         .as_slice()
         .iter()
-        .position(|field| has_name(&field.name.text, name))
+        .position(|field| field.name.text.is(name))
 }
 
 /// The first field with this name.
-pub fn field_of<'a>(fields: &'a Fields, name: &[u8]) -> Option<&'a Field>
+pub fn field_of<'a>(fields: &'a Fields, name: &Word) -> Option<&'a Field>
     ensures { option_copied result ≡ find (λ f. bytes_eq f.name.text name.now) fields.now }
 {
     fields
         .as_slice()
         .iter()
-        .find(|field| has_name(&field.name.text, name))
+        .find(|field| field.name.text.is(name))
 }
 
 /// The first method with this name.
-pub fn method_of<'a>(methods: &'a Methods, name: &[u8]) -> Option<&'a Method>
+pub fn method_of<'a>(methods: &'a Methods, name: &Word) -> Option<&'a Method>
     ensures { option_copied result ≡ find (λ m. bytes_eq m.name.text name.now) methods.now }
 {
     methods
         .as_slice()
         .iter()
-        .find(|method| has_name(&method.name.text, name))
+        .find(|method| method.name.text.is(name))
 }

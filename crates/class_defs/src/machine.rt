@@ -1,6 +1,8 @@
 use crate::store::Object;
 use crate::types::ExprType;
-use thor_value::{Fault, Ints, NoMemory, Oref, OrefMap, Orefs, Sequence, Text, TryCopy, Value};
+use thor_value::{
+    Fault, Ints, NoMemory, Oref, OrefMap, OrefSet, Orefs, Sequence, TryCopy, Value, Word,
+};
 
 /// Why a run stopped before its end.
 #[derive(Debug, Drop)]
@@ -27,7 +29,7 @@ pub struct Receiver {
 /// A local or a parameter of the body that runs.
 #[derive(Debug, Drop)]
 pub struct Local {
-    pub name: Text,
+    pub name: Word,
     /// Its declared type.
     pub kind: ExprType,
     pub value: Value,
@@ -59,7 +61,7 @@ pub struct Machine {
     /// The locals and parameters of the body that runs.
     pub locals: Locals,
     /// The objects that became receivers and weren't created by this transaction.
-    pub reads: OrefMap<()>,
+    pub reads: OrefSet,
     /// The objects that were assigned to or created, as they are now.
     pub writes: OrefMap<Object>,
     /// The names of the objects created, in order.

@@ -1,5 +1,5 @@
 use crate::types::ExprType;
-use thor_value::{NoMemory, Sequence, Text, TryCopy};
+use thor_value::{NoMemory, Sequence, TryCopy, Word};
 
 /// A rule of the language, by the word that the program prints for it: T1 to T9 are rules on classes, roots,
 /// transactions and events, O1 to O7 rules on upgrades. The lesser of two is the one that comes first here.
@@ -63,7 +63,7 @@ pub enum Position {
 /// A local or parameter in sight, with its declared type.
 #[derive(Debug, Drop)]
 pub struct NamedType {
-    pub name: Text,
+    pub name: Word,
     pub kind: ExprType,
 }
 
@@ -73,7 +73,7 @@ pub type NamedTypes = Sequence<NamedType>;
 impl TryCopy for NamedType {
     fn copy(&self) -> Result<NamedType, NoMemory> {
         Ok(NamedType {
-            name: self.name.copy()?,
+            name: self.name,
             kind: self.kind,
         })
     }

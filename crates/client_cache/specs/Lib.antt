@@ -1,6 +1,5 @@
 pub mod Copies
 pub mod Looks
-pub mod NameLists
 pub mod Pages
 pub mod Placing
 pub mod Slots

@@ -1,15 +1,14 @@
 ghost use Rattle.std.specs.BTreeMap.{is_at};
 ghost use Rattle.std.specs.BTreeSet.{insert_key};
 ghost use Rattle.std.specs.List.{filter, list_any};
-ghost use Rattle.std.specs.Prelude.{◌≡◌, ◌<◌, ◌↔◌, ◌++◌, ◌∷◌, [], cond, false, true, length, IfErr, IfOk, IfSome, IsTrue, MatchOption, OnErr, OnOk, nat_eq, not, slice_get};
+ghost use Rattle.std.specs.Prelude.{◌≡◌, ◌<◌, ◌↔◌, ◌++◌, ◌∷◌, [], cond, false, true, length, IfSome, IsTrue, MatchOption, OnErr, OnOk, nat_eq, not, slice_get};
 ghost use Rattle.thor_value.specs.Names.{oref_cmp};
 ghost use Rattle.thor_value.specs.declared.names.Oref.{Oref};
-ghost use Rattle.client_cache.specs.NameLists.{IsBehind, IsGap, IsThere, Rise};
 ghost use Rattle.client_cache.specs.Pages.{same_name};
 
 use std::alloc::Global;
 use std::marker::Model;
-use thor_value::{NoMemory, Oref, Orefs};
+use thor_value::{NoMemory, Oref, Orefs, comes_last, place_of};
 
 /// Names of objects, which contracts see as a list that rises. They stand in one piece of memory, which is kept as names
 /// come and go.
@@ -20,7 +19,7 @@ pub struct NameSet {
 
 impl Model for NameSet {
     ghost use Rattle.std.specs.Prelude.{List};
-    ghost use Rattle.client_cache.specs.NameLists.{Rise};
+    ghost use Rattle.thor_value.specs.Rising.{Rise};
     ghost use Rattle.thor_value.specs.declared.names.Oref.{Oref};
 
     ghost Value = { List Oref };
@@ -28,26 +27,6 @@ impl Model for NameSet {
     ghost view = { λ s. s.names.items };
 
     ghost invariant = { λ s. Rise s.names.items };
-}
-
-/// The place of a name, or the one where it would stand.
-fn place(names: &[Oref], oref: Oref) -> Result<usize, usize>
-    requires { Rise names.now }
-    ensures found { IfOk result (λ at. IsThere names.now oref at) }
-    ensures absent { IfErr result (λ at. IsGap names.now oref at) }
-{
-    names.binary_search(&oref)
-}
-
-/// Whether a name comes behind the last of these, or there is none.
-fn is_behind(names: &[Oref], oref: Oref) -> bool
-    requires { Rise names.now }
-    ensures { IsTrue result → IsBehind names.now oref }
-{
-    match names.last() {
-        None => true,
-        Some(last) => last.cmp(&oref).is_lt(),
-    }
 }
 
 impl NameSet {
@@ -81,11 +60,11 @@ impl NameSet {
         ensures has { OnOk result ((x : Oref) → list_any (is_at (oref_cmp x)) self.new ≡ cond (is_at (oref_cmp oref) x) true (list_any (is_at (oref_cmp x)) self.old)) }
         ensures err { OnErr result (self.new ≡ self.old) }
     {
-        if is_behind(self.names.as_slice(), oref) {
+        if comes_last(self.names.as_slice(), oref) {
             self.names.push(oref)?;
             return Ok(());
         }
-        match place(self.names.as_slice(), oref) {
+        match place_of(self.names.as_slice(), oref) {
             Ok(_) => {}
             Err(at) => self.names.insert(at, oref)?,
         }
@@ -105,7 +84,7 @@ impl NameSet {
     pub fn remove(&mut self, oref: Oref)
         ensures { self.new ≡ filter (λ x. not (same_name oref x)) self.old }
     {
-        match place(self.names.as_slice(), oref) {
+        match place_of(self.names.as_slice(), oref) {
             Ok(at) => {
                 self.names.remove(at);
             }

@@ -15,7 +15,7 @@ ghost use Rattle.thor_value.specs.declared.names.Oref.{Oref};
 use crate::link::Link;
 use client_items::Meaning;
 use session_outbox::At;
-use thor_value::{Answer, NoMemory, Obj, Oref, OrefMap, Orefs, Repos, Sequence, Text, Ts, Writes};
+use thor_value::{Answer, NoMemory, Obj, Oref, OrefSet, Orefs, Repos, Sequence, Text, Ts, Writes};
 
 /// What one participant is sent of a transaction.
 #[derive(Drop)]
@@ -299,14 +299,14 @@ fn read_or_created(reads: Orefs, fresh: &Orefs) -> Result<Orefs, NoMemory> {
         return Ok(reads);
     }
     let alloc = reads.allocator();
-    let mut names = OrefMap::new(alloc);
+    let mut names = OrefSet::new(alloc);
     for oref in reads.as_slice() {
-        names.insert(*oref, ())?;
+        names.insert(*oref)?;
     }
     for oref in fresh.as_slice() {
-        names.insert(*oref, ())?;
+        names.insert(*oref)?;
     }
-    names.names(alloc)
+    Ok(names.into_names())
 }
 
 /// Parts what was read or created, and what was written, by repositories. Where nothing was, repository 0

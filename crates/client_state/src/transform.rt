@@ -11,7 +11,9 @@ use method_eval::{Names, View};
 use session_outbox::At;
 use std::alloc::Global;
 use std::mem;
-use thor_value::{Answer, NoMemory, Obj, Oref, OrefMap, Orefs, Sequence, TryCopy, Ts, Who};
+use thor_value::{
+    Answer, NoMemory, Obj, Oref, OrefMap, OrefSet, Orefs, Sequence, TryCopy, Ts, Who,
+};
 
 /// A due object, and what its transform functions have looked at so far.
 #[derive(Drop)]
@@ -122,18 +124,18 @@ impl Transform {
     /// What it reads in the object's repository, rising: the object, the parts that were wanted, and
     /// the owners.
     fn ros(&self, alloc: Global, parts: &Orefs) -> Result<Orefs, NoMemory> {
-        let mut names = OrefMap::new(alloc);
-        names.insert(self.oref, ())?;
+        let mut names = OrefSet::new(alloc);
+        names.insert(self.oref)?;
         insert_of(&mut names, self.oref.repo, parts)?;
         insert_of(&mut names, self.oref.repo, &self.owners)?;
-        names.names(alloc)
+        Ok(names.into_names())
     }
 }
 
-fn insert_of(names: &mut OrefMap<()>, repo: u8, orefs: &Orefs) -> Result<(), NoMemory> {
+fn insert_of(names: &mut OrefSet, repo: u8, orefs: &Orefs) -> Result<(), NoMemory> {
     for oref in orefs.as_slice() {
         if oref.repo == repo {
-            names.insert(*oref, ())?;
+            names.insert(*oref)?;
         }
     }
     Ok(())

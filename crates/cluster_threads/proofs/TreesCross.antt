@@ -3,6 +3,7 @@ use denote.Param.Send.{IsSend, IsSync, sendable}
 use Rattle.thor_value.proofs.boxed.Boxed.TheSendSync as boxed
 use Rattle.thor_value.proofs.sequence.Sequence.TheSendSync as sequence
 use Rattle.thor_value.proofs.shared.Shared.TheSendSync as shared
+use Rattle.thor_value.proofs.words.Word.TheSendSync as word
 use Rattle.class_defs.proofs.expressions.Expr.TheLaws.TheKnot as expr
 use Rattle.class_defs.proofs.literals.Literal.TheSendSync as literal
 use Rattle.class_defs.proofs.statements.Stmt.TheLaws.TheKnot as stmt
@@ -23,7 +24,7 @@ use Rattle.class_defs.specs.contracts.store.RootDeclaration as RootDeclaration
 use Rattle.class_defs.specs.contracts.store.Schema as Schema
 use Rattle.class_defs.specs.contracts.store.Schemas as Schemas
 
-ruleset base = (sequence.the_send, sequence.the_sync, boxed.the_send, boxed.the_sync, shared.the_send, shared.the_sync, sendable)
+ruleset base = (sequence.the_send, sequence.the_sync, boxed.the_send, boxed.the_sync, shared.the_send, shared.the_sync, word.the_field_send, word.the_field_sync, sendable)
 
 pub name_send : IsSend (Name.the_field).row
 name_send = search base depth 30

@@ -22,7 +22,7 @@ use method_eval::{
     type_named, type_of,
 };
 use std::mem;
-use thor_value::{Fault, Oref, Value, Values};
+use thor_value::{Fault, Oref, Value, Values, Word};
 
 /// A value is given to what waits on the top.
 pub fn give<'a>(value: Value) -> Result<Next<'a>, Halt>
@@ -70,10 +70,10 @@ fn first_of_node<'a>(
             Some(this) => Value::Ref(this.oref),
             None => Value::Null,
         }),
-        Expr::Field { name } => give(field_value(world, machine, name.text.as_slice())),
-        Expr::Variable { name } => give(named_value(&world.program, machine, name.text.as_slice())),
+        Expr::Field { name } => give(field_value(world, machine, &name.text)),
+        Expr::Variable { name } => give(named_value(&world.program, machine, &name.text)),
         Expr::New { class, at } => Ok(Next::Create {
-            class: class.text.as_slice(),
+            class: &class.text,
             at: *at,
         }),
         Expr::Parens {
@@ -106,7 +106,7 @@ fn first_of_node<'a>(
             arguments,
         } => {
             let kind = type_of(&world.program, machine, receiver.get());
-            let method = method.text.as_slice();
+            let method = &method.text;
             let waiting = Waiting::Callee {
                 nested: inner,
                 kind,
@@ -182,7 +182,7 @@ fn first_of_statement<'a>(
             line: _,
             value,
         } => {
-            let name = name.text.as_slice();
+            let name = &name.text;
             evaluate_for(stack, Waiting::Assign { name }, inner, value)
         }
         Stmt::FieldAssign {
@@ -190,7 +190,7 @@ fn first_of_statement<'a>(
             line: _,
             value,
         } => {
-            let field = field.text.as_slice();
+            let field = &field.text;
             evaluate_for(stack, Waiting::FieldAssign { field }, inner, value)
         }
         Stmt::Return { value } => evaluate_for(stack, Waiting::Return, inner, value),
@@ -286,7 +286,7 @@ pub fn enter<'a>(
     inner: u32,
     class: u16,
     oref: Oref,
-    name: &'a [u8],
+    name: &'a Word,
     arguments: &Values,
 ) -> Result<Next<'a>, Halt>
     ensures { Moves result stack.new machine.new (spec.enters (reading world.now) inner class oref name.now arguments.now (frames stack.old) machine.old) }
@@ -315,7 +315,7 @@ pub fn ready<'a>(
     inner: u32,
     kind: ExprType,
     target: Value,
-    method: &'a [u8],
+    method: &'a Word,
     arguments: Values,
 ) -> Result<Next<'a>, Halt>
     ensures { (fs : List Waiting) → (m : Machine) → Moves result fs m (spec.ready inner kind target method.now arguments (frames fs) m) }

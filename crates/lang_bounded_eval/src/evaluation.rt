@@ -13,7 +13,7 @@ use class_defs::{Block, Flow, Machine, Object, Schema, Stop};
 use method_eval::{Halt, Program, Ran, View, World};
 use std::alloc::Global;
 use thor_value::{
-    Answer, Fault, Ints, NoMemory, Obj, Oref, OrefMap, Orefs, Sequence, Writes, both,
+    Answer, Fault, Ints, NoMemory, Obj, Oref, OrefMap, OrefSet, Orefs, Sequence, Writes,
 };
 
 pub(crate) fn begun(alloc: Global, view: &View) -> Result<Machine, NoMemory>
@@ -24,7 +24,7 @@ pub(crate) fn begun(alloc: Global, view: &View) -> Result<Machine, NoMemory>
         depth: 0,
         this: None,
         locals: Sequence::new(alloc),
-        reads: OrefMap::new(alloc),
+        reads: OrefSet::new(alloc),
         writes: OrefMap::new(alloc),
         created: Orefs::new(alloc),
         printed: Ints::new(alloc),
@@ -73,14 +73,12 @@ fn stored_at(alloc: Global, epoch: u32, written: OrefMap<Object>) -> Result<Writ
 fn done(alloc: Global, epoch: u32, machine: Machine) -> Result<Ran, NoMemory>
     ensures { IfOk result (λ ran. ran ≡ Ran.Done (Answer.Ints machine.printed) (keys machine.reads) (stored_at epoch machine.writes.pairs) machine.created) }
 {
-    let reads = machine.reads.names(alloc);
-    let (machine, reads) = both(machine, reads)?;
     let Machine {
         steps: _,
         depth: _,
         this,
         locals,
-        reads: read,
+        reads,
         writes,
         created,
         printed,
@@ -88,25 +86,46 @@ fn done(alloc: Global, epoch: u32, machine: Machine) -> Result<Ran, NoMemory>
     } = machine;
     drop(this);
     drop(locals);
-    drop(read);
     drop(names);
     Ok(Ran::Done {
         answer: Answer::Ints(printed),
-        reads,
+        reads: reads.into_names(),
         writes: stored_at(alloc, epoch, writes)?,
         fresh: created,
     })
+}
+
+/// The names that a run has read, rising.
+fn names_read(machine: Machine) -> Orefs
+    ensures { result ≡ keys machine.reads }
+{
+    let Machine {
+        steps: _,
+        depth: _,
+        this,
+        locals,
+        reads,
+        writes,
+        created,
+        printed,
+        names,
+    } = machine;
+    drop(this);
+    drop(locals);
+    drop(writes);
+    drop(created);
+    drop(printed);
+    drop(names);
+    reads.into_names()
 }
 
 /// What a run gives that ended with a fault.
 fn failed(alloc: Global, fault: Fault, machine: Machine) -> Result<Ran, NoMemory>
     ensures { IfOk result (λ ran. ran ≡ Ran.Done (Answer.Fault fault) (keys machine.reads) [] []) }
 {
-    let reads = machine.reads.names(alloc);
-    drop(machine);
     Ok(Ran::Done {
         answer: Answer::Fault(fault),
-        reads: reads?,
+        reads: names_read(machine),
         writes: Writes::new(alloc),
         fresh: Orefs::new(alloc),
     })

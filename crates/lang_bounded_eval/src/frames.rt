@@ -1,7 +1,7 @@
 //! What is left of an evaluation that goes by small steps: what is done next, and what waits behind it. The text is borrowed.
 
 use class_defs::{At, Block, Expr, ExprType, Exprs, Flow, Locals, Operator, Receiver, Stmt};
-use thor_value::{Oref, Text, Value, Values};
+use thor_value::{Oref, Value, Values, Word};
 
 /// What is done next.
 #[derive(Drop)]
@@ -18,7 +18,7 @@ pub enum Next<'a> {
     },
     /// A new object is made.
     Create {
-        class: &'a [u8],
+        class: &'a Word,
         at: Option<At>,
     },
     /// A call whose parts are evaluated begins.
@@ -27,7 +27,7 @@ pub enum Next<'a> {
         /// The number of the class of the receiver's type.
         class: u16,
         oref: Oref,
-        method: &'a [u8],
+        method: &'a Word,
         arguments: Values,
     },
     /// What waits on the top is given this. A value counts as returned.
@@ -57,7 +57,7 @@ pub enum Waiting<'a> {
         nested: u32,
         /// The receiver's type.
         kind: ExprType,
-        method: &'a [u8],
+        method: &'a Word,
         arguments: &'a Exprs,
     },
     /// An argument is given; these stand behind it.
@@ -65,7 +65,7 @@ pub enum Waiting<'a> {
         nested: u32,
         kind: ExprType,
         target: Value,
-        method: &'a [u8],
+        method: &'a Word,
         done: Values,
         rest: &'a [Expr],
     },
@@ -79,13 +79,13 @@ pub enum Waiting<'a> {
     },
     Declare {
         kind: ExprType,
-        name: &'a Text,
+        name: &'a Word,
     },
     Assign {
-        name: &'a [u8],
+        name: &'a Word,
     },
     FieldAssign {
-        field: &'a [u8],
+        field: &'a Word,
     },
     Return,
     /// The condition of an `if` without `else` is given.

@@ -15,7 +15,7 @@ use class_defs::{
 };
 use lang_small_steps::Stack;
 use method_eval::{Halt, World, assign_field, assign_local, declare, fault, holds, take_step};
-use thor_value::{Fault, NoMemory, Value, Values};
+use thor_value::{Fault, NoMemory, Value, Values, Word};
 
 /// The value that was given.
 pub fn given(flow: Flow) -> Value
@@ -54,7 +54,7 @@ fn collect<'a>(
     inner: u32,
     kind: ExprType,
     target: Value,
-    method: &'a [u8],
+    method: &'a Word,
     done: Values,
     rest: &'a [Expr],
 ) -> Result<Next<'a>, Halt>

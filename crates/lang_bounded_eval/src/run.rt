@@ -14,7 +14,7 @@ use method_eval::{
     method_of, named_value, owners_at, result_of, take_step, touch, type_named, type_of,
 };
 use std::mem;
-use thor_value::{Fault, Oref, Value, Values};
+use thor_value::{Fault, Oref, Value, Values, Word};
 
 /// The value of an expression, where nodes at most `nested` deep may stand inside one another. Down to `RECURSION_END` they
 /// are evaluated by plain recursion, and what stands deeper by small steps.
@@ -60,9 +60,9 @@ fn node(world: &World<'_>, inner: u32, machine: &mut Machine, expr: &Expr) -> Re
             Some(this) => Value::Ref(this.oref),
             None => Value::Null,
         }),
-        Expr::Field { name } => Ok(field_value(world, machine, name.text.as_slice())),
-        Expr::Variable { name } => Ok(named_value(&world.program, machine, name.text.as_slice())),
-        Expr::New { class, at } => create(world, machine, class.text.as_slice(), *at),
+        Expr::Field { name } => Ok(field_value(world, machine, &name.text)),
+        Expr::Variable { name } => Ok(named_value(&world.program, machine, &name.text)),
+        Expr::New { class, at } => create(world, machine, &class.text, *at),
         Expr::Parens {
             inner: part,
             line: _,
@@ -90,7 +90,7 @@ fn node(world: &World<'_>, inner: u32, machine: &mut Machine, expr: &Expr) -> Re
             inner,
             machine,
             receiver.get(),
-            method.text.as_slice(),
+            &method.text,
             arguments,
         ),
     }
@@ -121,7 +121,7 @@ fn called(
     inner: u32,
     machine: &mut Machine,
     receiver: &Expr,
-    method: &[u8],
+    method: &Word,
     arguments: &Exprs,
 ) -> Result<Value, Halt>
     ensures { Does result machine.new (called (reading world.now) inner receiver.now method.now arguments.now machine.old) }
@@ -145,7 +145,7 @@ fn call_object(
     machine: &mut Machine,
     class: u16,
     oref: Oref,
-    method: &[u8],
+    method: &Word,
     arguments: Values,
 ) -> Result<Value, Halt>
     ensures { Does result machine.new (call_object (reading world.now) inner class oref method.now arguments machine.old) }
@@ -277,7 +277,7 @@ fn statement(
         } => {
             take_step(machine)?;
             let value = value_of(world, inner, machine, value)?;
-            assign_local(&mut machine.locals, name.text.as_slice(), value);
+            assign_local(&mut machine.locals, &name.text, value);
             Ok(Flow::Next)
         }
         Stmt::FieldAssign {
@@ -287,7 +287,7 @@ fn statement(
         } => {
             take_step(machine)?;
             let value = value_of(world, inner, machine, value)?;
-            assign_field(world, machine, field.text.as_slice(), value)?;
+            assign_field(world, machine, &field.text, value)?;
             Ok(Flow::Next)
         }
         Stmt::Return { value } => {

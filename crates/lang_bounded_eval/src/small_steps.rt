@@ -15,7 +15,7 @@ use crate::giving::{given, pop};
 use class_defs::{At, Expr, Flow, Machine, Stmt};
 use lang_small_steps::Stack;
 use method_eval::{Halt, World, create, fault};
-use thor_value::{Fault, Value};
+use thor_value::{Fault, Value, Word};
 
 /// More small steps than any run makes: each step pays for at most six.
 const SMALL_STEPS: u32 = 700_000;
@@ -57,7 +57,7 @@ fn make<'a>(
     world: &World<'a>,
     machine: &mut Machine,
     stack: &Stack<Waiting<'a>>,
-    class: &'a [u8],
+    class: &'a Word,
     at: Option<At>,
 ) -> Result<Next<'a>, Halt>
     ensures { Moves result stack.now machine.new (move (reading world.now) (doing.Create class.now at) (frames stack.now) machine.old) }

@@ -1,6 +1,6 @@
 use crate::syntax::{SharedBlock, SharedExprs, SharedStmt};
 use class_defs::{At, Expr, ExprType, Flow, Locals, Operator, Receiver};
-use thor_value::{Oref, Text, Value, Values};
+use thor_value::{Oref, Value, Values, Word};
 
 /// What is done next.
 #[derive(Drop)]
@@ -17,7 +17,7 @@ pub enum Doing {
     },
     /// A new object is made; a name may be needed.
     Create {
-        class: Text,
+        class: Word,
         at: Option<At>,
     },
     /// A call whose parts are evaluated begins; its object may be needed.
@@ -26,7 +26,7 @@ pub enum Doing {
         /// The number of the class of the receiver's type.
         class: u16,
         oref: Oref,
-        method: Text,
+        method: Word,
         arguments: Values,
     },
     /// The frame on the top is given what it waits for. A value counts as returned.
@@ -56,7 +56,7 @@ pub enum Frame {
         nested: u32,
         /// The receiver's type.
         kind: ExprType,
-        method: Text,
+        method: Word,
         arguments: SharedExprs,
     },
     /// An argument is given; these stand behind it.
@@ -64,7 +64,7 @@ pub enum Frame {
         nested: u32,
         kind: ExprType,
         target: Value,
-        method: Text,
+        method: Word,
         done: Values,
         rest: SharedExprs,
     },
@@ -78,13 +78,13 @@ pub enum Frame {
     },
     Declare {
         kind: ExprType,
-        name: Text,
+        name: Word,
     },
     Assign {
-        name: Text,
+        name: Word,
     },
     FieldAssign {
-        field: Text,
+        field: Word,
     },
     Return,
     /// The condition of an `if` without `else` is given.

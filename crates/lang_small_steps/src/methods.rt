@@ -15,7 +15,7 @@ use class_defs::{
 };
 use std::alloc::Global;
 use std::marker::Model;
-use thor_value::{NoMemory, Sequence, TryCopy, Values};
+use thor_value::{NoMemory, Sequence, TryCopy, Values, Word};
 
 /// A method whose body has several owners, with the types that its words name. Contracts see it as that method, and these
 /// beside it.
@@ -80,10 +80,10 @@ impl SharedMethod {
     }
 
     /// Whether this is its name.
-    fn is_named(&self, name: &[u8]) -> bool
+    fn is_named(&self, name: &Word) -> bool
         ensures { result ≡ bytes_eq self.now.method.name.text name.now }
     {
-        self.name.text.as_slice() == name
+        self.name.text.is(name)
     }
 }
 
@@ -151,7 +151,7 @@ fn upgraded_methods(
 }
 
 /// The first method with this name.
-fn method_named<'a>(methods: &'a SharedMethods, name: &[u8]) -> Option<&'a SharedMethod>
+fn method_named<'a>(methods: &'a SharedMethods, name: &Word) -> Option<&'a SharedMethod>
     ensures { option_copied result ≡ find (λ m. bytes_eq m.method.name.text name.now) methods.now }
 {
     methods
@@ -164,7 +164,7 @@ fn method_named<'a>(methods: &'a SharedMethods, name: &[u8]) -> Option<&'a Share
 pub fn shared_method<'a>(
     methods: &'a ClassMethods,
     class: u16,
-    name: &[u8],
+    name: &Word,
 ) -> Option<&'a SharedMethod>
     ensures { option_copied result ≡ option_and_then (λ ms. find (λ m. bytes_eq m.method.name.text name.now) ms) (slice_get methods.now class) }
 {

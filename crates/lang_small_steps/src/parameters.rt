@@ -47,18 +47,18 @@ pub fn typed_parameters(
 }
 
 /// A parameter with its argument; one that is missing begins as a field does.
-fn local_of(parameter: &TypedParameter, argument: Option<&Value>) -> Result<Local, NoMemory>
-    ensures { IfOk result (λ local. local ≡ local_of parameter.now (option_copied argument.entry)) }
+fn local_of(parameter: &TypedParameter, argument: Option<&Value>) -> Local
+    ensures { result ≡ local_of parameter.now (option_copied argument.entry) }
 {
     let value = match argument {
         Some(value) => *value,
         None => beginning(parameter.kind),
     };
-    Ok(Local {
-        name: parameter.declared.name.text.copy()?,
+    Local {
+        name: parameter.declared.name.text,
         kind: parameter.kind,
         value,
-    })
+    }
 }
 
 /// The parameters with their arguments.
@@ -71,7 +71,7 @@ pub fn locals_of(
 {
     let mut locals = Locals::new(alloc);
     for (place, parameter) in parameters.as_slice().iter().enumerate() {
-        locals.push(local_of(parameter, arguments.get(place))?)?;
+        locals.push(local_of(parameter, arguments.get(place)))?;
     }
     Ok(locals)
 }

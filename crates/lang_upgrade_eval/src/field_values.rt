@@ -25,7 +25,7 @@ fn field_of_object(classes: &Classes, object: &Object, name: &Name) -> Option<Va
     ensures { result ≡ field_of_object classes.now object.now name.now.text }
 {
     match classes.get(object.class as usize) {
-        Some(class) => match class_defs::field_named(&class.fields, name.text.as_slice()) {
+        Some(class) => match class_defs::field_named(&class.fields, &name.text) {
             Some(place) => object.fields.get(place).copied(),
             None => None,
         },

@@ -17,7 +17,7 @@ use thor_value::{NoMemory, Sequence, Value, Values};
 fn same_text(first: &Name, second: &Name) -> bool
     ensures { result ≡ bytes_eq first.now.text second.now.text }
 {
-    first.text.as_slice() == second.text.as_slice()
+    first.text.is(&second.text)
 }
 
 /// What an upgrade says of a class of this name.
@@ -76,7 +76,7 @@ fn value_for_word(classes: &Classes, word: &Name, value: Option<Value>) -> Value
 {
     if is_class(classes, word) {
         name_or_null(value)
-    } else if word.text.as_slice() == b"text".as_slice() {
+    } else if word.text.bytes() == b"text".as_slice() {
         fitted_or_beginning(ExprType::Text, value)
     } else {
         fitted_or_beginning(ExprType::Untold, value)

@@ -13,17 +13,17 @@ use crate::wanted::Wanted;
 use class_defs::{Object, Schemas};
 use method_eval::View;
 use std::alloc::Global;
-use thor_value::{NoMemory, Obj, Oref, OrefMap, Orefs};
+use thor_value::{NoMemory, Obj, Oref, OrefMap, OrefSet, Orefs};
 
 /// Puts a name behind those that were seen, where it isn't among them.
 #[tactic(auto, using(std::proofs::Common::append_assoc))]
-fn push_unseen(name: Oref, seen: &mut OrefMap<()>, once: &mut Orefs) -> Result<(), NoMemory>
+fn push_unseen(name: Oref, seen: &mut OrefSet, once: &mut Orefs) -> Result<(), NoMemory>
     ensures { OnOk result ((rest : List Oref) → once.new ++ unseen seen.new rest ≡ once.old ++ unseen seen.old (name ∷ rest)) }
 {
     if seen.contains(name) {
         return Ok(());
     }
-    seen.insert(name, ())?;
+    seen.insert(name)?;
     once.push(name)
 }
 
@@ -31,7 +31,7 @@ fn push_unseen(name: Oref, seen: &mut OrefMap<()>, once: &mut Orefs) -> Result<(
 fn each_once(alloc: Global, names: &Orefs) -> Result<Orefs, NoMemory>
     ensures { IfOk result (λ once. once ≡ each_once names.now) }
 {
-    let mut seen = OrefMap::new(alloc);
+    let mut seen = OrefSet::new(alloc);
     let mut once = Orefs::new(alloc);
     for name in names.as_slice() {
         push_unseen(*name, &mut seen, &mut once)?;

@@ -208,6 +208,6 @@ pub fn declare(
     ensures { OnOk result (locals.new ≡ locals.old ++ record { name = name.now.text; kind = types.type_named body.now.schema.now.classes type_name.now } ∷ []) }
 {
     let kind = type_named(&body.schema.classes, type_name);
-    let name = name.text.copy()?;
+    let name = name.text;
     locals.push(NamedType { name, kind })
 }

@@ -128,7 +128,7 @@ pub fn field_in_sight<'a>(body: &Body<'a>, name: &Name) -> Option<&'a Field>
 {
     match body.this {
         Some(class) => match body.schema.classes.get(class as usize) {
-            Some(found) => class_defs::field_of(&found.fields, name.text.as_slice()),
+            Some(found) => class_defs::field_of(&found.fields, &name.text),
             None => None,
         },
         None => None,
@@ -152,7 +152,7 @@ pub fn local_named<'a>(locals: &'a NamedTypes, name: &Name) -> Option<&'a NamedT
     locals
         .as_slice()
         .iter()
-        .find(|local| local.name.as_slice() == name.text.as_slice())
+        .find(|local| local.name.is(&name.text))
 }
 
 /// The root with this name; in a method none can be named.
@@ -170,7 +170,7 @@ pub fn root_named<'a>(
             .roots
             .as_slice()
             .iter()
-            .find(|root| root.name.text.as_slice() == name.text.as_slice()),
+            .find(|root| root.name.text.is(&name.text)),
     }
 }
 
@@ -197,7 +197,7 @@ pub fn method_called<'a>(
 {
     match receiver {
         ExprType::Class(class) => match classes.get(class as usize) {
-            Some(found) => class_defs::method_of(&found.methods, name.text.as_slice()),
+            Some(found) => class_defs::method_of(&found.methods, &name.text),
             None => None,
         },
         ExprType::Int | ExprType::Text | ExprType::Null | ExprType::Untold => None,

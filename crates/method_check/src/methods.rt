@@ -46,13 +46,13 @@ fn body_names(alloc: Global, method: &Method, found: &mut Option<RuleFault>) -> 
     stand_once(alloc, &names, 0, found)
 }
 
-fn parameter_named(classes: &Classes, parameter: &Parameter) -> Result<NamedType, NoMemory>
+fn parameter_named(classes: &Classes, parameter: &Parameter) -> NamedType
     requires { length classes.now ≤ 65536 }
-    ensures { IfOk result (λ named. named ≡ spec.parameter_named classes.now parameter.now) }
+    ensures { result ≡ spec.parameter_named classes.now parameter.now }
 {
     let kind = type_named(classes, &parameter.type_name);
-    let name = parameter.name.text.copy()?;
-    Ok(NamedType { name, kind })
+    let name = parameter.name.text;
+    NamedType { name, kind }
 }
 
 /// The parameters, as they are in sight in the body.
@@ -66,7 +66,7 @@ fn parameters_named(
 {
     let mut locals = NamedTypes::new(alloc);
     for parameter in parameters {
-        locals.push(parameter_named(classes, parameter)?)?;
+        locals.push(parameter_named(classes, parameter))?;
     }
     Ok(locals)
 }

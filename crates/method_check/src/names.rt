@@ -68,21 +68,25 @@ pub fn names_in(block: &Block, names: &mut Names) -> Result<(), NoMemory>
 type Seen = HashSet<Vec<u8>>;
 
 /// Puts a name among those that were seen, and answers whether it is new.
-fn is_new(seen: &mut Seen, name: &Name) -> Result<bool, NoMemory>
+fn is_new(alloc: Global, seen: &mut Seen, name: &Name) -> Result<bool, NoMemory>
     ensures new { IfOk result (λ new. (earlier : List Name) → Has seen.old earlier → new ≡ not (list_any (λ m. bytes_eq m.text name.now.text) earlier)) }
     ensures seen { OnOk result ((earlier : List Name) → Has seen.old earlier → Has seen.new (earlier ++ name.now ∷ [])) }
 {
-    let alloc = name.text.allocator();
-    let text = Vec::from_slice(alloc, name.text.as_slice())?;
+    let text = Vec::from_slice(alloc, name.text.bytes())?;
     Ok(seen.insert(text)?)
 }
 
 /// T1 of one name behind those that were seen.
-fn stands_once(seen: &mut Seen, name: &Name, found: &mut Option<RuleFault>) -> Result<(), NoMemory>
+fn stands_once(
+    alloc: Global,
+    seen: &mut Seen,
+    name: &Name,
+    found: &mut Option<RuleFault>,
+) -> Result<(), NoMemory>
     ensures found { OnOk result ((earlier : List Name) → Has seen.old earlier → found.new ≡ least_with found.old (rules.must (not (list_any (λ m. bytes_eq m.text name.now.text) earlier)) T1 name.now.line)) }
     ensures seen { OnOk result ((earlier : List Name) → Has seen.old earlier → Has seen.new (earlier ++ name.now ∷ [])) }
 {
-    let new = is_new(seen, name)?;
+    let new = is_new(alloc, seen, name)?;
     must(new, Rule::T1, name.line, found);
     Ok(())
 }
@@ -93,7 +97,7 @@ fn seen_of(alloc: Global, names: &[Name]) -> Result<Seen, NoMemory>
 {
     let mut seen = Seen::new(alloc);
     for name in names {
-        is_new(&mut seen, name)?;
+        is_new(alloc, &mut seen, name)?;
     }
     Ok(seen)
 }
@@ -111,7 +115,7 @@ pub fn stand_once(
     let all = names.as_slice();
     let mut seen = seen_of(alloc, &all[..earlier])?;
     for place in earlier..all.len() {
-        stands_once(&mut seen, &all[place], found)?;
+        stands_once(alloc, &mut seen, &all[place], found)?;
     }
     Ok(())
 }

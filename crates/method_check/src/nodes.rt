@@ -105,7 +105,7 @@ pub fn is_class(classes: &Classes, name: &Name, found: &mut Option<RuleFault>)
     requires { length classes.now ≤ 65536 }
     ensures { found.new ≡ least_with found.old (rules.is_class classes.now name.now) }
 {
-    let declared = class_named(classes, name.text.as_slice()).is_some();
+    let declared = class_named(classes, &name.text).is_some();
     must(declared, Rule::T2, name.line, found);
 }
 

@@ -43,23 +43,19 @@ pub fn owners_at(
     Ok(Orefs::new(program.alloc))
 }
 
-fn parameter_with(
-    program: &Program<'_>,
-    declared: &Parameter,
-    argument: Option<&Value>,
-) -> Result<Local, NoMemory>
-    ensures { IfOk result (λ local. local ≡ parameter program.now.schema.now.classes declared.now (option_copied argument.entry)) }
+fn parameter_with(program: &Program<'_>, declared: &Parameter, argument: Option<&Value>) -> Local
+    ensures { result ≡ parameter program.now.schema.now.classes declared.now (option_copied argument.entry) }
 {
     let kind = type_named(program, &declared.type_name);
     let value = match argument {
         Some(value) => *value,
         None => beginning(kind),
     };
-    Ok(Local {
-        name: declared.name.text.copy()?,
+    Local {
+        name: declared.name.text,
         kind,
         value,
-    })
+    }
 }
 
 /// The parameters with their arguments; one that is missing begins as a field does.
@@ -72,7 +68,7 @@ pub fn bound(
 {
     let mut locals = Locals::new(program.alloc);
     for (place, parameter) in parameters.as_slice().iter().enumerate() {
-        locals.push(parameter_with(program, parameter, arguments.get(place))?)?;
+        locals.push(parameter_with(program, parameter, arguments.get(place)))?;
     }
     Ok(locals)
 }

@@ -3,7 +3,7 @@ ghost use Rattle.std.specs.Str.{bytes_eq};
 ghost use Rattle.class_defs.specs.Statements.{assigned, declare, holds, with_value};
 
 use class_defs::{ExprType, Local, Locals, Machine, number};
-use thor_value::{NoMemory, Text, TryCopy, Value};
+use thor_value::{NoMemory, Value, Word};
 
 /// Whether a condition holds.
 pub fn holds(value: Value) -> bool
@@ -12,19 +12,19 @@ pub fn holds(value: Value) -> bool
     number(value) != 0
 }
 
-fn local_place(locals: &Locals, name: &[u8]) -> Option<usize>
+fn local_place(locals: &Locals, name: &Word) -> Option<usize>
     ensures place { result ≡ position (λ l. bytes_eq l.name name.now) locals.now }
     ensures within { IfSome result (λ place. place < length locals.now) }
 {
     locals
         .as_slice()
         .iter()
-        .position(|local| local.name.as_slice() == name)
+        .position(|local| local.name.is(name))
 }
 
 /// Gives the local or parameter with this name another value.
 #[tactic(auto, unfolding(class_defs::specs::Statements::assigned))]
-pub fn assign_local(locals: &mut Locals, name: &[u8], value: Value)
+pub fn assign_local(locals: &mut Locals, name: &Word, value: Value)
     ensures { locals.new ≡ assigned locals.old name.now value }
 {
     if let Some(place) = local_place(locals, name) {
@@ -37,7 +37,7 @@ fn set_value(locals: &mut Locals, place: usize, value: Value)
     ensures { locals.new ≡ with_value locals.old place (slice_get locals.old place) value }
 {
     let hole = Local {
-        name: Text::new(locals.allocator()),
+        name: Word::empty(),
         kind: ExprType::Untold,
         value: Value::Null,
     };
@@ -54,11 +54,14 @@ fn set_value(locals: &mut Locals, place: usize, value: Value)
 pub fn declare(
     machine: &mut Machine,
     kind: ExprType,
-    name: &Text,
+    name: &Word,
     value: Value,
 ) -> Result<(), NoMemory>
     ensures { OnOk result (machine.new ≡ declare kind name.now value machine.old) }
 {
-    let name = name.copy()?;
-    machine.locals.push(Local { name, kind, value })
+    machine.locals.push(Local {
+        name: *name,
+        kind,
+        value,
+    })
 }

@@ -18,11 +18,11 @@ use class_defs::{
     At, CREATE_LIMIT, Fields, Machine, NameSupply, Object, READ_LIMIT, STAND_IN_LIMIT, Stop,
     beginning, class_named, fitted,
 };
-use thor_value::{Fault, NoMemory, Obj, Oref, Orefs, Sequence, TryCopy, Value, Values};
+use thor_value::{Fault, NoMemory, Obj, Oref, Orefs, Sequence, TryCopy, Value, Values, Word};
 
 /// The value of a local, a parameter or a root.
 #[tactic(auto, unfolding(class_defs::specs::Objects::named_value))]
-pub fn named_value(program: &Program<'_>, machine: &Machine, name: &[u8]) -> Value
+pub fn named_value(program: &Program<'_>, machine: &Machine, name: &Word) -> Value
     ensures { result ≡ named_value program.now.schema.now machine.now name.now }
 {
     match local_named(machine, name) {
@@ -124,7 +124,7 @@ fn seen_copy(world: &World<'_>, machine: &Machine, oref: Oref) -> Result<Option<
 }
 
 /// The place of a field among those of its class.
-pub fn field_named(program: &Program<'_>, class: u16, name: &[u8]) -> Option<usize>
+pub fn field_named(program: &Program<'_>, class: u16, name: &Word) -> Option<usize>
     ensures { result ≡ types.field_named program.now.schema.now.classes class name.now }
 {
     match program.schema.classes.get(class as usize) {
@@ -197,13 +197,13 @@ pub fn touch(
         return fault(Fault::Large);
     }
     let class = class_found(seen_class(world, machine, oref), oref, owners)?;
-    machine.reads.insert(oref, ())?;
+    machine.reads.insert(oref)?;
     Ok(class)
 }
 
 /// `this.name`.
 #[tactic(auto, unfolding(class_defs::specs::Objects::field_value))]
-pub fn field_value(world: &World<'_>, machine: &Machine, name: &[u8]) -> Value
+pub fn field_value(world: &World<'_>, machine: &Machine, name: &Word) -> Value
     ensures { result ≡ field_value (reading world.now) machine.now name.now }
 {
     match &machine.this {
@@ -232,7 +232,7 @@ pub fn set_field(fields: &mut Values, index: usize, value: Value)
 pub fn assign_field(
     world: &World<'_>,
     machine: &mut Machine,
-    name: &[u8],
+    name: &Word,
     value: Value,
 ) -> Result<(), NoMemory>
     ensures { OnOk result (machine.new ≡ spec.assign_field (reading world.now) name.now value machine.old) }
@@ -333,7 +333,7 @@ fn beginnings(program: &Program<'_>, declared: &Fields) -> Result<Values, NoMemo
 pub fn create(
     world: &World<'_>,
     machine: &mut Machine,
-    class: &[u8],
+    class: &Word,
     at: Option<At>,
 ) -> Result<Value, Halt>
     ensures { Does result machine.new (create (reading world.now) class.now at machine.old) }

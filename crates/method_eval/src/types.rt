@@ -9,6 +9,7 @@ use class_defs::{
     Expr, ExprType, Field, Local, Machine, Method, RootDeclaration, TypeName, class_type,
     literal_type, word_type,
 };
+use thor_value::Word;
 
 /// The type that a type's word names.
 pub fn type_named(program: &Program<'_>, type_name: &TypeName) -> ExprType
@@ -18,21 +19,21 @@ pub fn type_named(program: &Program<'_>, type_name: &TypeName) -> ExprType
 }
 
 /// The local or parameter with this name.
-pub fn local_named<'a>(machine: &'a Machine, name: &[u8]) -> Option<&'a Local>
+pub fn local_named<'a>(machine: &'a Machine, name: &Word) -> Option<&'a Local>
     ensures { option_copied result ≡ local_named machine.now name.now }
 {
     machine
         .locals
         .as_slice()
         .iter()
-        .find(|local| local.name.as_slice() == name)
+        .find(|local| local.name.is(name))
 }
 
 /// The root with this name; in a method none can be named.
 pub fn root_named<'a>(
     program: &Program<'a>,
     machine: &Machine,
-    name: &[u8],
+    name: &Word,
 ) -> Option<&'a RootDeclaration>
     ensures { option_copied result ≡ root_named program.now.schema.now machine.now name.now }
 {
@@ -43,12 +44,12 @@ pub fn root_named<'a>(
             .roots
             .as_slice()
             .iter()
-            .find(|root| root.name.text.as_slice() == name),
+            .find(|root| root.name.text.is(name)),
     }
 }
 
 /// The method with this name of the class with this number.
-pub fn method_of<'a>(program: &Program<'a>, class: u16, name: &[u8]) -> Option<&'a Method>
+pub fn method_of<'a>(program: &Program<'a>, class: u16, name: &Word) -> Option<&'a Method>
     ensures { option_copied result ≡ spec.method_of program.now.schema.now.classes class name.now }
 {
     match program.schema.classes.get(class as usize) {
@@ -58,7 +59,7 @@ pub fn method_of<'a>(program: &Program<'a>, class: u16, name: &[u8]) -> Option<&
 }
 
 /// The field with this name of the class with this number.
-pub fn field_of<'a>(program: &Program<'a>, class: u16, name: &[u8]) -> Option<&'a Field>
+pub fn field_of<'a>(program: &Program<'a>, class: u16, name: &Word) -> Option<&'a Field>
     ensures { option_copied result ≡ spec.field_of program.now.schema.now.classes class name.now }
 {
     match program.schema.classes.get(class as usize) {
@@ -69,7 +70,7 @@ pub fn field_of<'a>(program: &Program<'a>, class: u16, name: &[u8]) -> Option<&'
 
 /// The type of the field of `this` with this name.
 #[tactic(auto, unfolding(class_defs::specs::Objects::scope_at))]
-pub fn field_type(program: &Program<'_>, machine: &Machine, name: &[u8]) -> ExprType
+pub fn field_type(program: &Program<'_>, machine: &Machine, name: &Word) -> ExprType
     ensures { result ≡ field_type (scope_at program.now.schema.now machine.now) name.now }
 {
     match &machine.this {
@@ -83,7 +84,7 @@ pub fn field_type(program: &Program<'_>, machine: &Machine, name: &[u8]) -> Expr
 
 /// The type of a local, parameter or root.
 #[tactic(auto, unfolding(class_defs::specs::Objects::scope_at))]
-pub fn name_type(program: &Program<'_>, machine: &Machine, name: &[u8]) -> ExprType
+pub fn name_type(program: &Program<'_>, machine: &Machine, name: &Word) -> ExprType
     ensures { result ≡ name_type (scope_at program.now.schema.now machine.now) name.now }
 {
     match local_named(machine, name) {
@@ -96,7 +97,7 @@ pub fn name_type(program: &Program<'_>, machine: &Machine, name: &[u8]) -> ExprT
 }
 
 /// The type of what a method answers.
-pub fn result_type(program: &Program<'_>, receiver: ExprType, name: &[u8]) -> ExprType
+pub fn result_type(program: &Program<'_>, receiver: ExprType, name: &Word) -> ExprType
     ensures { result ≡ result_type program.now.schema.now.classes receiver name.now }
 {
     match receiver {
@@ -120,8 +121,8 @@ pub fn type_of(program: &Program<'_>, machine: &Machine, expr: &Expr) -> ExprTyp
             Some(this) => ExprType::Class(this.class),
             None => ExprType::Untold,
         },
-        Expr::Field { name } => field_type(program, machine, name.text.as_slice()),
-        Expr::Variable { name } => name_type(program, machine, name.text.as_slice()),
+        Expr::Field { name } => field_type(program, machine, &name.text),
+        Expr::Variable { name } => name_type(program, machine, &name.text),
         Expr::New { class, at: _ } => class_type(&program.schema.classes, class),
         Expr::Parens { inner, line: _ } => type_of(program, machine, inner.get()),
         Expr::Negate {
@@ -140,7 +141,7 @@ pub fn type_of(program: &Program<'_>, machine: &Machine, expr: &Expr) -> ExprTyp
             arguments: _,
         } => {
             let receiver = type_of(program, machine, receiver.get());
-            result_type(program, receiver, method.text.as_slice())
+            result_type(program, receiver, &method.text)
         }
     }
 }

@@ -17,6 +17,7 @@ use Rattle.script_text.specs.Marks.{number_in, text_in}
 use Rattle.method_parse.specs.declared.deep.Level.{Level}
 use Rattle.method_parse.specs.declared.deep.Level.TheVariants as levels
 use Rattle.method_parse.specs.Matching.{IsWord, AreWords, is, is_name_kind, is_fixed_kind}
+use Rattle.method_parse.proofs.NameTokens.{name_kind}
 use Rattle.method_parse.specs.Reader.{Reader, ◌>>=◌, onward, give, take_by, word, name, name_in, number, quoted, with_line, type_word, type_in, next}
 use Rattle.method_parse.specs.Expressions.{operator_of, operator_by, operator_in}
 
@@ -125,7 +126,7 @@ module _ {B : Type 0} (rest : List Token) (result : Result (B × List Token) ℕ
   type_says (types.Int line) t h = rw (fixed_is (codes "int") t h.0 h.1) (ap (λ (l : ℕ). Some (types.Int l)) h.2)
   type_says (types.Class n) t h =
       let same : (t.text, t.line) ≡ (n.text, n.line) = cc in
-      rw (name_is_no_word t.kind (bytes_eq t.text (codes "int")) h.0, h.0) (ap (λ (p : List ℕ × ℕ). Some (types.Class (record { text = p.0; line = p.1 }))) same)
+      rw (name_is_no_word t.kind (bytes_eq t.text (codes "int")) (name_kind t.kind t.text h.0), h.0) (ap (λ (p : List ℕ × ℕ). Some (types.Class (record { text = p.0; line = p.1 }))) same)
 
   pub type_then : (ty : TypeName) (ws : List Word) (ts : List Token) (next : TypeName → Reader B) → AreWords ts (spelling.type_word ty ∷ ws)
       → ((us : List Token) → AreWords us ws → next ty (us ++ rest) ≡ result) → (type_word >>= next) (ts ++ rest) ≡ result

@@ -25,6 +25,7 @@ use Rattle.method_parse.specs.declared.deep.Room.{Room}
 use Rattle.method_parse.specs.declared.deep.Start.{Start}
 use Rattle.method_parse.specs.declared.deep.Start.TheVariants as starts
 use Rattle.method_parse.specs.Matching.{IsWord, AreWords, is, is_fixed_kind, is_name_kind}
+use Rattle.method_parse.proofs.NameTokens.{name_kind}
 use Rattle.method_parse.specs.Reader.{Reader, ◌>>=◌, onward, give, word, name, number, next, repeat}
 use Rattle.method_parse.specs.Expressions.{at, arguments, call, leaf, may_call, is_field_call, after_field, after_this, created, parens, fixed_start, start_by, start, primary_by, primary, called, is_call, calls, postfix, Parts}
 use Rattle.method_parse.proofs.Repeats.{no_turn}
@@ -162,7 +163,7 @@ module _ (place : Place) (room : Room) (below : ℕ) (deeper : room.depth ≡ be
   unfolding primary_by
   variable_reads n ts rest h fit calm dot =
       let k : AreWords ts (name_word n ∷ []) = subst (λ (w : List Word). AreWords ts w) (eq.words-Variable n) h in
-      by_start starts.Name (ts ++ rest) _ (starts_at place room ts rest _ [] starts.Name k (λ t w. name_starts place room t.kind t.text w.0))
+      by_start starts.Name (ts ++ rest) _ (starts_at place room ts rest _ [] starts.Name k (λ t w. name_starts place room t.kind t.text (name_kind t.kind t.text w.0)))
       (name_then rest _ n [] ts (λ m. give (leaf (e.Variable m))) k
       (λ us m. ap (λ (u : List Token). got (leaf (e.Variable n)) (u ++ rest)) (nothing us m) ∙ read_is place (e.Variable n) 1 rest (depth_is (eq.shape-Variable place n))))
 

@@ -16,6 +16,7 @@ use Rattle.class_defs.specs.Spelling.{expr_step, expr_words, literal_word}
 use Rattle.class_defs.specs.Shape.{Shape, shape_step, shape}
 use Rattle.script_text.specs.Marks.{number_by, text_by}
 use Rattle.method_parse.specs.Matching.{IsWord, AreWords, is, is_name_kind, is_fixed_kind}
+use Rattle.method_parse.proofs.NameTokens.{name_kind}
 use Rattle.method_parse.proofs.Eats.{is_not, split, first}
 
 -- the words and the shape of one level
@@ -111,7 +112,7 @@ by_form m p on (Expr-F.Literal v l) le ts h = at_word ts _ _ h (λ t w. inl (lit
 by_form m p on (Expr-F.Null l) le ts h = at_word ts _ _ h (λ t w. inr (AtNull, w.1))
 by_form m p on (Expr-F.This l) le ts h = at_word ts _ _ h (λ t w. inr (AtThis, w.1))
 by_form m p on (Expr-F.Field n) le ts h = at_word ts _ _ h (λ t w. inr (AtThis, w.1))
-by_form m p on (Expr-F.Variable n) le ts h = at_word ts _ _ h (λ t w. inl (name_plain t.kind w.0))
+by_form m p on (Expr-F.Variable n) le ts h = at_word ts _ _ h (λ t w. inl (name_plain t.kind (name_kind t.kind t.text w.0)))
 by_form m p on (Expr-F.New n a) le ts h = at_word ts _ _ h (λ t w. inr (AtNew, w.1))
 by_form m p on (Expr-F.Parens x l) le ts h = at_word ts _ _ h (λ t w. inr (AtOpen, w.1))
 by_form m p on (Expr-F.Negate x l) le ts h = at_word ts _ _ h (λ t w. inr (AtMinus, w.1))

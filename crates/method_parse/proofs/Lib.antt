@@ -2,6 +2,7 @@ pub mod Repeats
 pub mod Rooms
 pub mod Lawful
 pub mod Equations
+pub mod NameTokens
 pub mod Matched
 pub mod Fits
 pub mod ExpressionLaws

@@ -14,7 +14,7 @@ use Rattle.class_defs.specs.declared.expressions.TypeName.TheVariants as types
 use Rattle.class_defs.specs.Words.{Word, Fixed, FixedAt, Numbered, Quoted, name_word}
 use Rattle.class_defs.specs.Spelling as spelling
 use Rattle.script_text.specs.Marks.{number_in, text_in}
-use Rattle.method_parse.specs.Matching.{AreWords, is, is_name_kind, is_fixed_kind}
+use Rattle.method_parse.specs.Matching.{AreWords, is, is_name, is_fixed_kind}
 use Rattle.method_parse.specs.Reader.{taken, take_by, word, name, name_in, number, quoted, with_line, type_word, type_in}
 use Rattle.method_parse.proofs.Lawful.{Says, Reads, Some_text, Lawful}
 
@@ -77,7 +77,7 @@ lawful_word text = lawful_one (SaysWord text) (λ t. cond (is text t) (Some t.li
 pub lawful_name : Lawful SaysName name
 unfolding name
 lawful_name = lawful_one SaysName name_in
-    (λ t n e. let w = cond_some (is_name_kind t.kind) (record { text = t.text; line = t.line }) n e in
+    (λ t n e. let w = cond_some (is_name t) (record { text = t.text; line = t.line }) n e in
     subst (λ (m : Name). SaysName m (t ∷ [])) w.1 ((w.0, refl, refl), tt))
     (record { value = record { text = []; line = 1 }; text = token_of kinds.Name [] ∷ []; said = ((refl, refl, refl), tt) })
 
@@ -105,13 +105,13 @@ lawful_quoted = lawful_one SaysQuoted (λ t. with_line (text_in t) t.line)
     (λ t w e. texted t (text_in t) w refl e)
     (record { value = ([], 1); text = token_of kinds.Quoted [] ∷ []; said = ((refl, refl), tt) })
 
-typed : (t : Token) (b : Bool) (ty : TypeName) → is (codes "int") t ≡ b → cond b (Some (types.Int t.line)) (cond (is_name_kind t.kind) (Some (types.Class (record { text = t.text; line = t.line }))) None) ≡ Some ty → SaysType ty (t ∷ [])
+typed : (t : Token) (b : Bool) (ty : TypeName) → is (codes "int") t ≡ b → cond b (Some (types.Int t.line)) (cond (is_name t) (Some (types.Class (record { text = t.text; line = t.line }))) None) ≡ Some ty → SaysType ty (t ∷ [])
 typed t true ty e h =
     let p : types.Int t.line ≡ ty = cc in
     let i = is_text (codes "int") t e in
     subst (λ (m : TypeName). SaysType m (t ∷ [])) p ((i.0, i.1, refl), tt)
 typed t false ty e h =
-    let w = cond_some (is_name_kind t.kind) (types.Class (record { text = t.text; line = t.line })) ty h in
+    let w = cond_some (is_name t) (types.Class (record { text = t.text; line = t.line })) ty h in
     subst (λ (m : TypeName). SaysType m (t ∷ [])) w.1 ((w.0, refl, refl), tt)
 
 pub lawful_type : Lawful SaysType type_word

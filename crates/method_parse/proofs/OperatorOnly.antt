@@ -23,6 +23,7 @@ use Rattle.method_parse.specs.declared.deep.Level.{Level}
 use Rattle.method_parse.specs.declared.deep.Level.TheVariants as levels
 use Rattle.method_parse.specs.declared.deep.Room.{Room}
 use Rattle.method_parse.specs.Matching.{IsWord, AreWords, is, is_fixed_kind, is_name_kind}
+use Rattle.method_parse.proofs.NameTokens.{name_kind}
 use Rattle.method_parse.specs.Reader.{Reader, ◌>>=◌, onward, give, next, repeat}
 use Rattle.method_parse.specs.Expressions.{Parts, is_minus, unary, operator_of, operator_by, operator_in, with_operator_line, operator, tighter, joined, is_join, most_joins, joins, at_level, expression_in}
 use Rattle.method_parse.proofs.Repeats.{no_turn}
@@ -174,7 +175,7 @@ module _ (place : Place) (room : Room) (below : ℕ) (deeper : room.depth ≡ be
   no_minus_form m to (Expr-F.Null l) x is le fit ts rest h = no_minus_at ts rest _ _ (subst (λ (w : List Word). AreWords ts w) (ap expr_words (sym is ∙ e.rolls-Null l) ∙ eq.words-Null l) h) (λ t w. is_not (codes "null") (codes "-") t w.1 refl)
   no_minus_form m to (Expr-F.This l) x is le fit ts rest h = no_minus_at ts rest _ _ (subst (λ (w : List Word). AreWords ts w) (ap expr_words (sym is ∙ e.rolls-This l) ∙ eq.words-This l) h) (λ t w. is_not (codes "this") (codes "-") t w.1 refl)
   no_minus_form m to (Expr-F.Field n) x is le fit ts rest h = no_minus_at ts rest _ _ (subst (λ (w : List Word). AreWords ts w) (ap expr_words (sym is ∙ e.rolls-Field n) ∙ eq.words-Field n) h) (λ t w. is_not (codes "this") (codes "-") t w.1 refl)
-  no_minus_form m to (Expr-F.Variable n) x is le fit ts rest h = no_minus_at ts rest _ _ (subst (λ (w : List Word). AreWords ts w) (ap expr_words (sym is ∙ e.rolls-Variable n) ∙ eq.words-Variable n) h) (λ t w. rw (name_plain t.kind w.0) refl)
+  no_minus_form m to (Expr-F.Variable n) x is le fit ts rest h = no_minus_at ts rest _ _ (subst (λ (w : List Word). AreWords ts w) (ap expr_words (sym is ∙ e.rolls-Variable n) ∙ eq.words-Variable n) h) (λ t w. rw (name_plain t.kind (name_kind t.kind t.text w.0)) refl)
   no_minus_form m to (Expr-F.New n a) x is le fit ts rest h = no_minus_at ts rest _ _ (subst (λ (w : List Word). AreWords ts w) (ap expr_words (sym is ∙ e.rolls-New n a) ∙ eq.words-New n a) h) (λ t w. is_not (codes "new") (codes "-") t w.1 refl)
   no_minus_form m to (Expr-F.Parens y l) x is le fit ts rest h = no_minus_at ts rest _ _ (subst (λ (w : List Word). AreWords ts w) (ap expr_words (sym is ∙ e.rolls-Parens y l) ∙ eq.words-Parens y l) h) (λ t w. is_not (codes "(") (codes "-") t w.1 refl)
   no_minus_form m to (Expr-F.Negate y l) x is le fit ts rest h = absurd (loose x _ (ap (shape place) (sym is ∙ e.rolls-Negate y l) ∙ eq.shape-Negate place y l) (omega arith) fit)

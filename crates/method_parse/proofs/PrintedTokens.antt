@@ -16,7 +16,7 @@ use Rattle.script_text.specs.Grammar.{IsToken, quoted, Part, Separator, Lexeme, 
 use Rattle.class_defs.specs.Words.{Word, Fixed, FixedAt, Named, Numbered, Quoted}
 use Rattle.class_defs.specs.Printed.{word_text, spaced_words, with_spaces}
 use Rattle.script_text.specs.Marks.{inside, number_by, text_by}
-use Rattle.method_parse.specs.Matching.{AreWords, IsWord}
+use Rattle.method_parse.specs.Matching.{AreWords, IsWord, is_name_by}
 use Rattle.method_parse.proofs.PrintedNumbers.{decimal_token, decimal_number, number_small}
 use Rattle.method_parse.proofs.PrintedWords.{OnOneLine, line_both, line_cons, line_take, token_line, ends_before_space, ends_at_end}
 
@@ -83,7 +83,7 @@ word_printed t (FixedAt text line) spelled is = record {
 }
 word_printed t (Named text line) spelled is = record {
   token = subst (IsToken t.kind) is.1 spelled;
-  again = λ from to. (is.0, refl, refl);
+  again = λ from to. (subst (λ (w : List ℕ). is_name_by t.kind w ≡ true) is.1 is.0, refl, refl);
 }
 word_printed t (Numbered value line) spelled is = number_printed t.kind t.text _ value line refl is.0
 word_printed t (Quoted text line) spelled is = text_printed t.kind t.text text line is.0

@@ -25,6 +25,7 @@ use Rattle.class_defs.specs.Spelling as spelling
 use Rattle.class_defs.specs.Spelling.{field_words, parameter_words, method_words, kind_text, class_words, root_words, setup_words, at_words, block_words}
 use Rattle.class_defs.specs.Grammar.{max_nesting, IsMethod, IsClass, IsSetup}
 use Rattle.method_parse.specs.Matching.{AreWords, is, is_fixed_kind, is_name_kind}
+use Rattle.method_parse.proofs.NameTokens.{name_kind}
 use Rattle.method_parse.specs.Reader.{Reader, ◌>>=◌, onward, give, word, name, type_word, next, repeat}
 use Rattle.method_parse.specs.Expressions.{at}
 use Rattle.method_parse.specs.Statements.{block_in}
@@ -66,7 +67,7 @@ all_any (x ∷ xs) = (tt, all_any xs)
 pub type_begins : (ty : TypeName) (ws : List Word) (ts rest : List Token) → AreWords ts (spelling.type_word ty ∷ ws) → next begins_type (ts ++ rest) ≡ true
 type_begins ty ws [] rest h = absurd h
 type_begins (types.Int l) ws (t ∷ ts) rest h = or_left (is (codes "int") t) (is_name_kind t.kind) (fixed_is (codes "int") t h.0.0 h.0.1)
-type_begins (types.Class n) ws (t ∷ ts) rest h = or_right (is (codes "int") t) (is_name_kind t.kind) h.0.0
+type_begins (types.Class n) ws (t ∷ ts) rest h = or_right (is (codes "int") t) (is_name_kind t.kind) (name_kind t.kind t.text h.0.0)
 
 name_is : (k : TokenKind) (a : Bool) → is_name_kind k ≡ true → (is_fixed_kind k && a) ≡ false
 name_is kinds.Name a e = refl
@@ -78,7 +79,7 @@ name_is kinds.Quoted a e = absurd cc
 type_fails : (ty : TypeName) (ws : List Word) (ts rest : List Token) → AreWords ts (spelling.type_word ty ∷ ws) → next (is (codes ")")) (ts ++ rest) ≡ false
 type_fails ty ws [] rest h = absurd h
 type_fails (types.Int l) ws (t ∷ ts) rest h = is_not (codes "int") (codes ")") t h.0.1 refl
-type_fails (types.Class n) ws (t ∷ ts) rest h = name_is t.kind (bytes_eq t.text (codes ")")) h.0.0
+type_fails (types.Class n) ws (t ∷ ts) rest h = name_is t.kind (bytes_eq t.text (codes ")")) (name_kind t.kind t.text h.0.0)
 
 pub fixed_no_type : (text : List ℕ) (ts rest : List Token) (ws : List Word) → AreWords ts (Fixed text ∷ ws) → bytes_eq text (codes "int") ≡ false → next begins_type (ts ++ rest) ≡ false
 fixed_no_type text [] rest ws h e = absurd h

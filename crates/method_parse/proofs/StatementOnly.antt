@@ -26,6 +26,7 @@ use Rattle.method_parse.specs.declared.deep.Level.TheVariants as levels
 use Rattle.method_parse.specs.declared.deep.StmtStart.{StmtStart}
 use Rattle.method_parse.specs.declared.deep.StmtStart.TheVariants as starts
 use Rattle.method_parse.specs.Matching.{AreWords, is, is_fixed_kind, is_name_kind}
+use Rattle.method_parse.proofs.NameTokens.{name_kind}
 use Rattle.method_parse.specs.Reader.{Reader, ◌>>=◌, onward, give, word, name, type_word, next, repeat}
 use Rattle.method_parse.specs.Statements.{expression, ended, condition, variable, returned, printed, evaluated, assigned_name, assigned_field, after_expression_by, after_expression, simple, after_branch, branch, while_loop, fixed_start, start_by, start, statement_by, statement, is_not_end, goes_on, more_statements, statements, braces, block_in}
 use Rattle.method_parse.proofs.Repeats.{no_turn}
@@ -65,7 +66,7 @@ opens_at (t ∷ ts) text ws h a b = record { token = t; rest = ts; parts = refl;
 
 opens_name : (ts : List Token) (n : Name) (ws : List Word) → AreWords ts (name_word n ∷ ws) → Opens ts
 opens_name [] n ws h = absurd h
-opens_name (t ∷ ts) n ws h = record { token = t; rest = ts; parts = refl; no_else = name_is t.kind (bytes_eq t.text (codes "else")) h.0.0; no_end = name_is t.kind (bytes_eq t.text (codes "}")) h.0.0 }
+opens_name (t ∷ ts) n ws h = record { token = t; rest = ts; parts = refl; no_else = name_is t.kind (bytes_eq t.text (codes "else")) (name_kind t.kind t.text h.0.0); no_end = name_is t.kind (bytes_eq t.text (codes "}")) (name_kind t.kind t.text h.0.0) }
 
 no_starter_else : (s : Starter) → bytes_eq (starter_text s) (codes "else") ≡ false
 no_starter_else AtNull = refl

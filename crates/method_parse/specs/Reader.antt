@@ -8,7 +8,7 @@ use Rattle.script_text.specs.declared.token.Token.{Token}
 use Rattle.script_text.specs.Marks.{number_in, text_in}
 use Rattle.method_parse.specs.declared.error.ParseError.{ParseError}
 use Rattle.method_parse.specs.declared.error.ParseError.TheVariants as errors
-use Rattle.method_parse.specs.Matching.{is_name_kind, is}
+use Rattle.method_parse.specs.Matching.{is_name, is}
 use Rattle.std.specs.Prelude.{codes}
 
 abbrev pub Reader : Type 0 → Type 0
@@ -45,7 +45,7 @@ unfoldable pub word : List ℕ → Reader ℕ
 word text = take_by (λ token. if is text token then Some token.line else None)
 
 abbrev pub name_in : Token → Option Name
-name_in token = if is_name_kind token.kind then Some (record { text = token.text; line = token.line }) else None
+name_in token = if is_name token then Some (record { text = token.text; line = token.line }) else None
 
 unfoldable pub name : Reader Name
 name = take_by name_in
@@ -65,7 +65,7 @@ quoted = take_by (λ token. with_line (text_in token) token.line)
 abbrev pub type_in : Token → Option TypeName
 type_in token =
     if is (codes "int") token then Some (type_name.Int token.line)
-    else (if is_name_kind token.kind then Some (type_name.Class (record { text = token.text; line = token.line })) else None)
+    else (if is_name token then Some (type_name.Class (record { text = token.text; line = token.line })) else None)
 
 unfoldable pub type_word : Reader TypeName
 type_word = take_by type_in

@@ -4,6 +4,7 @@
 mod deep;
 mod error;
 mod expressions;
+mod name_laws;
 mod parse;
 mod print_statements;
 mod printing;
@@ -17,6 +18,7 @@ mod whole;
 pub use deep::Level;
 pub use error::ParseError;
 pub use expressions::operator;
+pub use name_laws::spelled_names_are_names;
 pub use parse::{parse_block, parse_setup, spellings_are_unique};
 pub use print_statements::{print_block, print_class, print_methods};
 pub use printing::{print_literal, print_name, print_type, print_word, symbol};

@@ -66,7 +66,7 @@ pub fn print_at(out: &mut Text, at: Option<At>) -> Result<(), NoMemory>
 pub fn print_name(out: &mut Text, name: &Name) -> Result<(), NoMemory>
     ensures { OnOk result (out.new ≡ out.old ++ spaced_word (name_word name.now)) }
 {
-    print_word(out, name.text.as_slice())
+    print_word(out, name.text.bytes())
 }
 
 /// Prints a type behind a space.

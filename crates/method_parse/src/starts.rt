@@ -111,8 +111,8 @@ pub fn operator_in(level: Level, token: &Token) -> Option<Operator>
         TokenKind::Name => None,
         TokenKind::Number => None,
         TokenKind::Quoted => None,
-        TokenKind::Keyword => operator_of(level, token.text.as_slice()),
-        TokenKind::Symbol => operator_of(level, token.text.as_slice()),
+        TokenKind::Keyword => operator_of(level, token.text.bytes()),
+        TokenKind::Symbol => operator_of(level, token.text.bytes()),
     }
 }
 
@@ -157,8 +157,8 @@ pub fn start(place: Place, room: Room, tokens: &[Token]) -> Start
             TokenKind::Name => Start::Name,
             TokenKind::Number => Start::Number,
             TokenKind::Quoted => Start::Quoted,
-            TokenKind::Keyword => fixed_start(place, room, token.text.as_slice()),
-            TokenKind::Symbol => fixed_start(place, room, token.text.as_slice()),
+            TokenKind::Keyword => fixed_start(place, room, token.text.bytes()),
+            TokenKind::Symbol => fixed_start(place, room, token.text.bytes()),
         },
     }
 }
@@ -221,8 +221,8 @@ pub fn statement_start(place: Place, brackets: u32, tokens: &[Token]) -> StmtSta
             TokenKind::Name => StmtStart::Other,
             TokenKind::Number => StmtStart::Other,
             TokenKind::Quoted => StmtStart::Other,
-            TokenKind::Keyword => fixed_statement_start(place, brackets, token.text.as_slice()),
-            TokenKind::Symbol => fixed_statement_start(place, brackets, token.text.as_slice()),
+            TokenKind::Keyword => fixed_statement_start(place, brackets, token.text.bytes()),
+            TokenKind::Symbol => fixed_statement_start(place, brackets, token.text.bytes()),
         },
     }
 }

@@ -2,18 +2,18 @@
 
 ghost use Rattle.std.specs.Prelude.{◌≡◌, ◌≤◌, IfOk};
 ghost use Rattle.method_parse.specs.Matching.{is, is_name_kind, is_quoted};
-ghost use Rattle.method_parse.specs.Reader.{Gives, next, word, name, number, quoted, type_word};
+ghost use Rattle.method_parse.specs.Reader.{Gives, next, word, name, name_in, number, quoted, type_word};
 
 use crate::error::ParseError;
 use class_defs::{Name, TypeName};
 use script_text::{Token, TokenKind};
-use thor_value::{TryCopy, Word};
+use thor_value::Word;
 
 /// Whether a token is this keyword or symbol.
 pub fn is(token: &Token, text: &[u8]) -> bool
     ensures { result ≡ is text.now token.now }
 {
-    matches!(token.kind, TokenKind::Keyword | TokenKind::Symbol) && token.text.as_slice() == text
+    matches!(token.kind, TokenKind::Keyword | TokenKind::Symbol) && token.text.bytes() == text
 }
 
 /// Whether the next token is this keyword or symbol.
@@ -26,10 +26,28 @@ pub fn next_is(tokens: &[Token], text: &[u8]) -> bool
     }
 }
 
+/// Whether a token is of the kind of names.
 pub fn is_name(token: &Token) -> bool
     ensures { result ≡ is_name_kind token.now.kind }
 {
     matches!(token.kind, TokenKind::Name)
+}
+
+/// The name that a token is; `None` where it is none.
+#[tactic(auto, using(crate::proofs::NameTokens::named))]
+fn name_of(token: &Token) -> Option<Name>
+    ensures { result ≡ name_in token.now }
+{
+    if !is_name(token) {
+        return None;
+    }
+    match Word::new(token.text.bytes()) {
+        Some(text) => Some(Name {
+            text,
+            line: token.line,
+        }),
+        None => None,
+    }
 }
 
 /// Whether the next token is a text literal.
@@ -66,15 +84,10 @@ pub fn name(tokens: &[Token]) -> Result<(Name, &[Token]), ParseError>
 {
     match tokens.split_first() {
         None => Err(ParseError::Stuck(0)),
-        Some((token, rest)) => {
-            if is_name(token) {
-                let text = token.text.copy()?;
-                let line = token.line;
-                Ok((Name { text, line }, rest))
-            } else {
-                Err(ParseError::Stuck(tokens.len()))
-            }
-        }
+        Some((token, rest)) => match name_of(token) {
+            Some(name) => Ok((name, rest)),
+            None => Err(ParseError::Stuck(tokens.len())),
+        },
     }
 }
 
@@ -115,15 +128,12 @@ pub fn type_word(tokens: &[Token]) -> Result<(TypeName, &[Token]), ParseError>
     match tokens.split_first() {
         None => Err(ParseError::Stuck(0)),
         Some((token, rest)) => {
-            let line = token.line;
             if is(token, b"int") {
-                Ok((TypeName::Int { line }, rest))
-            } else if is_name(token) {
-                let text = token.text.copy()?;
-                let name = Name { text, line };
-                Ok((TypeName::Class { name }, rest))
-            } else {
-                Err(ParseError::Stuck(tokens.len()))
+                return Ok((TypeName::Int { line: token.line }, rest));
+            }
+            match name_of(token) {
+                Some(name) => Ok((TypeName::Class { name }, rest)),
+                None => Err(ParseError::Stuck(tokens.len())),
             }
         }
     }

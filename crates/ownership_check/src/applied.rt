@@ -13,8 +13,11 @@ use thor_value::{NoMemory, TryCopy};
 pub fn said_of<'a>(upgrade: &'a Upgrade, class: &Class) -> Option<&'a ClassUpgrade>
     ensures { option_copied result ≡ spec.said_of upgrade.now class.now }
 {
-    upgrade.classes.as_slice().iter().find(|said| said.name.text.as_slice()
-        == class.name.text.as_slice())
+    upgrade
+        .classes
+        .as_slice()
+        .iter()
+        .find(|said| said.name.text.is(&class.name.text))
 }
 
 /// A new field, without its expression.

@@ -17,9 +17,7 @@ use thor_value::NoMemory;
 fn is_among(earlier: &[ClassUpgrade], name: &Name) -> bool
     ensures { result ≡ list_any (λ k. bytes_eq k.name.text name.now.text) earlier.now }
 {
-    earlier
-        .iter()
-        .any(|other| other.name.text.as_slice() == name.text.as_slice())
+    earlier.iter().any(|other| other.name.text.is(&name.text))
 }
 
 /// O1 of one name behind earlier ones.
@@ -35,7 +33,7 @@ fn is_class_once(
         ) O1 said.now.name.line) }
 {
     let name = &said.name;
-    let there = class_named(classes, name.text.as_slice()).is_some();
+    let there = class_named(classes, &name.text).is_some();
     must(
         there && !is_among(earlier, name),
         Rule::O1,
@@ -65,7 +63,7 @@ fn class_upgrade_rules(
     requires { length classes.now ≤ 65536 }
     ensures { OnOk result (found.new ≡ least_with found.old (spec.class_upgrade_rules classes.now said.now)) }
 {
-    match class_named(classes, said.name.text.as_slice()) {
+    match class_named(classes, &said.name.text) {
         None => Ok(()),
         Some(class) => {
             let fields = said.fields.as_slice();

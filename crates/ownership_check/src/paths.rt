@@ -16,7 +16,7 @@ pub fn field_named(classes: &Classes, class: u16, name: &Name) -> Option<usize>
     ensures { result ≡ types.field_named classes.now class name.now.text }
 {
     match classes.get(class as usize) {
-        Some(found) => class_defs::field_named(&found.fields, name.text.as_slice()),
+        Some(found) => class_defs::field_named(&found.fields, &name.text),
         None => None,
     }
 }

@@ -7,7 +7,7 @@ ghost use Rattle.lang_small_steps.specs.Typed.{IsTyped};
 use lang_small_steps::{ClassMethods, SharedMethod, shared_method};
 use method_eval::Program;
 use std::sync::ledger::Ledger;
-use thor_value::StepCount;
+use thor_value::{StepCount, Word};
 
 /// The methods of a run's schema, whose bodies are shared, and the count of the nodes that it evaluates.
 #[derive(Drop)]
@@ -21,7 +21,7 @@ pub fn method_in<'a, L: Ledger>(
     program: &Program<'_>,
     bodies: &Bodies<'a, L>,
     class: u16,
-    name: &[u8],
+    name: &Word,
 ) -> Option<&'a SharedMethod>
     requires known { bodies.now.methods.now ≡ class_methods program.now.schema.now.classes }
     ensures found { option_map (λ m. m.method) (option_copied result) ≡ method_of program.now.schema.now.classes class name.now }

@@ -33,7 +33,7 @@ use lang_small_steps::{SharedExprs, SharedMethod};
 use method_eval::{Program, named_value, owners_at, type_of};
 use std::mem;
 use std::sync::ledger::Ledger;
-use thor_value::{Fault, NoMemory, Oref, Text, Value, Values};
+use thor_value::{Fault, NoMemory, Oref, Value, Values, Word};
 
 /// The value of an expression whose nodes may be `nested` deep. Where there is no `room` for one node more inside those that
 /// are open, small steps go on.
@@ -105,8 +105,8 @@ fn node<L: Ledger>(
             Some(this) => Value::Ref(this.oref),
             None => Value::Null,
         }),
-        Expr::Field { name } => Ok(field_value(program, cache, machine, name.text.as_slice())),
-        Expr::Variable { name } => Ok(named_value(program, machine, name.text.as_slice())),
+        Expr::Field { name } => Ok(field_value(program, cache, machine, &name.text)),
+        Expr::Variable { name } => Ok(named_value(program, machine, &name.text)),
         Expr::New { class, at } => create_later(program.alloc, &class.text, *at),
         Expr::Parens { inner: inside, .. } => {
             value_of(
@@ -264,7 +264,7 @@ fn called<L: Ledger>(
     room: u32,
     inner: u32,
     receiver: &Expr,
-    method: &Text,
+    method: &Word,
     arguments: &Exprs,
 ) -> Result<Value, Unwound>
     requires tied { Tied cache.old }
@@ -303,7 +303,7 @@ fn collect<L: Ledger>(
     inner: u32,
     kind: ExprType,
     target: Value,
-    method: &Text,
+    method: &Word,
     none: Values,
     arguments: &Exprs,
 ) -> Result<Value, Unwound>
@@ -349,7 +349,7 @@ fn ready<L: Ledger>(
     inner: u32,
     kind: ExprType,
     target: Value,
-    method: &Text,
+    method: &Word,
     arguments: Values,
 ) -> Result<Value, Unwound>
     requires tied { Tied cache.old }
@@ -381,7 +381,7 @@ fn call<L: Ledger>(
     inner: u32,
     class: u16,
     oref: Oref,
-    method: &Text,
+    method: &Word,
     arguments: Values,
 ) -> Result<Value, Unwound>
     requires tied { Tied cache.old }
@@ -424,7 +424,7 @@ fn enter<L: Ledger>(
     inner: u32,
     found: u16,
     this: Receiver,
-    name: &Text,
+    name: &Word,
     arguments: &Values,
 ) -> Result<Value, Unwound>
     requires tied { Tied cache.old }
@@ -439,7 +439,7 @@ fn enter<L: Ledger>(
     if found != this.class {
         return faulted(Fault::NullCall);
     }
-    match method_in(program, bodies, this.class, name.as_slice()) {
+    match method_in(program, bodies, this.class, name) {
         Some(method) => run_body(
             program, epoch, cache, machine, bodies, room, inner, this, method, arguments,
         ),

@@ -206,11 +206,11 @@ fn effect<L: Ledger>(
             Ok(Flow::Next)
         }
         Stmt::Assign { name, .. } => {
-            assign_local(&mut machine.locals, name.text.as_slice(), value);
+            assign_local(&mut machine.locals, &name.text, value);
             Ok(Flow::Next)
         }
         Stmt::FieldAssign { field, .. } => {
-            assign_field(program, epoch, cache, machine, field.text.as_slice(), value)?;
+            assign_field(program, epoch, cache, machine, &field.text, value)?;
             Ok(Flow::Next)
         }
         Stmt::Return { .. } => Ok(Flow::Returned(value)),

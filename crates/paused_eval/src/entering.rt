@@ -19,7 +19,7 @@ use lang_small_steps::{Doing, Frame, SharedBlock, SharedMethod, Stack};
 use method_eval::{Halt, Program, fault, owners_at};
 use std::mem;
 use std::sync::ledger::Ledger;
-use thor_value::{Fault, Oref, Text, Values};
+use thor_value::{Fault, Oref, Values, Word};
 
 /// A body begins, with `this` and its parameters.
 fn open_body(
@@ -59,7 +59,7 @@ fn open_method<L: Ledger>(
     stack: &mut Stack<Frame>,
     inner: u32,
     this: Receiver,
-    name: &Text,
+    name: &Word,
     arguments: &Values,
 ) -> Result<Doing, Halt>
     requires depth { machine.old.depth < 64 }
@@ -67,7 +67,7 @@ fn open_method<L: Ledger>(
     ensures opens { (f : Oref → Option Object) → Moves result stack.new machine.old machine.new (spec.open_body (over program.now.schema.now f) inner this (method_of program.now.schema.now.classes this.class name.now) arguments.now stack.old) }
     ensures steps { machine.new.steps ≡ machine.old.steps }
 {
-    match method_in(program, bodies, this.class, name.as_slice()) {
+    match method_in(program, bodies, this.class, name) {
         Some(method) => open_body(program, machine, stack, inner, this, method, arguments),
         None => fault(Fault::NullCall),
     }
@@ -84,7 +84,7 @@ pub fn enter<L: Ledger>(
     inner: u32,
     class: u16,
     oref: Oref,
-    method: &Text,
+    method: &Word,
     arguments: &Values,
 ) -> Result<Doing, Halt>
     requires tied { Tied cache.old }

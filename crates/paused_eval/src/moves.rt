@@ -18,7 +18,7 @@ use class_defs::{Expr, ExprType, Flow, Machine, STEP_LIMIT, Stmt, beginning};
 use lang_small_steps::{Doing, Frame, SharedBlock, SharedExprs, Stack};
 use method_eval::{Halt, Program, fault, holds, type_named};
 use std::sync::ledger::Ledger;
-use thor_value::{Fault, NoMemory, StepCount, Text, TryCopy, Value, Values, both};
+use thor_value::{Fault, NoMemory, StepCount, TryCopy, Value, Values, Word, both};
 
 /// The value that was given.
 pub fn given(flow: Flow) -> Value
@@ -139,14 +139,10 @@ pub fn waiting_frame(program: &Program<'_>, inner: u32, node: &Stmt) -> Result<F
             ..
         } => Ok(Frame::Declare {
             kind: type_named(program, type_name),
-            name: name.text.copy()?,
+            name: name.text,
         }),
-        Stmt::Assign { name, .. } => Ok(Frame::Assign {
-            name: name.text.copy()?,
-        }),
-        Stmt::FieldAssign { field, .. } => Ok(Frame::FieldAssign {
-            field: field.text.copy()?,
-        }),
+        Stmt::Assign { name, .. } => Ok(Frame::Assign { name: name.text }),
+        Stmt::FieldAssign { field, .. } => Ok(Frame::FieldAssign { field: field.text }),
         Stmt::Return { value: _ } => Ok(Frame::Return),
         Stmt::If { condition: _, then } => Ok(Frame::Branch {
             nested: inner,
@@ -217,7 +213,7 @@ fn ready(
     inner: u32,
     kind: ExprType,
     target: Value,
-    method: Text,
+    method: Word,
     arguments: Values,
 ) -> Result<Doing, Halt>
     ensures { (fs : List Frame) → (m : Machine) → Moves result fs m m (spec.ready inner kind target method arguments fs) }
@@ -240,7 +236,7 @@ pub fn collect(
     inner: u32,
     kind: ExprType,
     target: Value,
-    method: Text,
+    method: Word,
     done: Values,
     rest: SharedExprs,
 ) -> Result<Doing, Halt>

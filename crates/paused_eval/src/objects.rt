@@ -20,7 +20,7 @@ use method_eval::{
     Halt, Names, Program, class_found, fault, field_at, field_named, is_known, last_upgrade,
     names_are_given_as_they_are_taken, new_object, repo_for, set_field, type_named,
 };
-use thor_value::{Fault, NoMemory, Obj, Oref, Orefs, SLOTS, TryCopy, Value};
+use thor_value::{Fault, NoMemory, Obj, Oref, Orefs, SLOTS, TryCopy, Value, Word};
 
 /// What the cache has of an object now.
 #[tactic(auto, using(crate::proofs::Hands::not_held))]
@@ -147,7 +147,7 @@ fn touched(
         return fault(Fault::Large);
     }
     use_page(program, cache, machine, oref);
-    machine.reads.insert(oref, ())?;
+    machine.reads.insert(oref)?;
     Ok(class)
 }
 
@@ -228,7 +228,7 @@ fn fitted_or_beginning(kind: ExprType, found: Option<Value>) -> Value
 
 /// `this.name`. No page is used.
 #[tactic(auto, unfolding(class_defs::specs::Objects::field_value))]
-pub fn field_seen(program: &Program<'_>, cache: &Cache, machine: &Machine, name: &[u8]) -> Value
+pub fn field_seen(program: &Program<'_>, cache: &Cache, machine: &Machine, name: &Word) -> Value
     requires tied { Tied cache.now }
     ensures value { result ≡ field_value (over program.now.schema.now (at_hand program.now.schema.now cache.now)) (state machine.now cache.now) name.now }
 {
@@ -261,7 +261,7 @@ pub fn field_value(
     program: &Program<'_>,
     cache: &mut Cache,
     machine: &Machine,
-    name: &[u8],
+    name: &Word,
 ) -> Value
     requires tied { Tied cache.old }
     ensures value { result ≡ field_value (over program.now.schema.now (at_hand program.now.schema.now cache.old)) (state machine.now cache.old) name.now }
@@ -300,7 +300,7 @@ pub fn assign_field(
     epoch: u32,
     cache: &mut Cache,
     machine: &mut Machine,
-    name: &[u8],
+    name: &Word,
     value: Value,
 ) -> Result<(), NoMemory>
     requires tied { Tied cache.old }
@@ -331,7 +331,7 @@ pub fn create(
     cache: &mut Cache,
     names: &mut Names,
     machine: &mut Machine,
-    class: &[u8],
+    class: &Word,
     at: Option<At>,
 ) -> Result<Value, Halt>
     requires tied { Tied cache.old }

@@ -34,7 +34,7 @@ use std::marker::Brand;
 use std::mem;
 use std::sync::ledger::{Blank, Ledger};
 use thor_value::{
-    Answer, Ints, NoMemory, Oref, OrefMap, Orefs, Sequence, StepCount, TryCopy, Writes,
+    Answer, Ints, NoMemory, Oref, OrefMap, OrefSet, Orefs, Sequence, StepCount, Writes,
 };
 
 /// A transaction's evaluation, as far as it has come.
@@ -109,7 +109,7 @@ fn begun(alloc: Global) -> Machine
         depth: 0,
         this: None,
         locals: Sequence::new(alloc),
-        reads: OrefMap::new(alloc),
+        reads: OrefSet::new(alloc),
         writes: OrefMap::new(alloc),
         created: Orefs::new(alloc),
         printed: Ints::new(alloc),
@@ -280,46 +280,62 @@ impl Paused {
             doing,
         )?;
         set_doing(&mut self.doing, doing);
-        self.answer(copies, epoch, came)
+        Paused::answer(self.alloc, &mut self.machine, copies, epoch, came)
     }
 
-    /// What it answers that has ended.
-    fn done(&self, copies: &mut Copies, epoch: u32) -> Result<Ran, NoMemory>
-        ensures answers { (names : Names) → (flow : Flow) → IfOk result (λ ran. ran ≡ ran_at epoch (Ok flow) (state_with self.now.machine copies.old.cache names)) }
+    /// What it answers that has ended. What it has read, made and printed goes into the answer.
+    fn done(
+        alloc: Global,
+        machine: &mut Machine,
+        copies: &mut Copies,
+        epoch: u32,
+    ) -> Result<Ran, NoMemory>
+        ensures answers { (names : Names) → (flow : Flow) → IfOk result (λ ran. ran ≡ ran_at epoch (Ok flow) (state_with machine.old copies.old.cache names)) }
+        ensures steps { machine.new.steps ≡ machine.old.steps }
         ensures wrote { IfOk result (λ ran. HasWritten ran copies.new.cache) }
         ensures kept { Keeps copies.old.cache copies.new.cache }
     {
-        let reads = self.machine.reads.names(self.alloc)?;
-        let writes = writes(self.alloc, copies, epoch)?;
-        let printed = self.machine.printed.copy()?;
-        let fresh = self.machine.created.copy()?;
+        let writes = writes(alloc, copies, epoch)?;
+        let reads = mem::replace(&mut machine.reads, OrefSet::new(alloc));
+        let printed = mem::replace(&mut machine.printed, Ints::new(alloc));
+        let fresh = mem::replace(&mut machine.created, Orefs::new(alloc));
         Ok(Ran::Done {
             answer: Answer::Ints(printed),
-            reads,
+            reads: reads.into_names(),
             writes,
             fresh,
         })
     }
 
-    /// What it answers that has come to an end or a stop.
-    fn answer(&self, copies: &mut Copies, epoch: u32, came: Came) -> Result<Ran, NoMemory>
+    /// What it answers that has come to an end or a stop. Behind an end the machine has no more what it has read.
+    fn answer(
+        alloc: Global,
+        machine: &mut Machine,
+        copies: &mut Copies,
+        epoch: u32,
+        came: Came,
+    ) -> Result<Ran, NoMemory>
         ensures answers { (s : Schema) → (f : Oref → Option Object) → (tx : List Stmt) → (given : List Oref) → (l : Left) → (names : Names)
-            → CameTo s f tx given came l (state_with self.now.machine copies.old.cache names)
+            → CameTo s f tx given came l (state_with machine.old copies.old.cache names)
             → IfOk result (λ ran. ran ≡ answer_of epoch s f tx given) }
         ensures stands { (s : Schema) → (f : Oref → Option Object) → (tx : List Stmt) → (given : List Oref) → (l : Left) → (names : Names)
-            → CameTo s f tx given came l (state_with self.now.machine copies.old.cache names)
-            → IfOk result (λ ran. AtStop ran (Stands s f tx given l (state_with self.now.machine copies.new.cache names))) }
+            → CameTo s f tx given came l (state_with machine.old copies.old.cache names)
+            → IfOk result (λ ran. AtStop ran (Stands s f tx given l (state_with machine.new copies.new.cache names))) }
+        ensures steps { machine.new.steps ≡ machine.old.steps }
         ensures wrote { IfOk result (λ ran. HasWritten ran copies.new.cache) }
         ensures kept { Keeps copies.old.cache copies.new.cache }
     {
         match came {
-            Came::Ended => self.done(copies, epoch),
-            Came::Faulted { fault } => Ok(Ran::Done {
-                answer: Answer::Fault(fault),
-                reads: self.machine.reads.names(self.alloc)?,
-                writes: Writes::new(self.alloc),
-                fresh: Orefs::new(self.alloc),
-            }),
+            Came::Ended => Paused::done(alloc, machine, copies, epoch),
+            Came::Faulted { fault } => {
+                let reads = mem::replace(&mut machine.reads, OrefSet::new(alloc));
+                Ok(Ran::Done {
+                    answer: Answer::Fault(fault),
+                    reads: reads.into_names(),
+                    writes: Writes::new(alloc),
+                    fresh: Orefs::new(alloc),
+                })
+            }
             Came::Waits { oref, owners } => Ok(Ran::Need { oref, owners }),
             Came::WaitsForName { repo } => Ok(Ran::NeedName { repo }),
         }

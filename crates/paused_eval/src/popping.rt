@@ -15,10 +15,10 @@ use class_defs::{Flow, Locals, Machine, Receiver, combined, number, push_printed
 use lang_small_steps::{Doing, Frame, Stack};
 use method_eval::{Halt, Program, assign_local, declare, holds};
 use std::sync::ledger::Ledger;
-use thor_value::{NoMemory, StepCount, Text, Value, Values};
+use thor_value::{NoMemory, StepCount, Value, Values, Word};
 
 /// The name of the field that a frame assigns.
-pub fn field_assigned(frame: &Frame) -> Option<&Text>
+pub fn field_assigned(frame: &Frame) -> Option<&Word>
     ensures { option_copied result ≡ field_assigned frame.now }
 {
     match frame {
@@ -146,7 +146,7 @@ fn pop_statement(
             pass()
         }
         Frame::Assign { name } => {
-            assign_local(&mut machine.locals, name.as_slice(), given(flow));
+            assign_local(&mut machine.locals, &name, given(flow));
             pass()
         }
         Frame::Return => give(given(flow)),

@@ -27,7 +27,7 @@ use client_cache::Cache;
 use lang_small_steps::{Doing, Frame, SharedStmt, Stack};
 use method_eval::{Halt, Names, Program, fault};
 use std::sync::ledger::Ledger;
-use thor_value::{Fault, Oref, StepCount, Text, Values};
+use thor_value::{Fault, Oref, StepCount, Values, Word};
 
 /// Takes one step.
 #[tactic(auto, using(crate::proofs::Lifting::lift_step))]
@@ -50,7 +50,7 @@ fn field<L: Ledger>(
     cache: &mut Cache,
     machine: &mut Machine,
     work: &mut StepCount<L>,
-    name: &[u8],
+    name: &Word,
 ) -> Result<Doing, Halt>
     requires tied { Tied cache.old }
     ensures does { (fs : List Frame) → Moves result fs (state machine.old cache.old) (state machine.new cache.new) (steps.◌>>◌ step (spec.start (over program.now.schema.now (at_hand program.now.schema.now cache.old)) 0 (Expr-F.Field (record { text = name.now; line = 0 })) fs)) }
@@ -82,7 +82,7 @@ fn evaluate<L: Ledger>(
         return fault(Fault::Steps);
     }
     if let Some(name) = field_read(expr) {
-        return field(program, cache, machine, work, name.as_slice());
+        return field(program, cache, machine, work, name);
     }
     start(program, machine, work, stack, nested - 1, expr)
 }
@@ -130,7 +130,7 @@ fn make(
     cache: &mut Cache,
     names: &mut Names,
     machine: &mut Machine,
-    class: Text,
+    class: Word,
     at: Option<At>,
 ) -> Result<Moved, Halt>
     requires tied { Tied cache.old }
@@ -141,7 +141,7 @@ fn make(
     ensures names { FromPages names.new }
     ensures steps { machine.new.steps ≡ machine.old.steps }
 {
-    match create(program, epoch, cache, names, machine, class.as_slice(), at) {
+    match create(program, epoch, cache, names, machine, &class, at) {
         Ok(value) => Ok(Moved::To {
             doing: Doing::Give {
                 flow: Flow::Returned(value),
@@ -165,7 +165,7 @@ fn call<L: Ledger>(
     nested: u32,
     class: u16,
     oref: Oref,
-    method: Text,
+    method: Word,
     arguments: Values,
 ) -> Result<Moved, Halt>
     requires tied { Tied cache.old }
@@ -208,7 +208,7 @@ fn assign(
     epoch: u32,
     cache: &mut Cache,
     machine: &mut Machine,
-    name: &[u8],
+    name: &Word,
     flow: Flow,
 ) -> Result<Doing, Halt>
     requires tied { Tied cache.old }
@@ -241,10 +241,9 @@ fn given<L: Ledger>(
         None => Ok(Doing::Give { flow }),
         Some(frame) => {
             if let Some(field) = field_assigned(&frame) {
-                let name = field.as_slice();
-                let came = assign(program, epoch, cache, machine, name, flow);
+                let name = *field;
                 drop(frame);
-                return came;
+                return assign(program, epoch, cache, machine, &name, flow);
             }
             pop(program, machine, work, stack, frame, flow)
         }

@@ -15,11 +15,11 @@ use class_defs::{At, Expr, ExprType, Exprs, Machine, Operator, literal_value};
 use lang_small_steps::{Doing, Frame, SharedExprs, Stack};
 use method_eval::{Halt, Program, named_value, type_of};
 use std::sync::ledger::Ledger;
-use thor_value::{NoMemory, StepCount, Text, TryCopy, Value};
+use thor_value::{NoMemory, StepCount, TryCopy, Value, Word};
 
 /// The name of the field that a node reads.
 #[tactic(auto, using(crate::proofs::Nodes::expr_nodes))]
-pub fn field_read(node: &Expr) -> Option<&Text>
+pub fn field_read(node: &Expr) -> Option<&Word>
     ensures { option_copied result ≡ field_read (out-Expr node.now) }
 {
     match node {
@@ -49,13 +49,10 @@ pub fn field_read(node: &Expr) -> Option<&Text>
 }
 
 /// An object is to be made.
-fn create(class: &Text, at: Option<At>) -> Result<Doing, NoMemory>
-    ensures { IfOk result (λ doing. doing ≡ Doing.Create class.now at) }
+fn create(class: Word, at: Option<At>) -> Doing
+    ensures { result ≡ Doing.Create class at }
 {
-    Ok(Doing::Create {
-        class: class.copy()?,
-        at,
-    })
+    Doing::Create { class, at }
 }
 
 /// The operand of a sign is evaluated.
@@ -91,7 +88,7 @@ fn call(
     inner: u32,
     kind: ExprType,
     receiver: &Expr,
-    method: &Text,
+    method: &Word,
     arguments: &Exprs,
 ) -> Result<Doing, NoMemory>
     ensures doing { IfOk result (λ doing. doing ≡ Doing.Evaluate inner receiver.now) }
@@ -100,7 +97,7 @@ fn call(
     let frame = Frame::Callee {
         nested: inner,
         kind,
-        method: method.copy()?,
+        method: *method,
         arguments: SharedExprs::of(arguments)?,
     };
     go_into_for(stack, frame, inner, receiver)
@@ -126,8 +123,8 @@ fn first(
             None => Value::Null,
         }),
         Expr::Field { name: _ } => unreachable!(),
-        Expr::Variable { name } => give(named_value(program, machine, name.text.as_slice())),
-        Expr::New { class, at } => Ok(create(&class.text, *at)?),
+        Expr::Variable { name } => give(named_value(program, machine, &name.text)),
+        Expr::New { class, at } => Ok(create(class.text, *at)),
         Expr::Parens {
             inner: part,
             line: _,

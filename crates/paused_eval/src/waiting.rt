@@ -12,7 +12,7 @@ use class_defs::{At, Block, Expr, ExprType, Exprs, Flow, Locals, Operator, Recei
 use lang_small_steps::{Doing, Frame, SharedBlock, SharedExprs, SharedStmt};
 use method_eval::{Halt, Program};
 use std::alloc::Global;
-use thor_value::{Boxed, Fault, NoMemory, Oref, Text, TryCopy, Value, Values, both};
+use thor_value::{Boxed, Fault, NoMemory, Oref, TryCopy, Value, Values, Word, both};
 
 /// Small steps go on from here.
 fn later<T>(alloc: Global, doing: Doing) -> Result<T, Unwound>
@@ -42,11 +42,10 @@ pub fn execute_later(alloc: Global, nested: u32, stmt: &Stmt) -> Result<Flow, Un
 }
 
 /// An object is made by a small step.
-pub fn create_later(alloc: Global, class: &Text, at: Option<At>) -> Result<Value, Unwound>
+pub fn create_later(alloc: Global, class: &Word, at: Option<At>) -> Result<Value, Unwound>
     ensures { IsLater result (Doing.Create class.now at) }
 {
-    let class = class.copy()?;
-    later(alloc, Doing::Create { class, at })
+    later(alloc, Doing::Create { class: *class, at })
 }
 
 pub fn faulted<T>(fault: Fault) -> Result<T, Unwound>
@@ -104,7 +103,7 @@ pub fn behind_right(unwound: Unwound, nested: u32, operator: Operator, right: &E
 fn callee_frame(
     nested: u32,
     kind: ExprType,
-    method: &Text,
+    method: &Word,
     arguments: &Exprs,
 ) -> Result<Frame, NoMemory>
     ensures { IfOk result (λ frame. frame ≡ Frame.Callee nested kind method.now arguments.now) }
@@ -112,7 +111,7 @@ fn callee_frame(
     Ok(Frame::Callee {
         nested,
         kind,
-        method: method.copy()?,
+        method: *method,
         arguments: SharedExprs::of(arguments)?,
     })
 }
@@ -122,7 +121,7 @@ pub fn behind_receiver(
     unwound: Unwound,
     nested: u32,
     kind: ExprType,
-    method: &Text,
+    method: &Word,
     arguments: &Exprs,
 ) -> Unwound
     ensures { Waits (Frame.Callee nested kind method.now arguments.now) unwound result }
@@ -139,26 +138,23 @@ pub fn behind_argument(
     nested: u32,
     kind: ExprType,
     target: Value,
-    method: &Text,
+    method: &Word,
     done: Values,
     rest: SharedExprs,
 ) -> Unwound
     ensures { Waits (Frame.Arguments nested kind target method.now done rest) unwound result }
 {
-    match method.copy() {
-        Ok(method) => behind(
-            unwound,
-            Frame::Arguments {
-                nested,
-                kind,
-                target,
-                method,
-                done,
-                rest,
-            },
-        ),
-        Err(NoMemory) => Unwound::NoMemory,
-    }
+    behind(
+        unwound,
+        Frame::Arguments {
+            nested,
+            kind,
+            target,
+            method: *method,
+            done,
+            rest,
+        },
+    )
 }
 
 /// The statements of a body are left.
@@ -217,19 +213,18 @@ fn call_later(
     nested: u32,
     class: u16,
     oref: Oref,
-    method: &Text,
+    method: &Word,
     arguments: Values,
 ) -> Result<Boxed<Doing>, NoMemory>
     ensures { IfOk result (λ doing. doing ≡ Doing.Enter nested class oref method.now arguments) }
 {
-    let method = method.copy()?;
     Boxed::new(
         alloc,
         Doing::Enter {
             nested,
             class,
             oref,
-            method,
+            method: *method,
             arguments,
         },
     )
@@ -242,7 +237,7 @@ pub fn not_entered(
     inner: u32,
     class: u16,
     oref: Oref,
-    method: &Text,
+    method: &Word,
     arguments: Values,
 ) -> Unwound
     ensures { IsLeft (Doing.Enter inner class oref method.now arguments) halt result }

@@ -1,12 +1,13 @@
 //! The accounts of the generated script.
 
-ghost use Rattle.std.specs.Prelude.{◌≡◌, ◌<◌, IfOk};
+ghost use Rattle.std.specs.Prelude.{◌≡◌, ◌<◌, IfOk, position};
 ghost use Rattle.std.specs.Option.{option_copied};
+ghost use Rattle.std.specs.Str.{bytes_eq};
 ghost use Rattle.class_defs.specs.Epochs.{classes_of};
 ghost use Rattle.class_defs.specs.Upgrades.{field_of_object};
 ghost use Rattle.report_summary.specs.Summary as spec;
 
-use class_defs::{Classes, Object, Plain, Root, Schemas, field_named, number};
+use class_defs::{Classes, Fields, Object, Plain, Root, Schemas, number};
 use lang_upgrade_eval::classes_at;
 use std::alloc::Global;
 use std::fmt::Write;
@@ -36,12 +37,22 @@ fn root_object<'a>(store: &'a Plain, name: &[u8]) -> Option<&'a Object>
     }
 }
 
+/// The place among its fields of the first field of a class with this name.
+fn field_place(fields: &Fields, name: &[u8]) -> Option<usize>
+    ensures { result ≡ position (λ f. bytes_eq f.name.text name.now) fields.now }
+{
+    fields
+        .as_slice()
+        .iter()
+        .position(|field| field.name.text.bytes() == name)
+}
+
 /// The field of an object with this name, where its class has one.
 fn field_of_object(classes: &Classes, object: &Object, name: &[u8]) -> Option<Value>
     ensures { result ≡ field_of_object classes.now object.now name.now }
 {
     match classes.get(object.class as usize) {
-        Some(class) => match field_named(&class.fields, name) {
+        Some(class) => match field_place(&class.fields, name) {
             Some(place) => object.fields.get(place).copied(),
             None => None,
         },

@@ -1,6 +1,5 @@
 use crate::events::Events;
-use script_text::Syntax;
-use thor_value::Text;
+use script_text::{Syntax, TokenText};
 
 /// What was read of a schedule's tokens, and what may stand next.
 #[derive(Drop)]
@@ -13,13 +12,13 @@ pub enum Reader {
     Named {
         events: Events,
         line: u32,
-        name: Text,
+        name: TokenText,
     },
     /// And the point behind that name.
     Dotted {
         events: Events,
         line: u32,
-        name: Text,
+        name: TokenText,
     },
     /// A token couldn't stand where it stood.
     Stopped {

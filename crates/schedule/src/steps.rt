@@ -6,8 +6,8 @@ ghost use Rattle.schedule.specs.Schedule.{Mark, IsName, IsPoint, IsNumber, mark_
 use crate::events::{Event, Events};
 use crate::kinds::{alone, pair};
 use crate::reader::Reader;
-use script_text::{Syntax, Token, TokenKind};
-use thor_value::{NoMemory, Text, TryCopy};
+use script_text::{Syntax, Token, TokenKind, TokenText};
+use thor_value::NoMemory;
 
 /// The token can't stand here.
 fn stop(token: &Token) -> Reader
@@ -20,21 +20,26 @@ fn stop(token: &Token) -> Reader
 }
 
 /// An event that is a name alone, behind the others.
-pub fn with_alone(events: Events, line: u32, name: &Text) -> Result<Events, NoMemory>
+pub fn with_alone(events: Events, line: u32, name: &TokenText) -> Result<Events, NoMemory>
     ensures { IfOk result (λ more. more ≡ events ++ alone_event line name.now ∷ []) }
 {
     let mut events = events;
-    let kind = alone(name.as_slice());
+    let kind = alone(name.bytes());
     events.push(Event { line, kind })?;
     Ok(events)
 }
 
 /// An event that is a name and a number, behind the others.
-fn with_pair(events: Events, line: u32, name: &Text, number: &Text) -> Result<Events, NoMemory>
+fn with_pair(
+    events: Events,
+    line: u32,
+    name: &TokenText,
+    number: &TokenText,
+) -> Result<Events, NoMemory>
     ensures { IfOk result (λ more. more ≡ events ++ pair_event line name.now number.now ∷ []) }
 {
     let mut events = events;
-    let kind = pair(name.as_slice(), number.as_slice());
+    let kind = pair(name.bytes(), number.bytes());
     events.push(Event { line, kind })?;
     Ok(events)
 }
@@ -44,7 +49,7 @@ fn named(events: Events, token: &Token) -> Result<Reader, NoMemory>
     ensures { IfOk result (λ next. next ≡ ready_step IsName events token.now) }
 {
     let line = token.line;
-    let name = token.text.copy()?;
+    let name = token.text;
     Ok(Reader::Named { events, line, name })
 }
 
@@ -60,13 +65,13 @@ fn ready_step(events: Events, token: &Token) -> Result<Reader, NoMemory>
 }
 
 #[tactic(auto, unfolding(crate::specs::Schedule::mark_of))]
-fn named_step(events: Events, line: u32, name: Text, token: &Token) -> Result<Reader, NoMemory>
+fn named_step(events: Events, line: u32, name: TokenText, token: &Token) -> Result<Reader, NoMemory>
     ensures { IfOk result (λ next. next ≡ named_step (mark_of token.now) events line name token.now) }
 {
     match token.kind {
         TokenKind::Name => named(with_alone(events, line, &name)?, token),
         TokenKind::Symbol => {
-            if token.text.as_slice() == b".".as_slice() {
+            if token.text.bytes() == b".".as_slice() {
                 Ok(Reader::Dotted { events, line, name })
             } else {
                 Ok(stop(token))
@@ -77,7 +82,12 @@ fn named_step(events: Events, line: u32, name: Text, token: &Token) -> Result<Re
 }
 
 #[tactic(auto, unfolding(crate::specs::Schedule::mark_of))]
-fn dotted_step(events: Events, line: u32, name: Text, token: &Token) -> Result<Reader, NoMemory>
+fn dotted_step(
+    events: Events,
+    line: u32,
+    name: TokenText,
+    token: &Token,
+) -> Result<Reader, NoMemory>
     ensures { IfOk result (λ next. next ≡ dotted_step (mark_of token.now) events line name token.now) }
 {
     match token.kind {

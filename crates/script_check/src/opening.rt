@@ -11,7 +11,7 @@ use class_defs::{
     RootDeclarations, Roots, Schema, WrittenRoot, class_named, first_value,
 };
 use std::alloc::Global;
-use thor_value::{NoMemory, Oref, TryCopy, Values};
+use thor_value::{NoMemory, Oref, Text, TryCopy, Values};
 
 /// The repository in which a root lies: that behind `at`, and 0 where it isn't told.
 fn home_of(root: &WrittenRoot) -> u8
@@ -89,7 +89,7 @@ fn class_of(schema: &Schema, root: &RootDeclaration) -> u16
     requires { length schema.now.classes ≤ 65536 }
     ensures { result ≡ spec.class_of schema.now root.now }
 {
-    match class_named(&schema.classes, root.class.text.as_slice()) {
+    match class_named(&schema.classes, &root.class.text) {
         Some(class) => class,
         None => 0,
     }
@@ -138,7 +138,7 @@ pub fn roots_of(alloc: Global, schema: &Schema) -> Result<Roots, NoMemory>
     let mut roots = Roots::new(alloc);
     for root in schema.roots.as_slice() {
         roots.push(Root {
-            name: root.name.text.copy()?,
+            name: Text::from_slice(alloc, root.name.text.bytes())?,
             class: class_of(schema, root),
             oref: root.oref,
         })?;

@@ -9,7 +9,8 @@ use Rattle.class_defs.specs.Spelling.{stmt_words}
 use Rattle.class_defs.specs.Words.{Word, Fixed, FixedAt, Named, Numbered, Quoted, in_turn}
 use Rattle.class_defs.specs.declared.statements.Stmt.{Stmt}
 use Rattle.class_defs.specs.declared.upgrades.Upgrade.{Upgrade}
-use Rattle.method_parse.specs.Matching.{AreWords, IsWord, is_fixed_kind, is_name_kind}
+use Rattle.method_parse.specs.Matching.{AreWords, IsWord, is_fixed_kind, is_name_by, is_name_kind}
+use Rattle.method_parse.proofs.NameTokens.{name_kind}
 use Rattle.method_parse.specs.Texts.{SpellsBlock}
 use Rattle.method_parse.proofs.Eats.{split}
 use Rattle.script_text.specs.Grammar.{IsToken}
@@ -119,8 +120,8 @@ still_fixed kinds.Keyword text fixed = fixed_by (symbol_mark text)
 still_fixed kinds.Symbol text fixed = fixed_by (symbol_mark text)
 still_fixed kinds.Quoted text fixed = absurd (false≢true fixed)
 
-still_name : (kind : TokenKind) (text : List ℕ) → is_name_kind kind ≡ true → is_name_kind (kind_for kind text) ≡ true
-still_name kinds.Name text is = refl
+still_name : (kind : TokenKind) (text : List ℕ) → is_name_by kind text ≡ true → is_name_by (kind_for kind text) text ≡ true
+still_name kinds.Name text is = is
 still_name kinds.Number text is = absurd (false≢true is)
 still_name kinds.Keyword text is = absurd (false≢true is)
 still_name kinds.Symbol text is = absurd (false≢true is)
@@ -194,7 +195,7 @@ pub mark_is : (token : Token) (word : Word) → Proper token → IsWord token wo
 unfolding mark_of
 mark_is token (Fixed text) proper is = proper is.0 ∙ ap text_mark is.1
 mark_is token (FixedAt text line) proper is = proper is.0 ∙ ap text_mark is.1
-mark_is token (Named text line) proper is = name_mark token.kind token.text is.0
+mark_is token (Named text line) proper is = name_mark token.kind token.text (name_kind token.kind token.text is.0)
 mark_is token (Numbered value line) proper is = number_mark token.kind token.text value is.0
 mark_is token (Quoted text line) proper is = literal_mark token.kind token.text text is.0
 

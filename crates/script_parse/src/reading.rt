@@ -29,7 +29,7 @@ fn is_tx(token: &Token) -> bool
     ensures { result ≡ is (codes "tx") token.now }
 {
     matches!(token.kind, TokenKind::Keyword | TokenKind::Symbol)
-        && token.text.as_slice() == b"tx".as_slice()
+        && token.text.bytes() == b"tx".as_slice()
 }
 
 /// Whether an item begins with the word `tx`.

@@ -10,6 +10,7 @@ use Rattle.script_text.specs.Pieces.{size, first_piece, pieces}
 use Rattle.script_text.specs.Tokens.{before, with_piece, tokens_among, tokens_of}
 use Rattle.script_text.specs.Reading.{IsFaultOf}
 use Rattle.script_text.specs.Rest.{tokens_from, after, IsPieceAt}
+use Rattle.script_text.proofs.Short.{short_first}
 use Rattle.script_text.proofs.Sizes.{Sized, first_sized}
 
 -- covered bytes begin no piece
@@ -53,6 +54,7 @@ piece_at text from piece is more =
     subst P first (record {
       some = sized.some;
       within = omega (arith, sized.within);
+      short = short_first (b ∷ bs);
       tokens = piece_first text from b bs sized.some rest;
     })
 

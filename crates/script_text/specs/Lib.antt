@@ -1,6 +1,7 @@
 pub mod Bytes
 pub mod Words
 pub mod Pieces
+pub mod TokenTexts
 pub mod Tokens
 pub mod Reading
 pub mod Rest

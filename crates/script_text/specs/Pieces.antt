@@ -1,5 +1,5 @@
 -- How a text is cut into pieces: separators, comments and tokens, each as long as it can be. This project's.
-use Rattle.std.specs.Prelude.{ℕ, zero, suc, ◌+◌, ◌-◌, not, ◌==◌, ◌||◌, nat_lt, nat_eq, List, [], ◌∷◌, drop, length, if◌then◌else◌, take_while}
+use Rattle.std.specs.Prelude.{ℕ, zero, suc, ◌+◌, ◌-◌, ◌≤◌, not, ◌==◌, ◌||◌, nat_lt, nat_eq, List, [], ◌∷◌, drop, length, if◌then◌else◌, take_while}
 use Rattle.std.specs.List.{list_any, prefix_len, starts_with}
 use Rattle.std.specs.Str.Parse.{digits_value}
 use Rattle.thor_value.specs.Words.{is_text_byte}
@@ -53,6 +53,12 @@ abbrev pub size : Piece → ℕ
 size (Gap n) = n
 size (Lexeme kind n) = n
 size NoToken = 1
+
+-- a token has at most 34 bytes
+abbrev pub IsShort : Piece → Type 0
+IsShort (Gap n) = Unit {0}
+IsShort (Lexeme kind n) = n ≤ 34
+IsShort NoToken = Unit {0}
 
 -- a piece, and the place of its first byte
 pub record Placed : Type 0 where

@@ -15,6 +15,7 @@ mod splitting;
 mod steps;
 mod syntax;
 mod token;
+mod token_bytes;
 mod words;
 
 pub use marking::{literal_text, number};
@@ -24,3 +25,4 @@ pub use sections::{ClientParts, ItemParts, Sections, Split};
 pub use splitting::{last_line, split_sections};
 pub use syntax::{Syntax, SyntaxError};
 pub use token::{Token, TokenKind, Tokens};
+pub use token_bytes::TokenText;

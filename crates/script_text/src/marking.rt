@@ -49,8 +49,8 @@ pub fn mark(token: &Token) -> Mark
     ensures { result ≡ mark_of token.now }
 {
     match token.kind {
-        TokenKind::Keyword => keyword_mark(token.text.as_slice()),
-        TokenKind::Symbol => symbol_mark(token.text.as_slice()),
+        TokenKind::Keyword => keyword_mark(token.text.bytes()),
+        TokenKind::Symbol => symbol_mark(token.text.bytes()),
         TokenKind::Name | TokenKind::Number | TokenKind::Quoted => Mark::Other,
     }
 }
@@ -61,7 +61,7 @@ pub fn number(token: &Token) -> Option<u64>
     ensures small { IfSome result (λ n. n ≤ 9223372036854775807) }
 {
     match token.kind {
-        TokenKind::Number => digits_value(GREATEST, token.text.as_slice()),
+        TokenKind::Number => digits_value(GREATEST, token.text.bytes()),
         _ => None,
     }
 }
@@ -80,7 +80,7 @@ pub fn literal_text(token: &Token) -> Option<Word>
     ensures { result ≡ text_in token.now }
 {
     match token.kind {
-        TokenKind::Quoted => Word::new(inside(token.text.as_slice())),
+        TokenKind::Quoted => Word::new(inside(token.text.bytes())),
         _ => None,
     }
 }

@@ -15,8 +15,8 @@ use crate::piece::Piece;
 use crate::place::Place;
 use crate::syntax::{Syntax, SyntaxError};
 use crate::token::{Token, TokenKind, Tokens};
+use crate::token_bytes::token_text;
 use std::alloc::Global;
-use thor_value::{NoMemory, Text};
 
 /// The piece that begins at a place.
 fn piece_at(text: &[u8], from: usize) -> Piece
@@ -50,36 +50,26 @@ fn behind(text: &[u8], place: Place, count: usize) -> Place
 }
 
 /// The token of a kind that has the next bytes, as many as `count`.
-fn token_here(
-    alloc: Global,
-    text: &[u8],
-    place: Place,
-    kind: TokenKind,
-    count: usize,
-) -> Result<Token, NoMemory>
+fn token_here(text: &[u8], place: Place, kind: TokenKind, count: usize) -> Token
     requires place { IsPlaceIn text.now place }
     requires within { place.from + count ≤ length text.now }
     requires some { 0 < count }
+    requires few { count ≤ 34 }
     requires short { length text.now < 2 ^ 32 }
-    ensures { IfOk result (λ token. token ≡ token_at text.now kind place.from (place.from + count)) }
+    ensures { result ≡ token_at text.now kind place.from (place.from + count) }
 {
     let bytes = text.split_at(place.from).1.split_at(count).0;
-    Ok(Token {
+    Token {
         kind,
-        text: Text::from_slice(alloc, bytes)?,
+        text: token_text(bytes),
         line: place.line as u32,
         from: place.from,
         to: place.from + count,
-    })
+    }
 }
 
 /// Reads the next piece, and puts its token, where it is one, behind those that were read.
-fn scan_piece(
-    alloc: Global,
-    text: &[u8],
-    place: Place,
-    tokens: &mut Tokens,
-) -> Result<Place, SyntaxError>
+fn scan_piece(text: &[u8], place: Place, tokens: &mut Tokens) -> Result<Place, SyntaxError>
     requires place { IsPlaceIn text.now place }
     requires more { place.from < length text.now }
     requires short { length text.now < 2 ^ 32 }
@@ -92,8 +82,7 @@ fn scan_piece(
     match piece_at(text, place.from) {
         Piece::Gap(count) => Ok(behind(text, place, count)),
         Piece::Lexeme(kind, count) => {
-            let token = token_here(alloc, text, place, kind, count)?;
-            tokens.push(token)?;
+            tokens.push(token_here(text, place, kind, count))?;
             Ok(behind(text, place, count))
         }
         Piece::NoToken => Err(SyntaxError::Fault(Syntax {
@@ -111,7 +100,7 @@ fn all_tokens(alloc: Global, text: &[u8]) -> Result<Tokens, SyntaxError>
     let mut tokens = Tokens::new(alloc);
     let mut place = Place { from: 0, line: 1 };
     while place.from < text.len() {
-        place = scan_piece(alloc, text, place, &mut tokens)?;
+        place = scan_piece(text, place, &mut tokens)?;
     }
     Ok(tokens)
 }

@@ -1,4 +1,5 @@
-use thor_value::{NoMemory, Sequence, Text, TryCopy};
+use crate::token_bytes::TokenText;
+use thor_value::{NoMemory, Sequence, TryCopy};
 
 /// What a token is.
 #[derive(Clone, Copy, Debug, PartialEq, Eq)]
@@ -16,11 +17,11 @@ pub enum TokenKind {
 }
 
 /// One token of a script, with where it stands in the text.
-#[derive(Debug, Drop)]
+#[derive(Clone, Copy, Debug)]
 pub struct Token {
     pub kind: TokenKind,
     /// Its bytes, those from `from` up to `to`.
-    pub text: Text,
+    pub text: TokenText,
     /// The line on which it stands, from 1.
     pub line: u32,
     /// The place of its first byte, from 0.
@@ -40,12 +41,6 @@ impl TryCopy for TokenKind {
 
 impl TryCopy for Token {
     fn copy(&self) -> Result<Token, NoMemory> {
-        Ok(Token {
-            kind: self.kind,
-            text: self.text.copy()?,
-            line: self.line,
-            from: self.from,
-            to: self.to,
-        })
+        Ok(*self)
     }
 }

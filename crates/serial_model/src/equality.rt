@@ -39,7 +39,7 @@ impl Same for Operator {
 impl Same for Word {
     #[tactic(auto, using(crate::proofs::Texts::same_bytes))]
     fn same(&self, other: &Word) -> bool {
-        self.bytes() == other.bytes()
+        self.is(other)
     }
 }
 

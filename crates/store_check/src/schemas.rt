@@ -12,7 +12,7 @@ use method_parse::parse_setup;
 use ownership_check::{has_next_number, own_check};
 use script_text::{SyntaxError, Tokens, scan};
 use std::alloc::Global;
-use thor_value::{NoMemory, Text, TryCopy};
+use thor_value::{NoMemory, Text, TryCopy, Word};
 use upgrade_defs::parse_upgrade;
 
 /// The most classes that a schema can have: a class has a number of 16 bits.
@@ -29,12 +29,14 @@ pub struct Texts<'a> {
 }
 
 /// The schemas that texts spell over so many repositories; nothing where a text doesn't parse or breaks a
-/// rule. Nothing is asked of the roots: they are named as they are stored.
+/// rule, or a root's name is none of the language's. Nothing else is asked of the roots: they are named as they are stored.
 pub fn schemas_of(alloc: Global, texts: Texts, repos: u8) -> Result<Option<Schemas>, NoMemory> {
     let Some(first) = first_schema(alloc, texts.classes, repos)? else {
         return Ok(None);
     };
-    let roots = declared(alloc, &first.schema.classes, texts.roots)?;
+    let Some(roots) = declared(alloc, &first.schema.classes, texts.roots)? else {
+        return Ok(None);
+    };
     let mut schemas = Schemas {
         first: with_roots(&first.schema, &roots)?,
         upgraded: UpgradedSchemas::new(alloc),
@@ -104,30 +106,34 @@ fn with_roots(schema: &Schema, roots: &RootDeclarations) -> Result<Schema, NoMem
     })
 }
 
-/// Stored roots as a setup declares them.
-fn declared(alloc: Global, classes: &Classes, roots: &Roots) -> Result<RootDeclarations, NoMemory> {
+/// Stored roots as a setup declares them; nothing where a root has a name that no text has.
+fn declared(
+    alloc: Global,
+    classes: &Classes,
+    roots: &Roots,
+) -> Result<Option<RootDeclarations>, NoMemory> {
     let mut declared = RootDeclarations::new(alloc);
     for root in roots.as_slice() {
+        let Some(text) = Word::new(root.name.as_slice()) else {
+            return Ok(None);
+        };
         declared.push(RootDeclaration {
-            name: Name {
-                text: root.name.copy()?,
-                line: 1,
-            },
-            class: class_name(alloc, classes, root.class)?,
+            name: Name { text, line: 1 },
+            class: class_name(classes, root.class),
             at: None,
             oref: root.oref,
         })?;
     }
-    Ok(declared)
+    Ok(Some(declared))
 }
 
 /// The name of a class by its number; an empty one past the last class.
-fn class_name(alloc: Global, classes: &Classes, class: u16) -> Result<Name, NoMemory> {
+fn class_name(classes: &Classes, class: u16) -> Name {
     let text = match classes.get(usize::from(class)) {
-        Some(class) => class.name.text.copy()?,
-        None => Text::new(alloc),
+        Some(class) => class.name.text,
+        None => Word::empty(),
     };
-    Ok(Name { text, line: 1 })
+    Name { text, line: 1 }
 }
 
 /// The schema behind the upgrade that a text spells, which is put behind the others with the upgrade; nothing

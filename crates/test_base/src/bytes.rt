@@ -56,6 +56,28 @@ fn texts_are_spelled_and_read(rt: HostRuntime) -> Result<(), Fail> {
     Ok(())
 }
 
+/// Texts of which no two are equal: they differ in length, in the first byte, and in the last of 32.
+const DISTINCT: &[&[u8]] = &[
+    b"",
+    b"a",
+    b"b",
+    b"ab",
+    b"12345678901234567890123456789012",
+    b"12345678901234567890123456789013",
+];
+
+#[test]
+fn texts_are_equal_where_their_bytes_are(rt: HostRuntime) -> Result<(), Fail> {
+    for text in DISTINCT {
+        for other in DISTINCT {
+            let word = Word::new(text).ok_or("it is a text")?;
+            let other_word = Word::new(other).ok_or("it is a text")?;
+            assert!(rt; word.is(&other_word) == (*text == *other));
+        }
+    }
+    Ok(())
+}
+
 /// Bytes that are no text, and those that begin no text's value or end too early, with the fault.
 const NO_TEXTS: &[&[u8]] = &[
     &[31],

@@ -18,7 +18,7 @@ fn are_alike(token: &Token, other: &Token) -> bool {
     token.kind == other.kind
         && token.line == other.line
         && token.from == other.from
-        && token.text.as_slice() == other.text.as_slice()
+        && token.text.bytes() == other.text.bytes()
 }
 
 #[test]

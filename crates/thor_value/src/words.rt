@@ -2,6 +2,7 @@
 
 ghost use Rattle.std.specs.Prelude.{◌≡◌, ◌≤◌, [], length, true, nat_eq, IsTrue};
 ghost use Rattle.std.specs.List.{list_all};
+ghost use Rattle.std.specs.Str.{bytes_eq};
 ghost use Rattle.std.specs.Cmp.{on_equiv, on_per, partial_equiv_from_equiv};
 ghost use Rattle.std.specs.Cmp.Lexicographic.{pointwise, nat_list_eq_equiv};
 ghost use Rattle.thor_value.specs.Words.{fits_word, is_text_byte, padded, word_from};
@@ -48,6 +49,13 @@ impl Word {
         padded(&[])
     }
 
+    /// Whether it is this text.
+    pub fn is(&self, other: &Word) -> bool
+        ensures { result ≡ bytes_eq self.now other.now }
+    {
+        *self == *other
+    }
+
     /// The text that bytes are, or `None` where they are none: where they are more than 32, or one of them is below 32,
     /// above 126 or 34.
     pub fn new(bytes: &[u8]) -> Option<Word>
@@ -77,14 +85,18 @@ impl Word {
     }
 }
 
-/// Two texts are equal where their bytes are.
+/// Two texts are equal where their bytes are: then what lies behind those is equal too, so that whole rooms are compared.
 impl PartialEq for Word {
     ghost eq = { λ a b. pointwise nat_eq a b };
 
     ghost laws = { on_per (λ a. a) (partial_equiv_from_equiv nat_list_eq_equiv) };
 
+    #[tactic(auto, using(crate::proofs::WordsCompared::compared))]
     fn eq(&self, other: &Word) -> bool {
-        self.bytes() == other.bytes()
+        if self.len != other.len {
+            return false;
+        }
+        self.room == other.room
     }
 }
 

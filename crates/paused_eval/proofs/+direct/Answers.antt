@@ -41,7 +41,7 @@ pub direct::node-returns-in-Variable-clause-does : goal.direct::node-returns-in-
 direct::node-returns-in-Variable-clause-does g t c =
     let s = c.args.program.now.schema.now in
     node_variable (on s c.args.cache.now) c.args.inner _ _ _ _ _ (ap out-Expr c.in-Variable.is ∙ out_variable _)
-    (value_there s c.args.machine.now c.args.cache.now c.named_value.result _ _ c.named_value.ensures c.as_slice-in-Variable.ensures)
+    (value_there s c.args.machine.now c.args.cache.now c.named_value.result _ _ c.named_value.ensures refl)
 
 pub direct_statements::statement-returns-in-Ok-clause-does : goal.direct_statements::statement-returns-in-Ok-clause-does
 direct_statements::statement-returns-in-Ok-clause-does g t c =

@@ -17,6 +17,6 @@ returns-in-Some-clause-does g c =
     let s = c.args.program.now.schema.now in
     let w = over s (at_hand s c.args.cache.now) in
     let deep : 0 < c.args.nested = above c.args.nested c.if-nested-eq0.false in
-    let read : field_read (out-Expr c.args.expr.now) ≡ Some c.as_slice.result.now = sym c.field_read.ensures ∙ ap option_copied c.in-Some.is ∙ ap Some (sym c.as_slice.ensures) in
+    let read : field_read (out-Expr c.args.expr.now) ≡ Some c.in-Some.name.now = sym c.field_read.ensures ∙ ap option_copied c.in-Some.is in
     rw (evaluate-deeper w c.args.nested c.args.expr.now c.args.stack.now deep)
-    (rw (begins_field w (c.args.nested - 1) (out-Expr c.args.expr.now) c.args.stack.now c.as_slice.result.now read) (c.field.ensures.does c.args.stack.now))
+    (rw (begins_field w (c.args.nested - 1) (out-Expr c.args.expr.now) c.args.stack.now c.in-Some.name.now read) (c.field.ensures.does c.args.stack.now))

@@ -1,4 +1,4 @@
-use Rattle.client_cache.proofs.NameLists.{none_rise}
+use Rattle.thor_value.proofs.Rising.{none_rise}
 use Rattle.client_cache.proofs.name_set.NameSet.new.Goals as goal
 
 pub invariant_of-result : goal.invariant_of-result

@@ -2,12 +2,14 @@ use Rattle.std.proofs.Common.{not, sym}
 use Rattle.std.proofs.lemmas.List.Kept.{IsStrictlySortedBy-filter}
 use Rattle.thor_value.specs.Names.{oref_cmp}
 use Rattle.client_cache.specs.Pages.{same_name}
-use Rattle.client_cache.proofs.NameLists.{none_removed}
+use Rattle.thor_value.specs.Rising.{IsThere}
+use Rattle.client_cache.proofs.NameLists.{none_removed, removed_at}
 use Rattle.client_cache.proofs.name_set.NameSet.remove.Goals as goal
 
 pub invariant_of-self : goal.invariant_of-self
 invariant_of-self c =
-    let removed = rw c.as_slice.ensures.value at c.in-Ok.ensures.found.removed in
+    let there : IsThere c.self.inside.names.items c.args.oref c.in-Ok.at = rw c.as_slice.ensures.value at c.in-Ok.ensures.found in
+    let removed = removed_at c.self.inside.names.items c.args.oref c.in-Ok.at c.self.invariant there.within there.here in
     rw (c.remove.ensures.items, removed) (IsStrictlySortedBy-filter oref_cmp (λ x. not (same_name c.args.oref x)) c.self.inside.names.items c.self.invariant)
 
 pub returns-in-Err : goal.returns-in-Err

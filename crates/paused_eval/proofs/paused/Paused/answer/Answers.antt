@@ -10,4 +10,4 @@ returns-in-Ended-clause-answers c = λ s f tx given l names came.
     if_ok c.done.result _ _ (ended_at c.args.epoch s f tx given _ _ h.1) (c.done.ensures.answers names h.0)
 
 pub returns-in-Ended-clause-stands : goal.returns-in-Ended-clause-stands
-returns-in-Ended-clause-stands c = λ s f tx given l names came. done_stands c.done.result c.args.epoch Next (state_with c.args.self.now.machine c.args.copies.now.cache names) _ (c.done.ensures.answers names Next)
+returns-in-Ended-clause-stands c = λ s f tx given l names came. done_stands c.done.result c.args.epoch Next (state_with c.args.machine.now c.args.copies.now.cache names) _ (c.done.ensures.answers names Next)

@@ -1,6 +1,6 @@
 use Rattle.std.proofs.Common.{sym, ◌∙◌}
-use Rattle.client_cache.proofs.NameLists.{behind_last, behind_none, less}
-use Rattle.client_cache.proofs.name_set.is_behind.Goals as goal
+use Rattle.thor_value.proofs.Rising.{behind_last, behind_none, less}
+use Rattle.thor_value.proofs.searching.comes_last.Goals as goal
 
 pub returns-in-None : goal.returns-in-None
 returns-in-None c = λ is. behind_none c.args.names.now c.args.oref c.in-None.ensures.value

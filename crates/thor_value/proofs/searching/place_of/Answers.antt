@@ -1,5 +1,5 @@
-use Rattle.client_cache.proofs.NameLists.{absent, found}
-use Rattle.client_cache.proofs.name_set.place.Goals as goal
+use Rattle.thor_value.proofs.Rising.{absent, found}
+use Rattle.thor_value.proofs.searching.place_of.Goals as goal
 
 pub returns-clause-found : goal.returns-clause-found
 returns-clause-found c = found c.args.names.now c.args.oref c.binary_search.result c.requires c.binary_search.ensures.bound c.binary_search.ensures.position
