@@ -176,9 +176,12 @@ less Greater h = cc
 
 -- ---- the set that has these names
 
-put_pairs : (xs : List Oref) (k : Oref) → map (λ x. (x, tt)) (insert_key oref_cmp xs k) ≡ insert_entry oref_cmp (map (λ x. (x, tt)) xs) k tt
+abbrev pairs_of : List Oref → List (Oref × Unit {0})
+pairs_of xs = map (λ x. (x, tt)) xs
+
+put_pairs : (xs : List Oref) (k : Oref) → pairs_of (insert_key oref_cmp xs k) ≡ insert_entry oref_cmp (pairs_of xs) k tt
 put_pairs [] k = refl
-put_pairs (y ∷ xs) k = (elim (oref_cmp k y) as (λ o. oref_cmp k y ≡ o → map (λ x. (x, tt)) (insert_key oref_cmp (y ∷ xs) k) ≡ insert_entry oref_cmp (map (λ x. (x, tt)) (y ∷ xs)) k tt) [
+put_pairs (y ∷ xs) k = (elim (oref_cmp k y) as (λ o. oref_cmp k y ≡ o → pairs_of (insert_key oref_cmp (y ∷ xs) k) ≡ insert_entry oref_cmp (pairs_of (y ∷ xs)) k tt) [
   | Less ↦ λ e. rw e refl
   | Equal ↦ λ e. rw e refl
   | Greater ↦ λ e. rw e (ap (λ (ps : List (Oref × Unit {0})). (y, tt) ∷ ps) (put_pairs xs k))

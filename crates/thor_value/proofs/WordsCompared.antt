@@ -25,11 +25,11 @@ rooms_compared a b h g n =
     (λ e. (bytes_eq-Decides a.room b.room).1 (same_room a b h g ((bytes_eq-Decides (bytes_in a) (bytes_in b)).0 e)))
 
 unequal : (b : Bool) → (b ≡ true → ⊥) → false ≡ b
-unequal true no = absurd (no refl)
-unequal false no = refl
+unequal true not = absurd (not refl)
+unequal false not = refl
 
 pub lengths_compared : (a b : Inside) → IsPadded a → IsPadded b → (a.len ≡ b.len → ⊥) → false ≡ bytes_eq (bytes_in a) (bytes_in b)
-lengths_compared a b h g no =
-    unequal (bytes_eq (bytes_in a) (bytes_in b)) (λ e. no (h.len ∙ ap length ((bytes_eq-Decides (bytes_in a) (bytes_in b)).0 e) ∙ sym g.len))
+lengths_compared a b h g other =
+    unequal (bytes_eq (bytes_in a) (bytes_in b)) (λ e. other (h.len ∙ ap length ((bytes_eq-Decides (bytes_in a) (bytes_in b)).0 e) ∙ sym g.len))
 
 pub ruleset compared = (rooms_compared, lengths_compared)

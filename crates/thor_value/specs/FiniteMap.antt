@@ -1,9 +1,9 @@
 -- Finite maps: from keys in an order R to values, as the list of their pairs in that order. The
 -- words are those of std's `BTreeMap`, whose entries are such a list, so code that keeps one has
 -- this map as its view. It is data: it computes, and a model's `Value` may contain it.
-use Rattle.std.specs.Prelude.{Bool, List, [], length, refl, ℕ, is_some}
+use Rattle.std.specs.Prelude.{Bool, true, List, [], length, refl, ℕ, is_some}
 use Rattle.std.specs.BTreeMap.{insert_entry, is_at}
-use Rattle.std.specs.Coded.{Coded, code_by, coded×, coded_list}
+use Rattle.std.specs.Coded.{Coded, code_by, coded×, coded_bool, coded_list}
 use Rattle.std.specs.List.{filter, fold}
 use Rattle.std.specs.List.Sorted.{IsStrictlySortedBy}
 use Rattle.std.specs.Map.{lookup, remove_entry, keys_of, values_of}
@@ -70,3 +70,7 @@ Set R = Map R (Unit {0})
 -- the set with one more key
 abbrev pub add : {K : Type 0} {R : K → K → Ordering} → Set R → K → Set R
 add m k = insert m k tt
+
+-- a set is a map to the one value that says nothing
+abbrev pub coded_unit : Coded (Unit {0})
+coded_unit = code_by Bool coded_bool (λ _. true) (λ _. tt) (λ _. refl)

@@ -19,8 +19,7 @@ pub struct OrefSet {
 }
 
 impl Model for OrefSet {
-    ghost use Rattle.std.specs.Coded.{coded_unit};
-    ghost use Rattle.thor_value.specs.FiniteMap.{Set, code};
+    ghost use Rattle.thor_value.specs.FiniteMap.{Set, code, coded_unit};
     ghost use Rattle.thor_value.specs.Names.{coded_oref, oref_cmp};
     ghost use Rattle.thor_value.specs.Rising.{Rise, set_of};
 
