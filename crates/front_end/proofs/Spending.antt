@@ -35,7 +35,7 @@ module _ (old new : View) (a b after : Held) where
   ends true e = e
   ends false e = e
 
-  pub other_names : Moves old new (record a { names = b.names }) after → Moves old new a after
+  unfoldable pub other_names : Moves old new (record a { names = b.names }) after → Moves old new a after
   other_names (Unsent m) = Unsent (unsent m)
   other_names (Received at m d joined t client) = Received at m d joined (takes at.repo m t) client
   other_names (ReceivedNone at d joined links client f) = ReceivedNone at d joined links client f

@@ -24,7 +24,7 @@ use Rattle.client_state.specs.declared.duties.Duties.{Duties}
 use Rattle.client_state.specs.declared.duties.Duty.{Duty}
 use Rattle.client_state.specs.declared.duties.Helping.{Helping}
 use Rattle.client_state.specs.declared.held.Held.{Held}
-use Rattle.client_state.specs.declared.link.Link.TheVariants.{Unsettled}
+use Rattle.client_state.specs.declared.link.Link.TheVariants.{Unsettled as UnsettledLink}
 use Rattle.client_state.specs.declared.link.Link.{Link}
 use Rattle.client_state.specs.declared.link.Waits.TheVariants.{Idle}
 use Rattle.client_state.specs.declared.phase.Phase.{Phase}
@@ -449,7 +449,7 @@ module _ (shows : Bool) (item : Present) (old new : View) (before after : Held) 
   answered_so r sent n o v is call coordinator (Err k) ends none own verdicts helping = tt
 
 -- the verdict on an Unknown item was told, and is handed on
-pub tells_late : (old new : View) (a : Pending) (links : List Link) (r : ℕ) (sent : Sent) (index : ℕ) (v : Verdict) (before after : List Duty) → slice_get links r ≡ Some (Unsettled sent index) → v.tx ≡ sent.ts → IsToldBy old new r v.tx v.commit
+pub tells_late : (old new : View) (a : Pending) (links : List Link) (r : ℕ) (sent : Sent) (index : ℕ) (v : Verdict) (before after : List Duty) → slice_get links r ≡ Some (UnsettledLink sent index) → v.tx ≡ sent.ts → IsToldBy old new r v.tx v.commit
     → after ≡ handed v (others_in sent.participants (first_in sent.participants)) before → MayTell old new a links before after
 tells_late old new a links r sent index v before after there tx told behind = inr (record { r = r; sent = sent; v = v; known = ByLink index there; tx = tx; told = subst (λ (t : Ts). IsToldBy old new r t v.commit) tx told; behind = behind })
 
