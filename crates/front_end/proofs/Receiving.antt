@@ -83,7 +83,7 @@ module _ (old new : View) (r s : ℕ) (k : Refusal) (d : Does {X = Option Messag
   outage_by refused.NoMemory m g h = tt
 
   -- a call that is refused, but not since its session is gone, met an outage
-  outage : IsNotGone k → IsOutage k
+  pub outage : IsNotGone k → IsOutage k
   outage g = outage_by k d.met g d.answer
 
 -- Where no session is gone, none is lost.
@@ -120,10 +120,10 @@ loses_so k repo before after links copies = record { left = after.cache.cache; l
 -- ---- the call
 
 module _ (old new : View) (at : At) (before mid after : Held) (rest : mid ≡ record before { links = mid.links }) (joined : InSession at before) where
-  same_copies : mid.cache.cache ≡ before.cache.cache
+  pub same_copies : mid.cache.cache ≡ before.cache.cache
   same_copies = ap (λ (h : Held). h.cache.cache) rest
 
-  same_client : mid.client ≡ before.client
+  pub same_client : mid.client ≡ before.client
   same_client = ap (λ (h : Held). h.client) rest
 
   unfoldable pub taken : (m : Message) → Does {X = Option Message} old new at.repo (Ok (Some m)) (ReceiveWork at.session (Ok (Some m))) → mid.links.items ≡ at_repo before.links.items at.repo (took m) → TakesCopies at.repo m mid after → Moves old new before after
@@ -140,7 +140,7 @@ module _ (old new : View) (at : At) (before mid after : Held) (rest : mid ≡ re
   unfolding taken
   by_message shows o m is call links t p z stays = λ s. record { moves = taken m (subst (λ (x : Option Message). Does {X = Option Message} old new at.repo (Ok x) (ReceiveWork at.session (Ok x))) is (call s)) (subst (λ (x : Option Message). mid.links.items ≡ links_behind (Ok x) at.repo before.links.items) is links) t; pends = behind_taken p z o links stays }
 
-  loses_there : (k : Refusal) → mid.links.items ≡ before.links.items → Loses k at.repo mid after → Loses k at.repo before after
+  pub loses_there : (k : Refusal) → mid.links.items ≡ before.links.items → Loses k at.repo mid after → Loses k at.repo before after
   loses_there k links l = record {
     left = l.left;
     links = l.links ∙ ap (λ (ls : List Link). links_refused k at.repo ls) links;

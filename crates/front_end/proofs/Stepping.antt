@@ -33,7 +33,7 @@ use Rattle.client_state.specs.declared.transaction.Sent.{Sent}
 use Rattle.client_state.specs.declared.transaction.Transaction.{Transaction}
 use Rattle.front_end.proofs.Receiving as receiving
 use Rattle.front_end.proofs.Spending as spending
-use Rattle.front_end.specs.Moving.{course_of, tries_of}
+use Rattle.front_end.specs.Moving.{course_of, tries_of, uncounted}
 use Rattle.front_end.specs.Stepping.{AsksBy, AsksEach, AsksOnce, ClientHands, ClientSteps, IsFinished, IsFinishedSo, IsForgotten, IsSentMore, SameVerdicts, StepsFrom, TakesStep, present_of}
 use Rattle.front_end.specs.declared.client.Client.{Client}
 use Rattle.front_end.specs.declared.front_end.FrontEnd.{FrontEnd}
@@ -44,7 +44,7 @@ use Rattle.session_outbox.specs.declared.answers.Asked.TheVariants as answers
 use Rattle.session_outbox.specs.declared.answers.At.{At}
 use Rattle.session_outbox.specs.declared.answers.Verdict.{Verdict}
 use Rattle.session_outbox.specs.declared.message.Message.{Message}
-use Rattle.std.proofs.Common.{Bool, List, [], ap, false, inl, inr, refl, subst, sym, true, ◌++◌, ◌≡◌, ◌∙◌, ℕ}
+use Rattle.std.proofs.Common.{Bool, List, [], ap, arith, false, inl, inr, refl, subst, sym, true, ◌++◌, ◌+◌, ◌≡◌, ◌≤◌, ◌∙◌, ℕ}
 use Rattle.std.proofs.lemmas.Option.{same_Some}
 use Rattle.std.specs.List.{list_any}
 use Rattle.std.specs.Option.{option_map}
@@ -332,6 +332,16 @@ module _ (shows : Bool) (item : Present) (old new : View) where
 pub both_if : {T : Type 0} {P Q : T → Type 0} {A : Type 0} (r : Result T NoMemory) → ((x : T) → P x → A → Q x) → IfOk r P → OnOk r A → IfOk r Q
 both_if (Ok x) f p a = f x p a
 both_if (Err e) f p a = tt
+
+-- the same of three facts
+pub all_if : {T : Type 0} {P Q : T → Type 0} {A B : Type 0} (r : Result T NoMemory) → ((x : T) → P x → A → B → Q x) → IfOk r P → OnOk r A → OnOk r B → IfOk r Q
+all_if (Ok x) f p a b = f x p a b
+all_if (Err e) f p a b = tt
+
+-- no more calls are left than before
+pub owes_no_more : {X : Type 0} (result : Result X NoMemory) (f g : Client) (n : ℕ) → ((tries : ℕ) → uncounted tries g ≤ uncounted tries f) → OnOk result ((tries : ℕ) → uncounted tries g ≤ uncounted tries f + n)
+owes_no_more (Ok x) f g n h = λ tries. let l : uncounted tries g ≤ uncounted tries f = h tries in omega (arith, l)
+owes_no_more (Err e) f g n h = tt
 
 -- ---- a step with the items
 

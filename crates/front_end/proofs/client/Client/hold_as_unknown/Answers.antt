@@ -16,4 +16,4 @@ pub returns-clause-writes : goal.returns-clause-writes
 returns-clause-writes c = λ none. nothing_unsent _ _ (ap (λ (k : Client). unsent k.phase) c.leave_all.ensures.rest ∙ none)
 
 pub returns-clause-link : goal.returns-clause-link
-returns-clause-link c = λ link there. put_there c.give_up.new.self.links.items c.set_link.new.self.links.items _ (Unsettled c.args.sent c.args.task.entry.who.index) (c.set_link.ensures.links ∙ ap (λ (r : ℕ). at_repo c.give_up.new.self.links.items r (λ (l : Link). Unsettled c.args.sent c.args.task.entry.who.index)) c.coordinator-coordinator.ensures) link there
+returns-clause-link c = λ link there. put_there c.give_up.new.self.links.items c.set_link.new.self.links.items _ (Unsettled c.args.sent c.args.task.who.index) (c.set_link.ensures.links ∙ ap (λ (r : ℕ). at_repo c.give_up.new.self.links.items r (λ (l : Link). Unsettled c.args.sent c.args.task.who.index)) c.coordinator-coordinator.ensures) link there
