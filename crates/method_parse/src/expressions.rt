@@ -395,7 +395,13 @@ fn called(
     ensures within { IfOk result (λ x. x.0.depth ≤ room.depth) }
 {
     let (receiver, (_, rest)) = both(receiver, word(tokens, b"."))?;
-    let (receiver, (method, rest)) = both(receiver, name(rest))?;
+    let (method, rest) = match name(rest) {
+        Ok(read) => read,
+        Err(error) => {
+            drop(receiver);
+            return Err(error);
+        }
+    };
     let (called, (read, rest)) = both((receiver, method), arguments(alloc, place, room, rest))?;
     let (receiver, method) = called;
     Ok((call(alloc, receiver, method, read)?, rest))
