@@ -37,11 +37,6 @@ pub whenever : {T E P : Type 0} (r : Result T E) → P → OnOk r P
 whenever (Ok x) p = p
 whenever (Err e) p = tt
 
--- two that hold of an answer
-pub both_ok : {T E P Q R : Type 0} (r : Result T E) → (P → Q → R) → OnOk r P → OnOk r Q → OnOk r R
-both_ok (Ok x) f p q = f p q
-both_ok (Err e) f p q = tt
-
 -- ---- a message and the copies
 
 pub takes_then_less : (repo : ℕ) (m : Message) (before mid after : Held) → CopiesTaken repo m before.cache.cache mid.cache.cache → mid.client ≡ before.client → mid.links.items ≡ before.links.items

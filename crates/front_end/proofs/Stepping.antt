@@ -127,6 +127,10 @@ module _ (shows : Bool) (old new : View) (r : ℕ) (t : Ts) (o : answer.Asked) (
   pub told_so : shows ≡ true → IsToldBy old new r v.tx v.commit
   told_so s = subst (λ (u : Ts). IsToldBy old new r u v.commit) (sym (asked_tx old new r t v (answer_told s))) (told_by s)
 
+  -- the same by its coordinator, where that was asked
+  pub told_there : shows ≡ true → r ≡ t.repo → IsToldBy old new v.tx.repo v.tx v.commit
+  told_there s here = subst (λ (n : ℕ). IsToldBy old new n v.tx v.commit) (here ∙ sym (ap (λ (u : Ts). u.repo) (asked_tx old new r t v (answer_told s)))) (told_so s)
+
 -- ---- a step, by its call
 
 module _ (shows : Bool) (item : Present) (old new : View) (before after : Held) (a z : Pending) (d e : Duties) (came : News) where
@@ -337,6 +341,11 @@ both_if (Err e) f p a = tt
 pub all_if : {T : Type 0} {P Q : T → Type 0} {A B : Type 0} (r : Result T NoMemory) → ((x : T) → P x → A → B → Q x) → IfOk r P → OnOk r A → OnOk r B → IfOk r Q
 all_if (Ok x) f p a b = f x p a b
 all_if (Err e) f p a b = tt
+
+-- and of four
+pub each_if : {T : Type 0} {P Q : T → Type 0} {A B C : Type 0} (r : Result T NoMemory) → ((x : T) → P x → A → B → C → Q x) → IfOk r P → OnOk r A → OnOk r B → OnOk r C → IfOk r Q
+each_if (Ok x) f p a b c = f x p a b c
+each_if (Err e) f p a b c = tt
 
 -- no more calls are left than before
 pub owes_no_more : {X : Type 0} (result : Result X NoMemory) (f g : Client) (n : ℕ) → ((tries : ℕ) → uncounted tries g ≤ uncounted tries f) → OnOk result ((tries : ℕ) → uncounted tries g ≤ uncounted tries f + n)
