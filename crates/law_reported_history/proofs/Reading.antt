@@ -1,14 +1,11 @@
 -- What is read off a trace: of each transaction that its repository coordinates, the line of its request where it has committed.
-use Rattle.cluster_core.specs.Committed.{committed_lines, decide, line_by, line_for, line_with, take_entry, take_trace, take_traces, with_line}
+use Rattle.cluster_core.specs.Committed.{decide, line_by, line_for, line_with, take_entry, with_line}
 use Rattle.cluster_core.specs.declared.lines.Coordinated.{Coordinated}
-use Rattle.law_atomic_commit.specs.Several.{AreSound, part}
-use Rattle.law_reported_history.specs.Reported.{history_in, several_of}
 use Rattle.log_entries.specs.declared.entry.Entry.TheVariants.{Decided, Finished, Life, One, Prepared, Upgraded}
 use Rattle.log_entries.specs.declared.entry.Entry.{Entry}
 use Rattle.log_entries.specs.declared.request.Kind.TheVariants.{App, Transform, Upgrade}
 use Rattle.log_entries.specs.declared.request.Kind.{Kind}
 use Rattle.log_entries.specs.declared.request.Request.{Request}
-use Rattle.repo_trace.specs.declared.trace.Trace.{Trace}
 use Rattle.spec_history.proofs.Growth.{by_growth, state-end}
 use Rattle.spec_history.proofs.Places.{placed}
 use Rattle.spec_history.proofs.Prefixes.{fits}
@@ -16,15 +13,14 @@ use Rattle.spec_history.proofs.Steps.{FateMoves, Moved, moved, not_lost}
 use Rattle.spec_history.proofs.Telling.{known-unleft}
 use Rattle.spec_history.specs.History.{Aborted, Base, Committed, Fate, Known, LeftOver, Open, State, commit, is_open, is_undecided, known_by, known_in, or_lost, put, settle, settle_by, state}
 use Rattle.spec_history.specs.Sound.{owes, sound}
-use Rattle.std.proofs.Common.{Bool, List, [], ap, arith, false, inl, inr, length, refl, subst, suc, sym, true, zero, ℕ, ◌+◌, ◌++◌, ◌<◌, ◌≡◌, ◌≢◌, ◌≤◌, ◌∙◌, ◌∷◌}
-use Rattle.std.proofs.lemmas.Bool.Decides.{eqb_tells}
-use Rattle.std.proofs.lemmas.Bool.{cases_lt, eqb-true}
+use Rattle.std.proofs.Common.{Bool, List, [], ap, false, inl, inr, refl, subst, sym, true, ℕ, ◌++◌, ◌≡◌, ◌≢◌, ◌∙◌, ◌∷◌}
+use Rattle.std.proofs.lemmas.Bool.{eq-eqb, eqb-true}
 use Rattle.std.proofs.lemmas.Cmp.{tied_itself}
 use Rattle.std.proofs.lemmas.List.Sums.{fold-append}
 use Rattle.std.proofs.lemmas.Map.Views.{tells_apart}
 use Rattle.std.proofs.lemmas.Option.{same_Some}
 use Rattle.std.specs.List.Sorted.{IsStrictlySortedBy}
-use Rattle.std.specs.List.{fold, slice_get}
+use Rattle.std.specs.List.{fold}
 use Rattle.std.specs.Option.{IsSomeAnd, option_map}
 use Rattle.std.specs.Ordering.{eq_by_cmp, is_eq}
 use Rattle.std.specs.Prelude.{None, Option, Some, cond, nat_eq, not, ◌⊎◌}
@@ -51,11 +47,11 @@ line_of_part None = None
 line_of_part (Some o) = line_as o.fate o.request
 
 -- What was read tells how transactions stand, of those that the repository r coordinates; of the others it has what was there before.
-record Reads (r : ℕ) (before : Lines) (K : Ts → Option Known) (s : Coordinated) : Type 0 where
+pub record Reads (r : ℕ) (before : Lines) (K : Ts → Option Known) (s : Coordinated) : Type 0 where
   pub prepared : IsSorted s.prepared
   pub committed : IsSorted s.committed
   pub fresh : (t : Ts) → K t ≡ None → get s.prepared t ≡ None
-  pub open : (t : Ts) (o : Known) → K t ≡ Some o → o.fate ≡ Open → t.repo ≡ r → get s.prepared t ≡ line_for o.request
+  pub undecided : (t : Ts) (o : Known) → K t ≡ Some o → o.fate ≡ Open → t.repo ≡ r → get s.prepared t ≡ line_for o.request
   pub own : (t : Ts) → t.repo ≡ r → get s.committed t ≡ line_of_part (K t)
   pub others : (t : Ts) → t.repo ≢ r → get s.committed t ≡ get before t
 
@@ -113,6 +109,10 @@ sorted-put : (m : Lines) (l : Option Line) → IsSorted m → IsSorted (with_lin
 sorted-put m None h = h
 sorted-put m (Some l) h = IsSorted-insert ts_total m l.ts l h
 
+pub none-sorted : IsSorted {R = ts_cmp} (empty {X = Line})
+unfolding IsStrictlySortedBy
+none-sorted = tt
+
 -- ---- one transaction that stands otherwise
 
 -- K' is as K, but at u, where it has w
@@ -142,7 +142,7 @@ module _ (r : ℕ) (before : Lines) (K K' : Ts → Option Known) (s : Coordinate
     prepared = h.prepared;
     committed = h.committed;
     fresh = λ t n. h.fresh t (sym (is t) ∙ n);
-    open = λ t o k f at. h.open t o (sym (is t) ∙ k) f at;
+    undecided = λ t o k f at. h.undecided t o (sym (is t) ∙ k) f at;
     own = λ t at. h.own t at ∙ ap line_of_part (sym (is t));
     others = h.others;
   }
@@ -153,7 +153,7 @@ module _ (r : ℕ) (before : Lines) (K K' : Ts → Option Known) (s : Coordinate
     prepared = h.prepared;
     committed = h.committed;
     fresh = λ t none. h.fresh t (was-none t (K t) refl (K' t) none (m t));
-    open = λ t o is f at. was-open t o at f (K t) refl (K' t) is (m t);
+    undecided = λ t o is f at. was-undecided t o at f (K t) refl (K' t) is (m t);
     own = λ t at. h.own t at ∙ same (K t) (K' t) t (m t);
     others = h.others;
   }
@@ -172,13 +172,13 @@ module _ (r : ℕ) (before : Lines) (K K' : Ts → Option Known) (s : Coordinate
       still q Aborted (Committed at) x e = cc
       still q Aborted Aborted x e = cc
 
-      was-open : (t : Ts) (o : Known) → t.repo ≡ r → o.fate ≡ Open → (old : Option Known) → K t ≡ old → (new : Option Known) → new ≡ Some o → Moved (Life n) [] k t old new → get s.prepared t ≡ line_for o.request
-      was-open t o at f old is None e x = none-some o e
-      was-open t o at f None is (Some w) e x = absurd x.0
-      was-open t o at f (Some v) is (Some w) e x =
+      was-undecided : (t : Ts) (o : Known) → t.repo ≡ r → o.fate ≡ Open → (old : Option Known) → K t ≡ old → (new : Option Known) → new ≡ Some o → Moved (Life n) [] k t old new → get s.prepared t ≡ line_for o.request
+      was-undecided t o at f old is None e x = none-some o e
+      was-undecided t o at f None is (Some w) e x = absurd x.0
+      was-undecided t o at f (Some v) is (Some w) e x =
           let one : w ≡ o = same_Some w o e in
           let opened : v.fate ≡ Open = still v.request v.fate w.fate x.2 (ap (λ (y : Known). y.fate) one ∙ f) in
-          h.open t v is opened at ∙ ap line_for (sym x.1 ∙ ap (λ (y : Known). y.request) one)
+          h.undecided t v is opened at ∙ ap line_for (sym x.1 ∙ ap (λ (y : Known). y.request) one)
 
       same-line : (q : Request) (f g : Fate) → FateMoves [] k q f g → line_as f q ≡ line_as g q
       same-line q Open Open x = refl
@@ -207,7 +207,7 @@ module _ (r : ℕ) (before : Lines) (K K' : Ts → Option Known) (s : Coordinate
         | inl x ↦ not-none K K' u w is t x.0 none
         | inr x ↦ h.fresh t (sym (elsewhere K K' u w is t x) ∙ none)
       ];
-      open = λ t o k f at. h.open t o (sym (elsewhere K K' u w is t (apart t at)) ∙ k) f at;
+      undecided = λ t o k f at. h.undecided t o (sym (elsewhere K K' u w is t (apart t at)) ∙ k) f at;
       own = λ t at. h.own t at ∙ ap line_of_part (sym (elsewhere K K' u w is t (apart t at)));
       others = h.others;
     }
@@ -224,9 +224,9 @@ module _ (r : ℕ) (before : Lines) (K K' : Ts → Option Known) (s : Coordinate
         | inl x ↦ not-none K K' u w is t x.0 n
         | inr x ↦ put-else s.prepared w.request t (other t x) ∙ h.fresh t (sym (elsewhere K K' u w is t x) ∙ n)
       ];
-      open = λ t o k f at. elim (is-or-not t u) [
+      undecided = λ t o k f at. elim (is-or-not t u) [
         | inl x ↦ at-it t x.0 ∙ ap (λ (y : Known). line_for y.request) (is-w K K' u w is t o x.0 k)
-        | inr x ↦ put-else s.prepared w.request t (other t x) ∙ h.open t o (sym (elsewhere K K' u w is t x) ∙ k) f at
+        | inr x ↦ put-else s.prepared w.request t (other t x) ∙ h.undecided t o (sym (elsewhere K K' u w is t x) ∙ k) f at
       ];
       own = λ t at. elim (is-or-not t u) [
         | inl x ↦ h.own t at ∙ ap line_of_part (ap K x.0 ∙ none) ∙ sym (ap line_of_part (there-at K K' u w is t x.0) ∙ ap (λ (f : Fate). line_as f w.request) opened)
@@ -248,14 +248,11 @@ module _ (r : ℕ) (before : Lines) (K K' : Ts → Option Known) (s : Coordinate
       prepared = sorted;
       committed = sorted-put s.committed l h.committed;
       fresh = fresh;
-      open = λ t o k f own. elim (is-or-not t u) [
+      undecided = λ t o k f own. elim (is-or-not t u) [
         | inl x ↦ let e : Committed at ≡ Open = sym ended ∙ ap (λ (y : Known). y.fate) (is-w K K' u w is t o x.0 k) ∙ f in cc
-        | inr x ↦ stays t x ∙ h.open t o (sym (elsewhere K K' u w is t x) ∙ k) f own
+        | inr x ↦ stays t x ∙ h.undecided t o (sym (elsewhere K K' u w is t x) ∙ k) f own
       ];
-      own = λ t own. ap (λ (y : Option Line). get (with_line s.committed y) t) line ∙ elim (is-or-not t u) [
-        | inl x ↦ at-it t x.0 ∙ sym (ap line_of_part (there-at K K' u w is t x.0) ∙ ap (λ (f : Fate). line_as f w.request) ended)
-        | inr x ↦ put-else s.committed w.request t (other t x) ∙ h.own t own ∙ ap line_of_part (sym (elsewhere K K' u w is t x))
-      ];
+      own = λ t own. ap (λ (y : Option Line). get (with_line s.committed y) t) line ∙ told t own;
       others = λ t no. ap (λ (y : Option Line). get (with_line s.committed y) t) line ∙ put-else s.committed w.request t (other t (apart-by-repo t u (λ e. no (e ∙ here)))) ∙ h.others t no;
     }
       where
@@ -264,6 +261,12 @@ module _ (r : ℕ) (before : Lines) (K K' : Ts → Option Known) (s : Coordinate
 
         at-it : (t : Ts) → t ≡ u → get (with_line s.committed (line_for w.request)) t ≡ line_for w.request
         at-it t e = ap (get (with_line s.committed (line_for w.request))) (e ∙ sym named) ∙ put-at s.committed w.request (h.own w.request.tx (ap (λ (v : Ts). v.repo) named ∙ here) ∙ ap (λ (v : Ts). line_of_part (K v)) named ∙ none)
+
+        told : (t : Ts) → t.repo ≡ r → get (with_line s.committed (line_for w.request)) t ≡ line_of_part (K' t)
+        told t own = elim (is-or-not t u) [
+          | inl x ↦ at-it t x.0 ∙ sym (ap line_of_part (there-at K K' u w is t x.0) ∙ ap (λ (f : Fate). line_as f w.request) ended)
+          | inr x ↦ put-else s.committed w.request t (other t x) ∙ h.own t own ∙ ap line_of_part (sym (elsewhere K K' u w is t x))
+        ]
 
     -- it commits at once
     begins : u.repo ≡ r → K u ≡ None → w.request.tx ≡ u → (at : ℕ) → w.fate ≡ Committed at → Reads r before K' (record s { committed = with_line s.committed (line_for w.request) })
@@ -283,7 +286,7 @@ module _ (r : ℕ) (before : Lines) (K K' : Ts → Option Known) (s : Coordinate
       -- it was prepared, and is decided to commit
       is-decided : (at : ℕ) → w.fate ≡ Committed at → Reads r before K' (decide s u true)
       is-decided at ended =
-          commits (remove s.prepared u) (IsSorted-remove s.prepared u h.prepared) fresh stays (get s.prepared u) (h.open u o was opened here ∙ ap line_for (sym same)) at here no-line (ap (λ (q : Request). q.tx) same ∙ named) ended
+          commits (remove s.prepared u) (IsSorted-remove ts_cmp s.prepared u h.prepared) fresh stays (get s.prepared u) (h.undecided u o was opened here ∙ ap line_for (sym same)) at here no-line (ap (λ (q : Request). q.tx) same ∙ named) ended
         where
           stays : (t : Ts) → eq_by_cmp ts_cmp t u ≡ false → get (remove s.prepared u) t ≡ get s.prepared t
           stays t x = get-remove ts_total s.prepared u t h.prepared ∙ ap (λ (k : Bool). cond k None (get s.prepared t)) (other-order t u x)
@@ -303,9 +306,9 @@ module _ (r : ℕ) (before : Lines) (K K' : Ts → Option Known) (s : Coordinate
           | inl x ↦ not-none K K' u w is t x.0 n
           | inr x ↦ h.fresh t (sym (elsewhere K K' u w is t x) ∙ n)
         ];
-        open = λ t v k f at. elim (is-or-not t u) [
+        undecided = λ t v k f at. elim (is-or-not t u) [
           | inl x ↦ let e : Aborted ≡ Open = sym ended ∙ ap (λ (y : Known). y.fate) (is-w K K' u w is t v x.0 k) ∙ f in cc
-          | inr x ↦ h.open t v (sym (elsewhere K K' u w is t x) ∙ k) f at
+          | inr x ↦ h.undecided t v (sym (elsewhere K K' u w is t x) ∙ k) f at
         ];
         own = λ t at. elim (is-or-not t u) [
           | inl x ↦ h.own t at ∙ ap (λ (v : Ts). line_of_part (K v)) x.0 ∙ no-line ∙ sym (ap line_of_part (there-at K K' u w is t x.0) ∙ ap (λ (f : Fate). line_as f w.request) ended)
@@ -324,6 +327,10 @@ undecided-is (Some o) e = by o.fate refl e
     by Open is x = (o, refl, is)
     by (Committed at) is x = cc
     by Aborted is x = cc
+
+-- a transaction that was prepared at this place, and lost or not
+abbrev prepared_as : ℕ → Request → Bool → Known
+prepared_as n q lost = record { place = n; request = q; fate = cond lost Aborted Open }
 
 module _ (b : Base) where
   -- how transactions stand where u was put
@@ -378,11 +385,11 @@ module _ (b : Base) where
   module _ (r : ℕ) (own : b.repo ≡ r) (before : Lines) where
     -- What one more entry tells.
     module _ (H : List Entry) (sd : sound b H) (s : Coordinated) (h : Reads r before (known_by b H) s) where
-      S : State
+      abbrev S : State
       S = state b H
 
-      K : Ts → Option Known
-      K = known_in b S
+      abbrev K : Ts → Option Known
+      K = known_in b (state b H)
 
       named : (t : Ts) (o : Known) → K t ≡ Some o → o.request.tx ≡ t
       named t o is = (fits b H sd t o is).named
@@ -390,10 +397,7 @@ module _ (b : Base) where
       prepares-it : (q : Request) → K q.tx ≡ None → (k : Bool) → nat_eq q.tx.repo r ≡ k → Put q.tx (record { place = S.length; request = q; fate = Open }) K (known_in b (put b S (Prepared q)))
           → Reads r before (known_in b (put b S (Prepared q))) (cond k (record s { prepared = with_line s.prepared (line_for q) }) s)
       prepares-it q none true is at = prepares r before K (known_in b (put b S (Prepared q))) s h q.tx (record { place = S.length; request = q; fate = Open }) at (eqb-true q.tx.repo r is) none refl refl
-      prepares-it q none false is at = of-another r before K (known_in b (put b S (Prepared q))) s h q.tx (record { place = S.length; request = q; fate = Open }) at (λ e. let f : nat_eq q.tx.repo r ≡ true = ap (λ (n : ℕ). nat_eq n r) e ∙ same r in cc)
-        where
-          same : (n : ℕ) → nat_eq n n ≡ true
-          same n = elim (eqb_tells n n) [ inl x ↦ x.2 | inr x ↦ absurd (x.1 refl) ]
+      prepares-it q none false is at = of-another r before K (known_in b (put b S (Prepared q))) s h q.tx (record { place = S.length; request = q; fate = Open }) at (λ e. let f : nat_eq q.tx.repo r ≡ true = eq-eqb q.tx.repo r e in cc)
 
       decides-it : (u : Ts) (c : Bool) → u.repo ≡ r → (o : Known) → K u ≡ Some o → o.fate ≡ Open → Reads r before (known_in b (settle S u c (known_in b S u))) (decide s u c)
       decides-it u true here o is opened =
@@ -442,10 +446,7 @@ module _ (b : Base) where
           begins r before K (known_in b (put b S (Upgraded q))) s h q.tx w (inserted-as S q.tx w w refl) (ow.1.1 ∙ own) ow.0.vouched.once refl S.length refl
       one-more (Prepared q) ow =
           let w : Known = record { place = S.length; request = q; fate = Open } in
-          prepares-it q ow.0.vouched.once (nat_eq q.tx.repo r) refl (inserted-as S q.tx w w (is-new q))
-        where
-          is-new : (q : Request) → or_lost b S q.tx (record { place = S.length; request = q; fate = Open }) ≡ record { place = S.length; request = q; fate = Open }
-          is-new q = ap (λ (l : Bool). record { place = S.length; request = q; fate = cond l Aborted Open }) (not_lost b S q.tx (placed b H sd).began)
+          prepares-it q ow.0.vouched.once (nat_eq q.tx.repo r) refl (inserted-as S q.tx w w (ap (prepared_as S.length q) (not_lost b S q.tx (placed b H sd).began)))
       one-more (Decided u c) ow =
           let k = undecided-is (K u) ow.0 in
           decides-it u c (ow.1 ∙ own) k.0 k.1 k.2
@@ -461,16 +462,12 @@ module _ (b : Base) where
         (λ H e sd ih ow. subst (λ (x : Coordinated). Reads r before (known_by b (H ++ e ∷ [])) x) (sym (fold-append (take_entry r) s H (e ∷ [])))
         (subst (λ (S : State). Reads r before (known_in b S) (take_entry r (fold (take_entry r) s H) e)) (sym (state-end b H e)) (one-more H sd (fold (take_entry r) s H) ih e ow)))
       where
-        none-sorted : IsSorted {R = ts_cmp} (empty {X = Line})
-        unfolding IsStrictlySortedBy
-        none-sorted = tt
-
         at-first : Reads r before (known_by b []) s
         at-first = record {
           prepared = subst (λ (m : Lines). IsSorted m) (sym none) none-sorted;
           committed = sorted;
           fresh = λ t k. ap (λ (m : Lines). get m t) none;
-          open = λ t o k f at. none-some o k;
+          undecided = λ t o k f at. none-some o k;
           own = λ t at. ap (λ (m : Lines). get m t) is ∙ clear t at;
           others = λ t at. ap (λ (m : Lines). get m t) is;
         }

@@ -85,37 +85,37 @@ are-items clients (d ∷ ds) a = (is-item clients (record { who = d.who; what = 
 
 -- ---- lines with their items
 
-head-of : Line → List Line → Line
-head-of l [] = l
-head-of l (x ∷ xs) = x
+abbrev head_of : Line → List Line → Line
+head_of l [] = l
+head_of l (x ∷ xs) = x
 
-tail-of : List Line → List Line
-tail-of [] = []
-tail-of (x ∷ xs) = xs
+abbrev tail_of : List Line → List Line
+tail_of [] = []
+tail_of (x ∷ xs) = xs
 
-with-item : Line → What → Did
-with-item l w = record { ts = l.ts; who = l.who; what = w; number = l.number; fresh = l.fresh; answer = l.answer }
+abbrev with_item : Line → What → Did
+with_item l w = record { ts = l.ts; who = l.who; what = w; number = l.number; fresh = l.fresh; answer = l.answer }
 
 module _ (items : Who → What) where
   -- each entry of the whole history performed its item
   perform : (es : List Commit) → AllByRecursion (λ d. d.what ≡ items d.who) (entries_of (map (change_of items) es))
   perform [] = tt
-  perform (e ∷ es) = by e.1.kind
+  perform (e ∷ es) = by e.1.kind (perform es)
     where
-      by : (k : Kind) → AllByRecursion (λ d. d.what ≡ items d.who) (entry_of (change_by items e k) ++ entries_of (map (change_of items) es))
-      by App = (refl, perform es)
-      by Transform = perform es
-      by (Upgrade text) = (refl, perform es)
+      by : (k : Kind) → AllByRecursion (λ d. d.what ≡ items d.who) (entries_of (map (change_of items) es)) → AllByRecursion (λ d. d.what ≡ items d.who) (entry_of (change_by items e k) ++ entries_of (map (change_of items) es))
+      by App more = (refl, more)
+      by Transform more = more
+      by (Upgrade text) more = (refl, more)
 
   same-history : (h w : List Did) → map line_of h ≡ map told_line w → AllByRecursion (λ d. items d.who ≡ d.what) h → AllByRecursion (λ d. d.what ≡ items d.who) w → h ≡ map as_told w
   same-history [] [] e a b = refl
   same-history [] (x ∷ w) e a b = cc
   same-history (d ∷ h) [] e a b = cc
   same-history (d ∷ h) (x ∷ w) e a b =
-      let line : line_of d ≡ told_line x = ap (head-of (line_of d)) e in
+      let line : line_of d ≡ told_line x = ap (head_of (line_of d)) e in
       let what : d.what ≡ x.what = sym a.0 ∙ ap (λ (l : Line). items l.who) line ∙ sym b.0 in
-      let here : d ≡ as_told x = ap (λ (l : Line). with-item l d.what) line ∙ ap (with-item (told_line x)) what in
-      ap (λ (y : Did). y ∷ h) here ∙ ap (λ (ys : List Did). as_told x ∷ ys) (same-history h w (ap tail-of e) a.1 b.1)
+      let here : d ≡ as_told x = ap (λ (l : Line). with_item l d.what) line ∙ ap (with_item (told_line x)) what in
+      ap (λ (y : Did). y ∷ h) here ∙ ap (λ (ys : List Did). as_told x ∷ ys) (same-history h w (ap tail_of e) a.1 b.1)
 
 pub is-whole : (clients : List (List What)) (base : ℕ → Base) (traces : List Trace) (h : List Did) (ended : List Ended) → AreSound (several_of base traces) → Answers h (all_items clients) ended → map line_of h ≡ committed_lines traces → h ≡ map as_told (whole_history (performed clients) (several_of base traces))
 is-whole clients base traces h ended sd answers lines =

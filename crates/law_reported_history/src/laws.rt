@@ -12,6 +12,7 @@ ghost use Rattle.serial_model.specs.declared.entries.Did.{Did};
 ghost use Rattle.serial_model.specs.declared.entries.What.{What};
 ghost use Rattle.serial_model.specs.declared.outcomes.Ended.{Ended};
 ghost use Rattle.spec_history.specs.History.{Base};
+ghost use Rattle.spec_history.specs.Laws.{LivesFollow};
 ghost use Rattle.std.specs.Prelude.{List, map, true, ℕ, ◌≡◌};
 ghost use Rattle.thor_value.specs.declared.values.Who.{Who};
 ghost use Rattle.top_history_check.specs.Lines.{line_of};
@@ -19,10 +20,12 @@ ghost use Rattle.top_history_check.specs.Lines.{line_of};
 use disk_trait::Parts;
 
 /// The histories that the traces of a run tell are sound together, by the bases with which its repositories began, where these have
-/// any.
+/// any. So the lives of each follow one another, from the one that the opening began.
 pub fn traces_of_a_run_are_sound<P: Parts>()
-    ensures { (given : List P) (traces : List Trace) (h : AreHistories P.disks given traces) → (run_of h.places h.mob h.start).based ≡ true →
+    ensures sound { (given : List P) (traces : List Trace) (h : AreHistories P.disks given traces) → (run_of h.places h.mob h.start).based ≡ true →
         AreSound (several_of (run_of h.places h.mob h.start).base traces) }
+    ensures lives { (given : List P) (traces : List Trace) (h : AreHistories P.disks given traces) → (run_of h.places h.mob h.start).based ≡ true →
+        (r : ℕ) → LivesFollow ((run_of h.places h.mob h.start).base r) ((several_of (run_of h.places h.mob h.start).base traces).history r) }
 {}
 
 /// What traces tell as committed are the lines of their whole history, where each of their histories is sound.
