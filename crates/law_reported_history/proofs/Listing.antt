@@ -1,10 +1,10 @@
 -- The lines that all traces tell are those of the commits, by rising timestamp.
-use Rattle.cluster_core.specs.Committed.{committed_lines, line_by, line_for, line_with, take_trace, take_traces}
+use Rattle.cluster_core.specs.Committed.{committed_lines, line_by, line_for, take_trace, take_traces}
 use Rattle.cluster_core.specs.declared.lines.Coordinated.{Coordinated}
 use Rattle.law_atomic_commit.specs.Several.{AreSound, Several, part}
 use Rattle.law_global_order.proofs.Listing.{are-the-commits, listed}
 use Rattle.law_global_order.proofs.Lists.{In}
-use Rattle.law_global_order.specs.Whole.{AreTheCommits, Commit, commits, whole}
+use Rattle.law_global_order.specs.Whole.{Commit, commits, whole}
 use Rattle.law_lazy_history.specs.Changes.{entries_of, entry_of}
 use Rattle.law_reported_history.proofs.Reading.{Lines, Reads, line_as, line_of_part, none-sorted, reads}
 use Rattle.law_reported_history.specs.Reported.{history_in, several_of, told_line}
@@ -30,7 +30,7 @@ use Rattle.std.specs.Prelude.{None, Option, Some, cond, min}
 use Rattle.std.specs.declared.cmp.Ordering.TheVariants.{Less}
 use Rattle.thor_value.proofs.FiniteMap.{same_map}
 use Rattle.thor_value.proofs.NameOrders.{ts_exact, ts_total}
-use Rattle.thor_value.specs.FiniteMap.{IsSorted, Map, empty, get, values}
+use Rattle.thor_value.specs.FiniteMap.{IsSorted, empty, get, values}
 use Rattle.thor_value.specs.Names.{ts_cmp}
 use Rattle.thor_value.specs.declared.names.Ts.{Ts}
 use Rattle.thor_value.specs.declared.values.Who.{Who}

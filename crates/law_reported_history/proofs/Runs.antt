@@ -3,24 +3,21 @@ use Rattle.cluster_core.specs.Histories.{AreHistories}
 use Rattle.cluster_core.specs.Seated.{AreRight, are_settled, base_at, is_settled_at, run_of}
 use Rattle.cluster_core.specs.declared.plan.Start.TheVariants as start
 use Rattle.cluster_core.specs.declared.plan.Start.{Start}
-use Rattle.cluster_port.specs.Begun.{base_of, is_settled}
 use Rattle.cluster_port.specs.Run.{Run}
 use Rattle.cluster_port.specs.Sited.{IsRightTrace}
 use Rattle.disk_trait.specs.Disks.{Disks}
 use Rattle.law_atomic_commit.specs.Several.{AreSound}
 use Rattle.law_reported_history.specs.Reported.{history_in, several_of}
-use Rattle.log_entries.specs.declared.entry.Entry.{Entry}
 use Rattle.repo_trace.specs.declared.trace.Trace.{Trace}
 use Rattle.spec_history.proofs.Lives.{lives}
-use Rattle.spec_history.specs.History.{Base}
 use Rattle.spec_history.specs.Laws.{LivesFollow}
 use Rattle.spec_history.specs.Sound.{sound}
-use Rattle.std.proofs.Common.{Bool, List, [], ap, arith, false, length, refl, subst, suc, sym, true, zero, ℕ, ◌+◌, ◌<◌, ◌≡◌, ◌≤◌, ◌∙◌, ◌∷◌}
+use Rattle.std.proofs.Common.{List, [], ap, arith, length, refl, subst, suc, sym, true, zero, ℕ, ◌+◌, ◌<◌, ◌≡◌, ◌≤◌, ◌∙◌, ◌∷◌}
 use Rattle.std.proofs.lemmas.Bool.{and_parts, eqb-true}
 use Rattle.std.proofs.lemmas.Option.{same_Some}
 use Rattle.std.specs.List.{AllZip, slice_get}
-use Rattle.std.specs.Prelude.{None, Option, Some, nat_eq, ◌&&◌}
-use Rattle.store_opening.specs.Seated.{AreSeated, IsSeated}
+use Rattle.std.specs.Prelude.{None, Option, Some, nat_eq}
+use Rattle.store_opening.specs.Seated.{IsSeated}
 use Rattle.store_opening.specs.declared.closed.Closed.TheVariants as found
 use Rattle.store_opening.specs.declared.closed.Closed as closed
 

@@ -18,7 +18,7 @@ use Rattle.serial_model.specs.declared.outcomes.Ended.{Ended}
 use Rattle.spec_history.specs.History.{Base}
 use Rattle.std.proofs.Common.{List, [], ap, arith, inl, inr, map, refl, suc, sym, ℕ, ◌+◌, ◌++◌, ◌≡◌, ◌∙◌, ◌∷◌}
 use Rattle.std.specs.List.{AllByRecursion, slice_get}
-use Rattle.std.specs.Prelude.{Contains, None, Option, Some, option_and_then, unwrap_or, ◌⊎◌}
+use Rattle.std.specs.Prelude.{Contains, Option, Some, option_and_then, unwrap_or}
 use Rattle.thor_value.specs.declared.values.Who.{Who}
 use Rattle.top_history_check.specs.Lines.{item_of, line_of, nth}
 use Rattle.top_history_check.specs.declared.assembling.Line.{Line}
