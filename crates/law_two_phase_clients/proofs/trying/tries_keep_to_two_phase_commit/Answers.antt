@@ -1,4 +1,4 @@
-use Rattle.law_two_phase_clients.proofs.Trying.{prepares, sends, tried_on}
+use Rattle.law_two_phase_clients.proofs.Preparing.{prepares, sends, tried_on}
 use Rattle.law_two_phase_clients.proofs.trying.tries_keep_to_two_phase_commit.Goals as goal
 
 pub returns : goal.returns

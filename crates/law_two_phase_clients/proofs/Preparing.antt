@@ -42,11 +42,11 @@ same_number n = grind (arith, nat_tests)
 
 left_out : (m r : ℕ) → nat_eq m r ≡ false → (ps : List ℕ) → list_any (nat_eq m) (others_in ps r) ≡ list_any (nat_eq m) ps
 left_out m r other [] = refl
-left_out m r other (x ∷ xs) = by (nat_eq x r) refl
+left_out m r other (x ∷ xs) = by (nat_eq x r) refl (left_out m r other xs)
   where
-    by : (k : Bool) → nat_eq x r ≡ k → list_any (nat_eq m) (cond (not k) (x ∷ others_in xs r) (others_in xs r)) ≡ (nat_eq m x || list_any (nat_eq m) xs)
-    by true h = left_out m r other xs ∙ ap (λ (b : Bool). b || list_any (nat_eq m) xs) (sym (ap (nat_eq m) (eqb-true x r h) ∙ other))
-    by false h = ap (λ (b : Bool). nat_eq m x || b) (left_out m r other xs)
+    by : (k : Bool) → nat_eq x r ≡ k → list_any (nat_eq m) (others_in xs r) ≡ list_any (nat_eq m) xs → list_any (nat_eq m) (cond (not k) (x ∷ others_in xs r) (others_in xs r)) ≡ (nat_eq m x || list_any (nat_eq m) xs)
+    by true h rest = rest ∙ ap (λ (b : Bool). b || list_any (nat_eq m) xs) (sym (ap (nat_eq m) (eqb-true x r h) ∙ other))
+    by false h rest = ap (λ (b : Bool). nat_eq m x || b) rest
 
 -- a participant and the others are all
 all_of : (r : ℕ) (ps : List ℕ) → list_any (nat_eq r) ps ≡ true → (m : ℕ) → (nat_eq m r || list_any (nat_eq m) (others_in ps r)) ≡ list_any (nat_eq m) ps
@@ -63,11 +63,11 @@ one_more_among n r [] h = by (nat_eq n r) refl h
     by : (k : Bool) → nat_eq n r ≡ k → (k || false) ≡ true → (false ≡ true) ⊎ (n ≡ r)
     by true is k = inr (eqb-true n r is)
     by false is k = cc
-one_more_among n r (x ∷ xs) h = by (nat_eq n x) refl h
+one_more_among n r (x ∷ xs) h = by (nat_eq n x) refl h (one_more_among n r xs)
   where
-    by : (k : Bool) → nat_eq n x ≡ k → (k || list_any (nat_eq n) (xs ++ r ∷ [])) ≡ true → ((k || list_any (nat_eq n) xs) ≡ true) ⊎ (n ≡ r)
-    by true is k = inl refl
-    by false is k = one_more_among n r xs k
+    by : (k : Bool) → nat_eq n x ≡ k → (k || list_any (nat_eq n) (xs ++ r ∷ [])) ≡ true → (list_any (nat_eq n) (xs ++ r ∷ []) ≡ true → (list_any (nat_eq n) xs ≡ true) ⊎ (n ≡ r)) → ((k || list_any (nat_eq n) xs) ≡ true) ⊎ (n ≡ r)
+    by true is k rest = inl refl
+    by false is k rest = rest k
 
 -- ---- requests of one transaction
 
@@ -90,7 +90,7 @@ module _ (links : List Link) (who : Who) (t : Ts) (before left : Transaction) (s
   shares_of shares = subst (AllByRecursion (λ (x : Share). list_any (nat_eq x.repo) before.participants ≡ true)) sends.taken shares
 
   rest_of : GoToParticipants before → GoToParticipants left
-  rest_of shares = subst (λ (ps : List ℕ). AllByRecursion (λ (x : Share). list_any (nat_eq x.repo) ps ≡ true) left.shares.items) (sym (ap (λ (x : Transaction). x.participants.items) sends.rest)) (shares_of shares).1
+  rest_of shares = subst (λ (ps : List ℕ). AllByRecursion (λ (x : Share). list_any (nat_eq x.repo) ps ≡ true) left.shares.items) (sym (ap (λ (x : Transaction). x.participants) sends.rest)) (shares_of shares).1
 
   place_is : s.at.repo ≡ sends.share.repo
   place_is = ap (λ (x : Sending). x.at.repo) sends.sent
