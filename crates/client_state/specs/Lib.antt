@@ -11,6 +11,7 @@ pub mod Pending
 pub mod Reading
 pub mod Receiving
 pub mod Sending
+pub mod Settling
 pub mod Showing
 pub mod Stepping
 pub mod Taking

@@ -1,5 +1,6 @@
 //! The calls of a running try on one repository, and what they come to.
 
+ghost use Rattle.client_state.specs.Settling.{CameAsSent, DrewAsSent};
 ghost use Rattle.client_state.specs.Calling.{Connects, CopiesRefused, Draws, DrawsAbove, Fetches, Grants, links_refused, upto_in};
 ghost use Rattle.client_state.specs.Learning.{KeepsBounds, Rises};
 ghost use Rattle.client_state.specs.Links.{at_repo, session_in};
@@ -61,6 +62,7 @@ impl Held {
         ensures copies { self.new.cache ≡ self.old.cache }
         ensures moves { IsApart repo self.old → SendsNothingIf Q.shows (Q.view port.old) (Q.view port.new) self.old self.new }
         ensures shown { CameIf Q.shows (Q.view port.old) (Q.view port.new) result }
+        ensures as_sent { IfOk result (CameAsSent self.old.links.items) }
         ensures rises { Rises self.old self.new }
     {
         match port.connect(repo, self.client) {
@@ -74,6 +76,7 @@ impl Held {
         ensures copies { self.new.cache ≡ self.old.cache }
         ensures client { self.new.client ≡ self.old.client }
         ensures shown { (old new : View) → CameShown old new result }
+        ensures as_sent { CameAsSent self.old.links.items result }
         ensures rises { Rises self.old self.new }
     {
         let Welcome {
@@ -104,6 +107,7 @@ impl Held {
         ensures moves { CallsIdle at self.old → SendsNothingIf Q.shows (Q.view port.old) (Q.view port.new) self.old self.new }
         ensures shown { CameIf Q.shows (Q.view port.old) (Q.view port.new) result }
         ensures bounds { KeepsBounds self.old self.new }
+        ensures as_sent { IfOk result (CameAsSent self.old.links.items) }
     {
         match port.fetch(at, page, self.upto(at.repo)) {
             Ok(()) => {
@@ -120,6 +124,7 @@ impl Held {
         ensures moves { CallsIdle at self.old → SendsNothingIf Q.shows (Q.view port.old) (Q.view port.new) self.old self.new }
         ensures shown { CameIf Q.shows (Q.view port.old) (Q.view port.new) result }
         ensures bounds { KeepsBounds self.old self.new }
+        ensures as_sent { IfOk result (CameAsSent self.old.links.items) }
     {
         match port.grant(at) {
             Ok(()) => {
@@ -139,6 +144,7 @@ impl Held {
         ensures stays { IfOk result (λ drew. DrewStays drew self.old.cache.cache self.new.cache.cache) }
         ensures err { OnErr result (self.new ≡ self.old) }
         ensures bounds { KeepsBounds self.old self.new }
+        ensures as_sent { IfOk result (DrewAsSent self.old.links.items) }
     {
         match port.draw(at, self.floor()) {
             Ok(ts) => Ok(Drew::Ts(ts)),
@@ -156,6 +162,7 @@ impl Held {
         ensures stays { IfOk result (λ came. CameStays came self.old.cache.cache self.new.cache.cache) }
         ensures err { OnErr result (self.new ≡ self.old) }
         ensures bounds { KeepsBounds self.old self.new }
+        ensures as_sent { IfOk result (CameAsSent self.old.links.items) }
     {
         if self.lose_gone(repo, refusal) {
             return Ok(Came::Anew);

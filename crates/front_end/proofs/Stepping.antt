@@ -17,6 +17,7 @@ use Rattle.client_state.specs.Participants.{first_in, others_in, sent_of}
 use Rattle.client_state.specs.Pending.{AsksBehind, IsAsking, IsPreparing, MovesSo, MovesSoIf, NonePending, Pending, RefusesToDecide, StaysAsked, StaysPending, asked_at, is_preparing, noted, pending_in, prepared_at}
 use Rattle.client_state.specs.Receiving.{EndsReceive, LosesThere, ReceivesNone, StopsThere, TakesCopies}
 use Rattle.client_state.specs.Sending.{IsOfSession, SendsShare}
+use Rattle.client_state.specs.Settling.{NewsAsSent}
 use Rattle.client_state.specs.Showing.{IsToldBy, ToldByAnswer, ToldByDecision}
 use Rattle.client_state.specs.Stepping.{AsksInVain, AsksOwn, CommitsInVain, DecidesAll, EndsAsked, EndsOwn, HandsSo, HoldsThere, PreparesInVain, PreparesNext, PreparesSo, Present, RefusesNext, SendsAlone, SendsDrawn, SendsTransform, StepsSo, StepsSoIf, TriesSo}
 use Rattle.client_state.specs.Taking.{links_behind}
@@ -358,17 +359,18 @@ owes_no_more (Err e) f g n h = tt
 
 module _ (shows : Bool) (old new : View) (f : FrontEnd) where
   -- what a client's function came to is taken down
-  pub takes_down : {X : Type 0} (item : Present) (g : FrontEnd) (c : Client) (came : News) → item ≡ present_of f → g.client ≡ c → (result : Result X NoMemory) → ClientSteps shows item old new f.client c came → GoesBy (tries_of f) came (course_of f) (course_of g) → OnOk result (EndsBy f.attempts came (course_of f) (course_of g)) → OnOk result (TakesStep shows old new f g)
-  takes_down item g c came is same result steps goes ends = on_ok_weaker result (λ h. record {
+  pub takes_down : {X : Type 0} (item : Present) (g : FrontEnd) (c : Client) (came : News) → item ≡ present_of f → g.client ≡ c → (result : Result X NoMemory) → ClientSteps shows item old new f.client c came → GoesBy (tries_of f) came (course_of f) (course_of g) → OnOk result (EndsBy f.attempts came (course_of f) (course_of g)) → NewsAsSent f.client.held.links.items came → OnOk result (TakesStep shows old new f g)
+  takes_down item g c came is same result steps goes ends sent = on_ok_weaker result (λ h. record {
     came = came;
     steps = subst (λ (k : Client). ClientSteps shows (present_of f) old new f.client k came) (sym same) (subst (λ (i : Present). ClientSteps shows i old new f.client c came) is steps);
     goes = goes;
     ends = h;
+    as_sent = sent;
   }) ends
 
   -- nothing has become of the items
   pub takes_none : (g : FrontEnd) → ClientSteps shows (present_of f) old new f.client g.client news.Nothing → course_of g ≡ course_of f → TakesStep shows old new f g
-  takes_none g steps same = record { came = news.Nothing; steps = steps; goes = same; ends = tt }
+  takes_none g steps same = record { came = news.Nothing; steps = steps; goes = same; ends = tt; as_sent = tt }
 
   pub takes_moves : (g : FrontEnd) → TakesStep shows old new f g → MovesSoIf shows old new f.client.held g.client.held (pending_in f.client.phase) (pending_in g.client.phase)
   takes_moves g t = moves_of shows (present_of f) old new f.client.held g.client.held (pending_in f.client.phase) (pending_in g.client.phase) f.client.duties g.client.duties t.came t.steps
@@ -398,6 +400,7 @@ takes_counted shows old new f m g client course tries tried t = record {
   steps = subst (λ (i : Present). ClientSteps shows i old new f.client g.client t.came) (item_is (who_next (course_of m)) (who_next (course_of f)) (tries_of m) (tries_of f) (ap who_next course) tries) (subst (λ (k : Client). ClientSteps shows (present_of m) old new k g.client t.came) client t.steps);
   goes = subst (λ (k : Course). GoesBy (tries_of f) t.came k (course_of g)) course (subst (λ (n : ℕ). GoesBy n t.came (course_of m) (course_of g)) tries t.goes);
   ends = subst (λ (k : Course). EndsBy f.attempts t.came k (course_of g)) course (ends_from f.attempts m.attempts t.came (course_of m) (course_of g) tries tried t.ends);
+  as_sent = subst (λ (k : Client). NewsAsSent k.held.links.items t.came) client t.as_sent;
 }
 
 -- ---- what is sent

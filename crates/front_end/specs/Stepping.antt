@@ -11,6 +11,7 @@ use Rattle.base_reasons.specs.declared.reason.Reason.TheVariants as reasons
 use Rattle.client_state.specs.Moving.{MovesIf}
 use Rattle.client_state.specs.Pending.{IsPreparing, Pending, pending_in}
 use Rattle.client_state.specs.Reading.{phase_reads}
+use Rattle.client_state.specs.Settling.{NewsAsSent}
 use Rattle.client_state.specs.Stepping.{Present, SendsMore, StepsSoIf}
 use Rattle.client_state.specs.declared.duties.Duties.{Duties}
 use Rattle.client_state.specs.declared.duties.Helping.{Helping}
@@ -112,20 +113,29 @@ RuleHelpsBy rules.HandOn helping = Unit {0}
 abbrev pub present_of : FrontEnd → Present
 present_of f = record { who = who_next (course_of f); tries = tries_of f }
 
--- The client has made a step: what that came to is what its items have gone by, and an item that has to end by it has ended so.
+-- The client has made a step: what that came to is what its items have gone by, and an item that has to end by it has ended so. One
+-- that was Unknown ends as it was sent.
 pub record TakesStep (shows : Bool) (old new : View) (f g : FrontEnd) : Type 0 where
   pub came : News
   pub steps : ClientSteps shows (present_of f) old new f.client g.client came
   pub goes : GoesBy (tries_of f) came (course_of f) (course_of g)
   pub ends : EndsBy f.attempts came (course_of f) (course_of g)
+  pub as_sent : NewsAsSent (held_of f).links.items came
 
 -- ---- behind the last step
+
+-- What a call has come to is what the items of a client have gone by. One that was Unknown ends as it was sent.
+pub record GoesAsSent (f g : FrontEnd) : Type 0 where
+  pub came : News
+  pub goes : GoesBy (tries_of f) came (course_of f) (course_of g)
+  pub as_sent : NewsAsSent (held_of f).links.items came
 
 -- The client has asked about an Unknown item, or has called nothing.
 pub record AsksOnce (shows : Bool) (repos : ℕ) (old new : View) (f g : FrontEnd) : Type 0 where
   pub acts : ActsIf shows old new
   pub moves : MovesIf shows old new (held_of f) (held_of g)
   pub shown : ItemsShown shows old new repos f g
+  pub items : GoesAsSent f g
 
 -- It has asked so by these calls, one behind the other: what was shown behind each, and what it was then.
 abbrev pub AsksBy : Bool → ℕ → View → FrontEnd → List (View × FrontEnd) → View → FrontEnd → Type 0

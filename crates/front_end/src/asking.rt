@@ -1,5 +1,7 @@
 //! The fourth rule: the client asks for its own transaction, which was sent to be decided.
 
+ghost use Rattle.client_state.specs.declared.link.Link.{Link};
+ghost use Rattle.client_state.specs.Settling.{NewsAsSent};
 ghost use Rattle.client_items.specs.declared.news.News.TheVariants as news;
 ghost use Rattle.client_state.specs.Handing.{handed};
 ghost use Rattle.client_state.specs.Participants.{first_in, others_in};
@@ -18,7 +20,7 @@ ghost use Rattle.front_end.specs.Showing.{NewsShown, ShownIf};
 ghost use Rattle.client_port.specs.Acting.{ActsIf};
 ghost use Rattle.client_port.specs.Views.{View};
 ghost use Rattle.front_end.specs.Moving.{uncounted};
-ghost use Rattle.std.specs.Prelude.{IfOk, IsSome, OnOk, ℕ, ◌+◌, ◌<◌, ◌≡◌, ◌≤◌, None};
+ghost use Rattle.std.specs.Prelude.{IfOk, IsSome, OnOk, ℕ, ◌+◌, ◌<◌, ◌≡◌, ◌≤◌, None, List};
 
 use crate::client::Client;
 use client_items::{News, Opened, Task};
@@ -41,6 +43,7 @@ impl Client {
         ensures acts { ActsIf Q.shows (Q.view port.old) (Q.view port.new) }
         ensures shown { ShownIf Q.shows (Q.view port.old) (Q.view port.new) opened.now.repos result }
         ensures moves { IfOk result (ClientSteps Q.shows (record { who = task.entry.who; tries = task.entry.tries }) (Q.view port.old) (Q.view port.new) self.old self.new) }
+        ensures as_sent { (links : List Link) → IfOk result (NewsAsSent links) }
         ensures writes { ClientWrites self.new }
         ensures rises { Rises self.old.held self.new.held }
     {
@@ -62,6 +65,7 @@ impl Client {
         ensures acts { ActsIf Q.shows (Q.view port.old) (Q.view port.new) }
         ensures shown { ShownIf Q.shows (Q.view port.old) (Q.view port.new) opened.now.repos result }
         ensures moves { pending_in self.old.phase ≡ NonePending → IfOk result (StepsFrom Q.shows (record { who = task.entry.who; tries = task.entry.tries }) (Q.view port.old) (Q.view port.new) (IsAsking sent answers) self.old self.new) }
+        ensures as_sent { (links : List Link) → IfOk result (NewsAsSent links) }
         ensures writes { unsent self.old.phase ≡ None → ClientWrites self.new }
         ensures rises { Rises self.old.held self.new.held }
     {
@@ -90,6 +94,7 @@ impl Client {
         ensures own { IfOk result (EndsAsked verdict.commit sent) }
         ensures hands { OnOk result (self.new.duties.verdicts ≡ handed verdict (others_in sent.participants (first_in sent.participants)) self.old.duties.verdicts) }
         ensures helping { OnOk result (self.new.duties.helping ≡ self.old.duties.helping) }
+        ensures as_sent { (links : List Link) → IfOk result (NewsAsSent links) }
         ensures writes { unsent self.old.phase ≡ None → ClientWrites self.new }
         ensures rises { Rises self.old.held self.new.held }
     {
@@ -108,6 +113,7 @@ impl Client {
         ensures stays { (before : ℕ) → pending_in self.old.phase ≡ NonePending → StaysAsked (IsAsking sent before) (pending_in self.new.phase) self.old.held self.new.held }
         ensures asks { (before : ℕ) → pending_in self.old.phase ≡ NonePending → answers ≡ one_more before → AsksInVain (record { who = task.entry.who; tries = task.entry.tries }) self.new.held (first_in sent.participants) sent before (pending_in self.new.phase) result }
         ensures duties { self.new.duties ≡ self.old.duties }
+        ensures as_sent { (links : List Link) → NewsAsSent links result }
         ensures writes { unsent self.old.phase ≡ None → ClientWrites self.new }
         ensures rises { Rises self.old.held self.new.held }
     {
@@ -126,6 +132,7 @@ impl Client {
         ensures unknown { result ≡ news.Ended (outcomes.Unknown sent.ts) }
         ensures link { KeepsSent (first_in sent.participants) sent task.entry.who.index self.new.held }
         ensures leaves { LeavesLess self.old.held self.new.held }
+        ensures as_sent { (links : List Link) → NewsAsSent links result }
         ensures writes { unsent self.old.phase ≡ None → ClientWrites self.new }
         ensures rises { Rises self.old.held self.new.held }
     {

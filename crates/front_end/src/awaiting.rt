@@ -1,5 +1,7 @@
 //! The first rule: a reply is outstanding.
 
+ghost use Rattle.client_state.specs.declared.link.Link.{Link};
+ghost use Rattle.client_state.specs.Settling.{NewsAsSent};
 ghost use Rattle.client_state.specs.Stepping.{Present};
 ghost use Rattle.front_end.specs.Stepping.{ClientSteps};
 ghost use Rattle.front_end.specs.Writing.{ClientWrites};
@@ -7,7 +9,7 @@ ghost use Rattle.client_state.specs.Learning.{Rises};
 ghost use Rattle.client_state.specs.Moving.{InSession};
 ghost use Rattle.front_end.specs.Showing.{ShownIf};
 ghost use Rattle.client_port.specs.Acting.{ActsIf};
-ghost use Rattle.std.specs.Prelude.{IfOk};
+ghost use Rattle.std.specs.Prelude.{IfOk, List};
 
 use crate::client::Client;
 use client_items::{News, Opened};
@@ -27,6 +29,7 @@ impl Client {
         ensures acts { ActsIf Q.shows (Q.view port.old) (Q.view port.new) }
         ensures shown { ShownIf Q.shows (Q.view port.old) (Q.view port.new) opened.now.repos result }
         ensures moves { (item : Present) → InSession at self.old.held → IfOk result (ClientSteps Q.shows item (Q.view port.old) (Q.view port.new) self.old self.new) }
+        ensures as_sent { (links : List Link) → IfOk result (NewsAsSent links) }
         ensures writes { ClientWrites self.old → ClientWrites self.new }
         ensures rises { Rises self.old.held self.new.held }
     {

@@ -1,5 +1,7 @@
 //! How a transaction is drawn, sent and decided.
 
+ghost use Rattle.client_state.specs.declared.link.Link.{Link};
+ghost use Rattle.client_state.specs.Settling.{NewsAsSent};
 ghost use Rattle.client_items.specs.Meanings.{is_ended};
 ghost use Rattle.client_state.specs.Participants.{sent_of};
 ghost use Rattle.client_port.specs.Acting.{Refuses};
@@ -20,7 +22,7 @@ ghost use Rattle.front_end.specs.Showing.{NewsShown, ShownIf};
 ghost use Rattle.client_port.specs.Acting.{ActsIf};
 ghost use Rattle.client_items.specs.declared.news.News.TheVariants as news;
 ghost use Rattle.session_outbox.specs.declared.answers.At.{At};
-ghost use Rattle.std.specs.Prelude.{IfOk, OnOk, ℕ, ◌≡◌, None, [], IsTrue, false, not, slice_get, true};
+ghost use Rattle.std.specs.Prelude.{IfOk, OnOk, ℕ, ◌≡◌, None, [], IsTrue, false, not, slice_get, true, List};
 
 use crate::client::Client;
 use client_items::{News, Opened};
@@ -44,6 +46,7 @@ impl Client {
         ensures free { pending_in self.new.phase ≡ NonePending }
         ensures ends { IfOk result (λ news. is_ended news ≡ false) }
         ensures hands { OnOk result (ClientHands Q.shows (Q.view port.old) (Q.view port.new) self.old self.new) }
+        ensures as_sent { IfOk result (NewsAsSent self.old.held.links.items) }
         ensures writes { WritesShares transaction.shares.items self.old.held.cache.cache → ClientWrites self.new }
         ensures rises { Rises self.old.held self.new.held }
     {
@@ -64,6 +67,7 @@ impl Client {
         ensures free { pending_in self.old.phase ≡ NonePending → pending_in self.new.phase ≡ NonePending }
         ensures ends { IfOk result (λ news. is_ended news ≡ false) }
         ensures verdicts { SameVerdicts self.old self.new }
+        ensures as_sent { IfOk result (NewsAsSent self.old.held.links.items) }
         ensures writes { ClientWrites self.old → ClientWrites self.new }
         ensures rises { Rises self.old.held self.new.held }
     {
@@ -92,6 +96,7 @@ impl Client {
         ensures acts { ActsIf Q.shows (Q.view port.old) (Q.view port.new) }
         ensures shown { ShownIf Q.shows (Q.view port.old) (Q.view port.new) opened.now.repos result }
         ensures moves { (item : Present) → item.who ≡ who → pending_in self.old.phase ≡ NonePending → WritesShares transaction.shares.items self.old.held.cache.cache → NoneAwaits 8 self.old.held.links.items → IfOk result (StepsFrom Q.shows item (Q.view port.old) (Q.view port.new) NonePending self.old self.new) }
+        ensures as_sent { (links : List Link) → IfOk result (NewsAsSent links) }
         ensures writes { unsent self.old.phase ≡ None → ClientWrites self.new }
         ensures rises { Rises self.old.held self.new.held }
     {
@@ -114,6 +119,7 @@ impl Client {
         ensures acts { ActsIf Q.shows (Q.view port.old) (Q.view port.new) }
         ensures shown { sending.request.tx ≡ ts → ShownIf Q.shows (Q.view port.old) (Q.view port.new) opened.now.repos result }
         ensures moves { (item : Present) → pending_in self.old.phase ≡ NonePending → sending.request.tx ≡ ts → SendsDrawn item self.old.held.links.items self.old.held.cache.cache sending transaction → (transaction.shares.items ≡ [] → WritesThere sending.at.repo sending.request.writes self.old.held.cache.cache) → IsOfSession self.old.held.links.items sending → NoneAwaits 8 self.old.held.links.items → IfOk result (StepsFrom Q.shows item (Q.view port.old) (Q.view port.new) NonePending self.old self.new) }
+        ensures as_sent { (links : List Link) → IfOk result (NewsAsSent links) }
         ensures writes { unsent self.old.phase ≡ None → ClientWrites self.new }
         ensures rises { Rises self.old.held self.new.held }
     {
@@ -148,6 +154,7 @@ impl Client {
         ensures acts { ActsIf Q.shows (Q.view port.old) (Q.view port.new) }
         ensures shown { sending.request.tx ≡ ts → ShownIf Q.shows (Q.view port.old) (Q.view port.new) opened.now.repos result }
         ensures moves { (item : Present) → pending_in self.old.phase ≡ NonePending → sending.request.tx ≡ ts → InSession sending.at self.old.held → SendsDrawn item self.old.held.links.items self.old.held.cache.cache sending transaction → (transaction.shares.items ≡ [] → WritesThere sending.at.repo sending.request.writes self.old.held.cache.cache) → IsOfSession self.old.held.links.items sending → NoneAwaits 8 self.old.held.links.items → IfOk result (StepsFrom Q.shows item (Q.view port.old) (Q.view port.new) NonePending self.old self.new) }
+        ensures as_sent { (links : List Link) → IfOk result (NewsAsSent links) }
         ensures writes { unsent self.old.phase ≡ None → ClientWrites self.new }
         ensures rises { Rises self.old.held self.new.held }
     {
@@ -169,6 +176,7 @@ impl Client {
         ensures acts { ActsIf Q.shows (Q.view port.old) (Q.view port.new) }
         ensures shown { (repos : ℕ) → ShownIf Q.shows (Q.view port.old) (Q.view port.new) repos result }
         ensures moves { (item : Present) → pending_in self.old.phase ≡ NonePending → sending.request.tx ≡ ts → SendsDrawn item self.old.held.links.items self.old.held.cache.cache sending transaction → IsOfSession self.old.held.links.items sending → NoneAwaits 8 self.old.held.links.items → IfOk result (StepsFrom Q.shows item (Q.view port.old) (Q.view port.new) NonePending self.old self.new) }
+        ensures as_sent { (links : List Link) → IfOk result (NewsAsSent links) }
         ensures writes { unsent self.old.phase ≡ None → ClientWrites self.new }
         ensures rises { Rises self.old.held self.new.held }
     {
@@ -191,6 +199,7 @@ impl Client {
         ensures acts { ActsIf Q.shows (Q.view port.old) (Q.view port.new) }
         ensures shown { sending.request.tx ≡ sent.ts → ShownIf Q.shows (Q.view port.old) (Q.view port.new) opened.now.repos result }
         ensures moves { (item : Present) (left : Transaction) → SendsAlone item self.old.held.links.items self.old.held.cache.cache sending left → sent ≡ sent_of sending.request.tx sending.at left → pending_in self.old.phase ≡ NonePending → InSession sending.at self.old.held → WritesThere sending.at.repo sending.request.writes self.old.held.cache.cache → IsOfSession self.old.held.links.items sending → NoneAwaits 8 self.old.held.links.items → IfOk result (StepsFrom Q.shows item (Q.view port.old) (Q.view port.new) NonePending self.old self.new) }
+        ensures as_sent { (links : List Link) → IfOk result (NewsAsSent links) }
         ensures writes { unsent self.old.phase ≡ None → ClientWrites self.new }
         ensures rises { Rises self.old.held self.new.held }
     {
@@ -211,6 +220,7 @@ impl Client {
         ensures acts { ActsIf Q.shows (Q.view port.old) (Q.view port.new) }
         ensures shown { sending.request.tx ≡ sent.ts → ShownIf Q.shows (Q.view port.old) (Q.view port.new) opened.now.repos result }
         ensures moves { (item : Present) (left : Transaction) → SendsAlone item self.old.held.links.items self.old.held.cache.cache sending left → sent ≡ sent_of sending.request.tx sending.at left → pending_in self.old.phase ≡ NonePending → InSession sending.at self.old.held → WritesThere sending.at.repo sending.request.writes self.old.held.cache.cache → HoldsWritten sending.request self.old.held.cache.cache → IsOfSession self.old.held.links.items sending → NoneAwaits 8 self.old.held.links.items → IfOk result (StepsFrom Q.shows item (Q.view port.old) (Q.view port.new) NonePending self.old self.new) }
+        ensures as_sent { (links : List Link) → IfOk result (NewsAsSent links) }
         ensures writes { unsent self.old.phase ≡ None → ClientWrites self.new }
         ensures rises { Rises self.old.held self.new.held }
     {
@@ -230,6 +240,7 @@ impl Client {
         ensures written { (at : At) → IsWrittenIn at self.old.held → HasStopped refusal → IsWrittenIn at self.new.held }
         ensures ends { IfOk result (λ news. is_ended news ≡ false) }
         ensures duties { OnOk result (KeepsDuties self.old.duties self.new.duties) }
+        ensures as_sent { (links : List Link) → IfOk result (NewsAsSent links) }
         ensures writes { unsent self.old.phase ≡ None → ClientWrites self.new }
         ensures rises { Rises self.old.held self.new.held }
     {
@@ -250,6 +261,7 @@ impl Client {
         ensures acts { ActsIf Q.shows (Q.view port.old) (Q.view port.new) }
         ensures shown { (repos : ℕ) → ShownIf Q.shows (Q.view port.old) (Q.view port.new) repos result }
         ensures moves { (item : Present) → pending_in self.old.phase ≡ NonePending → sending.request.tx ≡ ts → SendsDrawn item self.old.held.links.items self.old.held.cache.cache sending transaction → HoldsWritten sending.request self.old.held.cache.cache → IsOfSession self.old.held.links.items sending → NoneAwaits 8 self.old.held.links.items → IfOk result (StepsFrom Q.shows item (Q.view port.old) (Q.view port.new) NonePending self.old self.new) }
+        ensures as_sent { (links : List Link) → IfOk result (NewsAsSent links) }
         ensures writes { unsent self.old.phase ≡ None → ClientWrites self.new }
         ensures rises { Rises self.old.held self.new.held }
     {
@@ -283,6 +295,7 @@ impl Client {
         ensures acts { ActsIf Q.shows (Q.view port.old) (Q.view port.new) }
         ensures shown { ShownIf Q.shows (Q.view port.old) (Q.view port.new) opened.now.repos result }
         ensures moves { (item : Present) → item.who ≡ who → pending_in self.old.phase ≡ NonePending → NoneAwaits 8 self.old.held.links.items → IfOk result (StepsFrom Q.shows item (Q.view port.old) (Q.view port.new) (IsPreparing coordinator ts prepared transaction) self.old self.new) }
+        ensures as_sent { (links : List Link) → IfOk result (NewsAsSent links) }
         ensures writes { unsent self.old.phase ≡ None → ClientWrites self.new }
         ensures rises { Rises self.old.held self.new.held }
     {
@@ -306,6 +319,7 @@ impl Client {
         ensures acts { ActsIf Q.shows (Q.view port.old) (Q.view port.new) }
         ensures shown { ShownIf Q.shows (Q.view port.old) (Q.view port.new) opened.now.repos result }
         ensures moves { (item : Present) → transaction.shares.items ≡ [] → pending_in self.old.phase ≡ NonePending → NoneAwaits 8 self.old.held.links.items → IfOk result (StepsFrom Q.shows item (Q.view port.old) (Q.view port.new) (IsPreparing coordinator ts prepared transaction) self.old self.new) }
+        ensures as_sent { (links : List Link) → IfOk result (NewsAsSent links) }
         ensures writes { unsent self.old.phase ≡ None → ClientWrites self.new }
         ensures rises { Rises self.old.held self.new.held }
     {
@@ -327,6 +341,7 @@ impl Client {
         ensures acts { ActsIf Q.shows (Q.view port.old) (Q.view port.new) }
         ensures shown { (repos : ℕ) → ShownIf Q.shows (Q.view port.old) (Q.view port.new) repos result }
         ensures moves { (item : Present) → item.who ≡ who → NoneAwaits 8 self.old.held.links.items → IfOk result (StepsFrom Q.shows item (Q.view port.old) (Q.view port.new) (IsPreparing coordinator ts prepared transaction) self.old self.new) }
+        ensures as_sent { (links : List Link) → IfOk result (NewsAsSent links) }
         ensures writes { ClientWrites self.new }
         ensures rises { Rises self.old.held self.new.held }
     {
@@ -349,6 +364,7 @@ impl Client {
         ensures acts { ActsIf Q.shows (Q.view port.old) (Q.view port.new) }
         ensures shown { (repos : ℕ) → ShownIf Q.shows (Q.view port.old) (Q.view port.new) repos result }
         ensures moves { (item : Present) (a : Pending) → IsSentMore item self.old sending a → IsOfSession self.old.held.links.items sending → NoneAwaits 8 self.old.held.links.items → IfOk result (StepsFrom Q.shows item (Q.view port.old) (Q.view port.new) a self.old self.new) }
+        ensures as_sent { (links : List Link) → IfOk result (NewsAsSent links) }
         ensures writes { unsent self.old.phase ≡ None → ClientWrites self.new }
         ensures rises { Rises self.old.held self.new.held }
     {
@@ -373,6 +389,7 @@ impl Client {
         ensures acts { ActsIf Q.shows (Q.view port.old) (Q.view port.new) }
         ensures shown { (repos : ℕ) → ShownIf Q.shows (Q.view port.old) (Q.view port.new) repos result }
         ensures moves { (item : Present) (a : Pending) → IsSentMore item self.old sending a → HoldsThere sending self.old.held.links.items self.old.held.cache.cache → IsOfSession self.old.held.links.items sending → NoneAwaits 8 self.old.held.links.items → IfOk result (StepsFrom Q.shows item (Q.view port.old) (Q.view port.new) a self.old self.new) }
+        ensures as_sent { (links : List Link) → IfOk result (NewsAsSent links) }
         ensures writes { unsent self.old.phase ≡ None → ClientWrites self.new }
         ensures rises { Rises self.old.held self.new.held }
     {
@@ -397,6 +414,7 @@ impl Client {
         ensures acts { ActsIf Q.shows (Q.view port.old) (Q.view port.new) }
         ensures shown { ShownIf Q.shows (Q.view port.old) (Q.view port.new) opened.now.repos result }
         ensures moves { (item : Present) (a : Pending) (transaction : Transaction) → DecidesAll a coordinator sent.ts transaction → sent ≡ sent_of sent.ts coordinator transaction → pending_in self.old.phase ≡ NonePending → NoneAwaits 8 self.old.held.links.items → IfOk result (StepsFrom Q.shows item (Q.view port.old) (Q.view port.new) a self.old self.new) }
+        ensures as_sent { (links : List Link) → IfOk result (NewsAsSent links) }
         ensures writes { unsent self.old.phase ≡ None → ClientWrites self.new }
         ensures rises { Rises self.old.held self.new.held }
     {
@@ -413,6 +431,7 @@ impl Client {
         ensures client { self.new.held.client ≡ self.old.held.client }
         ensures asks { OnOk result (pending_in self.new.phase ≡ IsAsking sent 0) }
         ensures duties { self.new.duties ≡ self.old.duties }
+        ensures as_sent { (links : List Link) → IfOk result (NewsAsSent links) }
         ensures writes { unsent self.old.phase ≡ None → ClientWrites self.new }
         ensures rises { Rises self.old.held self.new.held }
     {

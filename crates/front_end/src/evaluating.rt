@@ -1,5 +1,6 @@
 //! How the transaction of an item is evaluated.
 
+ghost use Rattle.client_state.specs.Settling.{CameAsSent, NewsAsSent};
 ghost use Rattle.client_items.specs.Meanings.{is_ended};
 ghost use Rattle.client_state.specs.Pending.{NonePending, pending_in};
 ghost use Rattle.front_end.specs.Stepping.{ClientHands};
@@ -37,6 +38,7 @@ impl Client {
         ensures free { pending_in self.new.phase ≡ NonePending }
         ensures ends { IfOk result (λ news. is_ended news ≡ false) }
         ensures hands { OnOk result (ClientHands Q.shows (Q.view port.old) (Q.view port.new) self.old self.new) }
+        ensures as_sent { IfOk result (NewsAsSent self.old.held.links.items) }
         ensures writes { ClientWrites self.new }
         ensures rises { Rises self.old.held self.new.held }
     {
@@ -59,6 +61,7 @@ impl Client {
         ensures free { pending_in self.old.phase ≡ NonePending → pending_in self.new.phase ≡ NonePending }
         ensures ends { IfOk result (λ news. is_ended news ≡ false) }
         ensures hands { OnOk result (ClientHands Q.shows (Q.view port.old) (Q.view port.new) self.old self.new) }
+        ensures as_sent { IfOk result (NewsAsSent self.old.held.links.items) }
         ensures writes { unsent self.old.phase ≡ None → HasWritten ran self.old.held.cache.cache → ClientWrites self.new }
         ensures rises { Rises self.old.held self.new.held }
     {
@@ -91,6 +94,7 @@ impl Client {
         ensures free { pending_in self.old.phase ≡ NonePending → pending_in self.new.phase ≡ NonePending }
         ensures ends { IfOk result (λ news. is_ended news ≡ false) }
         ensures hands { OnOk result (ClientHands Q.shows (Q.view port.old) (Q.view port.new) self.old self.new) }
+        ensures as_sent { IfOk result (NewsAsSent self.old.held.links.items) }
         ensures writes { unsent self.old.phase ≡ None → ClientWrites self.new }
         ensures rises { Rises self.old.held self.new.held }
     {
@@ -113,6 +117,7 @@ impl Client {
         ensures free { pending_in self.old.phase ≡ NonePending → pending_in self.new.phase ≡ NonePending }
         ensures ends { IfOk result (λ news. is_ended news ≡ false) }
         ensures hands { OnOk result (ClientHands Q.shows (Q.view port.old) (Q.view port.new) self.old self.new) }
+        ensures as_sent { IfOk result (NewsAsSent self.old.held.links.items) }
         ensures writes { unsent self.old.phase ≡ None → ClientWrites self.new }
         ensures rises { Rises self.old.held self.new.held }
     {
@@ -137,6 +142,7 @@ impl Client {
         ensures free { pending_in self.old.phase ≡ NonePending → pending_in self.new.phase ≡ NonePending }
         ensures ends { IfOk result (λ news. is_ended news ≡ false) }
         ensures hands { OnOk result (ClientHands Q.shows (Q.view port.old) (Q.view port.new) self.old self.new) }
+        ensures as_sent { IfOk result (NewsAsSent self.old.held.links.items) }
         ensures writes { unsent self.old.phase ≡ None → ClientWrites self.new }
         ensures rises { Rises self.old.held self.new.held }
     {
@@ -164,6 +170,7 @@ impl Client {
         ensures moves { NoneAwaits 8 self.old.held.links.items → OnOk result (SendsNothingIf Q.shows (Q.view port.old) (Q.view port.new) self.old.held self.new.held) }
         ensures phase { self.new.phase ≡ self.old.phase }
         ensures hands { OnOk result (ClientHands Q.shows (Q.view port.old) (Q.view port.new) self.old self.new) }
+        ensures as_sent { IfOk result (CameAsSent self.old.held.links.items) }
         ensures rises { Rises self.old.held self.new.held }
     {
         match self.held.at(oref.repo) {
@@ -184,6 +191,7 @@ impl Client {
         ensures moves { NoneAwaits 8 self.old.held.links.items → OnOk result (SendsNothingIf Q.shows (Q.view port.old) (Q.view port.new) self.old.held self.new.held) }
         ensures phase { self.new.phase ≡ self.old.phase }
         ensures hands { OnOk result (ClientHands Q.shows (Q.view port.old) (Q.view port.new) self.old self.new) }
+        ensures as_sent { IfOk result (CameAsSent self.old.held.links.items) }
         ensures rises { Rises self.old.held self.new.held }
     {
         match self.held.at(repo) {

@@ -53,7 +53,7 @@ impl FrontEnd {
     ghost use Rattle.front_end.specs.Moving.{GoesOn, Keeps, MovesOn, course_of, held_of, left_of, pending_of, standing_of, steps_left, tries_of, uncounted};
     ghost use Rattle.front_end.specs.Rules.{MayFollow};
     ghost use Rattle.front_end.specs.Showing.{GoesShown, ItemsShown};
-    ghost use Rattle.front_end.specs.Stepping.{AsksEach, HelpsBy, TakesStep};
+    ghost use Rattle.front_end.specs.Stepping.{AsksEach, GoesAsSent, HelpsBy, TakesStep};
     ghost use Rattle.front_end.specs.declared.front_end.Step.TheVariants as step;
     ghost use Rattle.client_items.specs.Courses.{Goes, IsInOrder};
     ghost use Rattle.client_items.specs.Ending.{EndsBy, GoesBy, ends_try};
@@ -319,6 +319,7 @@ impl FrontEnd {
         ensures acts { ActsIf Q.shows (Q.view port.old) (Q.view port.new) }
         ensures shown { ItemsShown Q.shows (Q.view port.old) (Q.view port.new) opened.now.repos self.old self.new }
         ensures moves { OnOk result (MovesIf Q.shows (Q.view port.old) (Q.view port.new) (held_of self.old) (held_of self.new)) }
+        ensures as_sent { OnOk result (GoesAsSent self.old self.new) }
         ensures rises { Rises (held_of self.old) (held_of self.new) }
     {
         let news = self.client.ask_last(port, opened, repo)?;

@@ -1,5 +1,6 @@
 //! The sixth rule: the try goes on.
 
+ghost use Rattle.client_state.specs.Settling.{NewsAsSent};
 ghost use Rattle.client_items.specs.Meanings.{is_ended};
 ghost use Rattle.client_state.specs.Pending.{NonePending, pending_in};
 ghost use Rattle.front_end.specs.Stepping.{ClientHands, ClientSteps};
@@ -30,6 +31,7 @@ impl Client {
         ensures acts { ActsIf Q.shows (Q.view port.old) (Q.view port.new) }
         ensures shown { ShownIf Q.shows (Q.view port.old) (Q.view port.new) opened.now.repos result }
         ensures moves { ClientWrites self.old → NoneAwaits 8 self.old.held.links.items → IfOk result (ClientSteps Q.shows (record { who = task.entry.who; tries = task.entry.tries }) (Q.view port.old) (Q.view port.new) self.old self.new) }
+        ensures as_sent { IfOk result (NewsAsSent self.old.held.links.items) }
         ensures writes { ClientWrites self.old → ClientWrites self.new }
         ensures rises { Rises self.old.held self.new.held }
     {
@@ -75,6 +77,7 @@ impl Client {
         ensures free { pending_in self.old.phase ≡ NonePending → pending_in self.new.phase ≡ NonePending }
         ensures ends { IfOk result (λ news. is_ended news ≡ false) }
         ensures hands { OnOk result (ClientHands Q.shows (Q.view port.old) (Q.view port.new) self.old self.new) }
+        ensures as_sent { IfOk result (NewsAsSent self.old.held.links.items) }
         ensures writes { unsent self.old.phase ≡ None → ClientWrites self.new }
         ensures rises { Rises self.old.held self.new.held }
     {

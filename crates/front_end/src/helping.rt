@@ -1,5 +1,6 @@
 //! The third rule: the client helps on a transaction that stood against its request.
 
+ghost use Rattle.client_state.specs.Settling.{NewsAsSent};
 ghost use Rattle.client_state.specs.Pending.{pending_in};
 ghost use Rattle.client_state.specs.Stepping.{Present, StepsSoIf};
 ghost use Rattle.client_state.specs.declared.duties.Duties.{Duties};
@@ -29,6 +30,7 @@ impl Client {
         ensures acts { ActsIf Q.shows (Q.view port.old) (Q.view port.new) }
         ensures shown { ShownIf Q.shows (Q.view port.old) (Q.view port.new) opened.now.repos result }
         ensures moves { (item : Present) → self.old.duties.helping ≡ Some helping → IfOk result (ClientSteps Q.shows item (Q.view port.old) (Q.view port.new) self.old self.new) }
+        ensures as_sent { IfOk result (NewsAsSent self.old.held.links.items) }
         ensures writes { ClientWrites self.old → ClientWrites self.new }
         ensures rises { Rises self.old.held self.new.held }
     {
@@ -54,6 +56,7 @@ impl Client {
         ensures acts { ActsIf Q.shows (Q.view port.old) (Q.view port.new) }
         ensures shown { ShownIf Q.shows (Q.view port.old) (Q.view port.new) opened.now.repos result }
         ensures moves { (item : Present) (d : Duties) → self.old.duties.verdicts ≡ d.verdicts → self.old.duties.helping ≡ None → IfOk result (StepsSoIf Q.shows item (Q.view port.old) (Q.view port.new) self.old.held self.new.held (pending_in self.old.phase) (pending_in self.new.phase) d self.new.duties) }
+        ensures as_sent { IfOk result (NewsAsSent self.old.held.links.items) }
         ensures writes { ClientWrites self.old → ClientWrites self.new }
         ensures rises { Rises self.old.held self.new.held }
     {

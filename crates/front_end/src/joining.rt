@@ -1,5 +1,6 @@
 //! How a session begins where a try needs one.
 
+ghost use Rattle.client_state.specs.Settling.{CameAsSent, NewsAsSent};
 ghost use Rattle.client_items.specs.Meanings.{is_ended};
 ghost use Rattle.client_state.specs.Pending.{NonePending, pending_in};
 ghost use Rattle.front_end.specs.Stepping.{ClientHands};
@@ -33,6 +34,7 @@ impl Client {
         ensures free { pending_in self.old.phase ≡ NonePending → pending_in self.new.phase ≡ NonePending }
         ensures ends { IfOk result (λ news. is_ended news ≡ false) }
         ensures hands { OnOk result (ClientHands Q.shows (Q.view port.old) (Q.view port.new) self.old self.new) }
+        ensures as_sent { IfOk result (NewsAsSent self.old.held.links.items) }
         ensures writes { ClientWrites self.old → ClientWrites self.new }
         ensures rises { Rises self.old.held self.new.held }
     {
@@ -54,6 +56,7 @@ impl Client {
         ensures phase { self.new.phase ≡ self.old.phase }
         ensures hands { OnOk result (ClientHands Q.shows (Q.view port.old) (Q.view port.new) self.old self.new) }
         ensures cache { self.new.held.cache ≡ self.old.held.cache }
+        ensures as_sent { IfOk result (CameAsSent self.old.held.links.items) }
         ensures rises { Rises self.old.held self.new.held }
     {
         match self.held.unsettled(repo) {
@@ -77,6 +80,7 @@ impl Client {
         ensures phase { self.new.phase ≡ self.old.phase }
         ensures hands { OnOk result (ClientHands Q.shows (Q.view port.old) (Q.view port.new) self.old self.new) }
         ensures cache { self.new.held.cache ≡ self.old.held.cache }
+        ensures as_sent { IfOk result (CameAsSent self.old.held.links.items) }
         ensures rises { Rises self.old.held self.new.held }
     {
         match port.ask(repo, ts) {

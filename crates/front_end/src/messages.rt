@@ -1,5 +1,7 @@
 //! What a client does with the messages of a repository.
 
+ghost use Rattle.client_state.specs.declared.link.Link.{Link};
+ghost use Rattle.client_state.specs.Settling.{NewsAsSent};
 ghost use Rattle.client_items.specs.Meanings.{is_ended};
 ghost use Rattle.client_state.specs.Handing.{KeepsDuties};
 ghost use Rattle.client_state.specs.Pending.{NonePending, StaysPending, pending_in};
@@ -58,6 +60,7 @@ impl Client {
         ensures none { IfOk result (λ some. some ≡ None → ReceivesNone Q.shows (Q.view port.old) (Q.view port.new) at self.old.held self.new.held) }
         ensures still { IfOk result (λ some. some ≡ None → self.new.phase ≡ self.old.phase) }
         ensures gives_up { OnOk result (GaveUpIf Q.shows (Q.view port.old) (Q.view port.new) at.repo self.old.phase self.new.held.cache.cache) }
+        ensures as_sent { (links : List Link) → IfOk result (λ some. NewsAsSent links (news_in some)) }
         ensures writes { ClientWrites self.old → ClientWrites self.new }
         ensures rises { Rises self.old.held self.new.held }
     {
@@ -75,6 +78,7 @@ impl Client {
         ensures news { IfOk result (λ news. is_ended news ≡ false) }
         ensures duties { OnOk result (KeepsDuties self.old.duties self.new.duties) }
         ensures stays { OnOk result (StaysPending (pending_in self.old.phase) (pending_in self.new.phase) self.old.held self.new.held) }
+        ensures as_sent { (links : List Link) → IfOk result (NewsAsSent links) }
         ensures writes { ClientWrites self.old → ClientWrites self.new }
         ensures rises { Rises self.old.held self.new.held }
     {
@@ -91,6 +95,7 @@ impl Client {
         ensures ends { (refusal : Refusal) → IsNotGone refusal → EndsReceive refusal repo self.old.held self.new.held }
         ensures free { pending_in self.new.phase ≡ NonePending }
         ensures duties { KeepsDuties self.old.duties self.new.duties }
+        ensures as_sent { (links : List Link) → NewsAsSent links result }
         ensures writes { ClientWrites self.new }
         ensures rises { Rises self.old.held self.new.held }
     {
@@ -114,6 +119,7 @@ impl Client {
         ensures shown { ShownIf Q.shows (Q.view port.old) (Q.view port.new) opened.now.repos result }
         ensures moves { (item : Present) → InSession at self.old.held → IfOk result (ClientSteps Q.shows item (Q.view port.old) (Q.view port.new) self.old self.new) }
         ensures gives_up { OnOk result (GaveUpIf Q.shows (Q.view port.old) (Q.view port.new) at.repo self.old.phase self.new.held.cache.cache) }
+        ensures as_sent { (links : List Link) → IfOk result (NewsAsSent links) }
         ensures writes { ClientWrites self.old → ClientWrites self.new }
         ensures rises { Rises self.old.held self.new.held }
     {
@@ -132,6 +138,7 @@ impl Client {
         ensures loses { Loses refusal repo self.old.held self.new.held }
         ensures client { self.new.held.client ≡ self.old.held.client }
         ensures stays { StaysPending (pending_in self.old.phase) (pending_in self.new.phase) self.old.held self.new.held }
+        ensures as_sent { (links : List Link) → IfOk result (NewsAsSent links) }
         ensures writes { ClientWrites self.old → ClientWrites self.new }
         ensures rises { Rises self.old.held self.new.held }
     {
@@ -174,6 +181,7 @@ impl Client {
         ensures takes { OnOk result (TakesCopies repo message self.old.held self.new.held) }
         ensures gives_up { OnOk result (GivesUp repo message self.old.phase self.new.held.cache.cache) }
         ensures stays { OnOk result (StaysPending (pending_in self.old.phase) (pending_in self.new.phase) self.old.held self.new.held) }
+        ensures as_sent { (links : List Link) → IfOk result (NewsAsSent links) }
         ensures writes { ClientWrites self.old → ClientWrites self.new }
         ensures rises { Rises self.old.held self.new.held }
     {
@@ -193,6 +201,7 @@ impl Client {
         ensures verdicts { SameVerdicts self.old self.new }
         ensures takes { (place : ℕ) → OnOk result (TakesCopies repo (message.Page page bytes.now place) self.old.held self.new.held) }
         ensures stays { OnOk result (StaysPending (pending_in self.old.phase) (pending_in self.new.phase) self.old.held self.new.held) }
+        ensures as_sent { (links : List Link) → IfOk result (NewsAsSent links) }
         ensures writes { ClientWrites self.old → ClientWrites self.new }
         ensures rises { Rises self.old.held self.new.held }
     {
@@ -213,6 +222,7 @@ impl Client {
         ensures verdicts { SameVerdicts self.old self.new }
         ensures takes { (place : ℕ) → OnOk result (TakesCopies repo (message.Grant page place) self.old.held self.new.held) }
         ensures stays { OnOk result (StaysPending (pending_in self.old.phase) (pending_in self.new.phase) self.old.held self.new.held) }
+        ensures as_sent { (links : List Link) → IfOk result (NewsAsSent links) }
         ensures writes { ClientWrites self.old → ClientWrites self.new }
         ensures rises { Rises self.old.held self.new.held }
     {
@@ -236,6 +246,7 @@ impl Client {
         ensures takes { (repo : ℕ) → TakesCopies repo (message.Invalid orefs.now place) self.old.held self.new.held }
         ensures gives_up { GivesUp repo (message.Invalid orefs.now place) self.old.phase self.new.held.cache.cache }
         ensures stays { StaysPending (pending_in self.old.phase) (pending_in self.new.phase) self.old.held self.new.held }
+        ensures as_sent { (links : List Link) → NewsAsSent links result }
         ensures writes { ClientWrites self.old → ClientWrites self.new }
         ensures rises { Rises self.old.held self.new.held }
     {
@@ -272,6 +283,7 @@ impl Client {
         ensures verdicts { SameVerdicts self.old self.new }
         ensures takes { (repo place : ℕ) (text : List ℕ) → TakesCopies repo (message.Upgrade number text place) self.old.held self.new.held }
         ensures stays { StaysPending (pending_in self.old.phase) (pending_in self.new.phase) self.old.held self.new.held }
+        ensures as_sent { (links : List Link) → NewsAsSent links result }
         ensures writes { ClientWrites self.old → ClientWrites self.new }
         ensures rises { Rises self.old.held self.new.held }
     {

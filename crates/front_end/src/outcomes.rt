@@ -1,6 +1,8 @@
 //! What becomes of items whose verdict is known.
 
-ghost use Rattle.client_items.specs.Meanings.{committed_as};
+ghost use Rattle.client_state.specs.declared.link.Link.{Link};
+ghost use Rattle.client_state.specs.Settling.{NewsAsSent, SettlesAsSent};
+ghost use Rattle.client_items.specs.Meanings.{committed_as, settled_as};
 ghost use Rattle.client_items.specs.declared.news.News.TheVariants as news;
 ghost use Rattle.client_state.specs.Handing.{MayTell};
 ghost use Rattle.client_state.specs.Learning.{Rises};
@@ -13,7 +15,7 @@ ghost use Rattle.front_end.specs.Showing.{NewsShown, ShownIf};
 ghost use Rattle.client_port.specs.Acting.{ActsIf, IsDecided};
 ghost use Rattle.client_port.specs.Views.{View};
 ghost use Rattle.client_items.specs.Courses.{IsDownAt, is_committed};
-ghost use Rattle.std.specs.Prelude.{◌≡◌, IfOk, IfSome, None, OnOk, true, ℕ};
+ghost use Rattle.std.specs.Prelude.{◌≡◌, IfOk, IfSome, None, OnOk, true, ℕ, List};
 
 use crate::client::Client;
 use client_items::{Learnt, Meaning, News, Opened, Settled};
@@ -30,6 +32,7 @@ impl Client {
         ensures own { result ≡ news.Ended (committed_as sent.ts sent.meaning) }
         ensures rest { self.new ≡ record self.old { held = self.new.held } }
         ensures keeps { KeepsTry self.old.held self.new.held }
+        ensures as_sent { (links : List Link) → NewsAsSent links result }
         ensures rises { Rises self.old.held self.new.held }
     {
         let Sent { ts, meaning, .. } = sent;
@@ -70,6 +73,7 @@ impl Client {
         ensures helping { self.new.duties.helping ≡ self.old.duties.helping }
         ensures phase { self.new.phase ≡ self.old.phase }
         ensures cache { self.new.held.cache ≡ self.old.held.cache }
+        ensures as_sent { IfOk result (λ learnt. IfSome learnt (λ l. SettlesAsSent self.old.held.links.items l.settled)) }
         ensures rises { Rises self.old.held self.new.held }
     {
         match self.take_unsettled(repo) {
@@ -114,6 +118,7 @@ impl Client {
         ensures helping { self.new.duties.helping ≡ self.old.duties.helping }
         ensures phase { self.new.phase ≡ self.old.phase }
         ensures cache { self.new.held.cache ≡ self.old.held.cache }
+        ensures as_sent { (before : Held) → TakesUnsettled repo sent index before self.old.held → IfOk result (λ learnt. IfSome learnt (λ l. SettlesAsSent before.links.items l.settled)) }
         ensures rises { Rises self.old.held self.new.held }
     {
         if sent.ts != verdict.tx() {
@@ -138,6 +143,8 @@ impl Client {
         ensures down { IsDownAt repo result.settled.outcome }
         ensures rest { self.new ≡ record self.old { held = self.new.held } }
         ensures held { self.new.held ≡ record self.old.held { floor = self.new.held.floor; learnt = self.new.held.learnt } }
+        ensures index { result.settled.index ≡ index }
+        ensures own { result.settled.outcome ≡ settled_as sent.ts verdict.commit repo sent.meaning }
         ensures rises { Rises self.old.held self.new.held }
     {
         let Sent { ts, meaning, .. } = sent;
@@ -161,6 +168,7 @@ impl Client {
         ensures shown { ShownIf Q.shows (Q.view port.old) (Q.view port.new) opened.now.repos result }
         ensures moves { OnOk result (SendsNothingIf Q.shows (Q.view port.old) (Q.view port.new) self.old.held self.new.held) }
         ensures cache { self.new.held.cache ≡ self.old.held.cache }
+        ensures as_sent { IfOk result (NewsAsSent self.old.held.links.items) }
         ensures rises { Rises self.old.held self.new.held }
     {
         match self.take_unsettled(repo) {
@@ -183,6 +191,7 @@ impl Client {
         ensures shown { ShownIf Q.shows (Q.view port.old) (Q.view port.new) opened.now.repos result }
         ensures moves { (before : Held) → TakesUnsettled repo sent index before self.old.held → OnOk result (SendsNothingIf Q.shows (Q.view port.old) (Q.view port.new) before self.new.held) }
         ensures cache { self.new.held.cache ≡ self.old.held.cache }
+        ensures as_sent { (before : Held) → TakesUnsettled repo sent index before self.old.held → IfOk result (NewsAsSent before.links.items) }
         ensures rises { Rises self.old.held self.new.held }
     {
         match port.ask(repo, sent.ts) {

@@ -1,5 +1,6 @@
 //! Which rule a step follows.
 
+ghost use Rattle.client_state.specs.Settling.{NewsAsSent};
 ghost use Rattle.front_end.specs.Stepping.{ClientSteps, HelpsBy, RuleHelpsBy};
 ghost use Rattle.front_end.specs.Writing.{ClientWrites};
 ghost use Rattle.client_state.specs.Learning.{Rises};
@@ -94,6 +95,7 @@ impl Client {
         ensures acts { ActsIf Q.shows (Q.view port.old) (Q.view port.new) }
         ensures shown { ShownIf Q.shows (Q.view port.old) (Q.view port.new) opened.now.repos result }
         ensures moves { ClientWrites self.old → MayFollow rule self.old.held → HelpsBy rule self.old.duties.helping → IfOk result (ClientSteps Q.shows (record { who = task.entry.who; tries = task.entry.tries }) (Q.view port.old) (Q.view port.new) self.old self.new) }
+        ensures as_sent { IfOk result (NewsAsSent self.old.held.links.items) }
         ensures writes { ClientWrites self.old → ClientWrites self.new }
         ensures rises { Rises self.old.held self.new.held }
     {

@@ -2,6 +2,8 @@
 //!
 //! Lazy transforms are those of Boyapati and others (OOPSLA 2003).
 
+ghost use Rattle.client_state.specs.declared.link.Link.{Link};
+ghost use Rattle.client_state.specs.Settling.{NewsAsSent};
 ghost use Rattle.client_items.specs.Meanings.{is_ended};
 ghost use Rattle.client_state.specs.Handing.{KeepsDuties};
 ghost use Rattle.client_state.specs.Pending.{NonePending, pending_in};
@@ -16,7 +18,7 @@ ghost use Rattle.client_state.specs.Sending.{IsOfSession};
 ghost use Rattle.front_end.specs.Showing.{NewsShown, ShownIf};
 ghost use Rattle.client_port.specs.Acting.{ActsIf, Refuses};
 ghost use Rattle.client_port.specs.Views.{View};
-ghost use Rattle.std.specs.Prelude.{IfOk, OnOk, Some, [], false, slice_get, ℕ, ◌∷◌, ◌≡◌, None};
+ghost use Rattle.std.specs.Prelude.{IfOk, OnOk, Some, [], false, slice_get, ℕ, ◌∷◌, ◌≡◌, None, List};
 
 use crate::client::Client;
 use client_items::{News, Opened};
@@ -45,6 +47,7 @@ impl Client {
         ensures free { pending_in self.old.phase ≡ NonePending → pending_in self.new.phase ≡ NonePending }
         ensures ends { IfOk result (λ news. is_ended news ≡ false) }
         ensures hands { OnOk result (ClientHands Q.shows (Q.view port.old) (Q.view port.new) self.old self.new) }
+        ensures as_sent { IfOk result (NewsAsSent self.old.held.links.items) }
         ensures writes { unsent self.old.phase ≡ None → ClientWrites self.new }
         ensures rises { Rises self.old.held self.new.held }
     {
@@ -66,6 +69,7 @@ impl Client {
         ensures acts { ActsIf Q.shows (Q.view port.old) (Q.view port.new) }
         ensures shown { ShownIf Q.shows (Q.view port.old) (Q.view port.new) opened.now.repos result }
         ensures moves { (item : Present) → NoneAwaits 8 self.old.held.links.items → IfOk result (StepsFrom Q.shows item (Q.view port.old) (Q.view port.new) NonePending self.old self.new) }
+        ensures as_sent { IfOk result (NewsAsSent self.old.held.links.items) }
         ensures writes { ClientWrites self.new }
         ensures rises { Rises self.old.held self.new.held }
     {
@@ -91,6 +95,7 @@ impl Client {
         ensures free { pending_in self.old.phase ≡ NonePending → pending_in self.new.phase ≡ NonePending }
         ensures ends { IfOk result (λ news. is_ended news ≡ false) }
         ensures hands { OnOk result (ClientHands Q.shows (Q.view port.old) (Q.view port.new) self.old self.new) }
+        ensures as_sent { IfOk result (NewsAsSent self.old.held.links.items) }
         ensures writes { unsent self.old.phase ≡ None → ClientWrites self.new }
         ensures rises { Rises self.old.held self.new.held }
     {
@@ -129,6 +134,7 @@ impl Client {
         ensures free { pending_in self.old.phase ≡ NonePending → pending_in self.new.phase ≡ NonePending }
         ensures ends { IfOk result (λ news. is_ended news ≡ false) }
         ensures hands { OnOk result (ClientHands Q.shows (Q.view port.old) (Q.view port.new) self.old self.new) }
+        ensures as_sent { IfOk result (NewsAsSent self.old.held.links.items) }
         ensures writes { unsent self.old.phase ≡ None → ClientWrites self.new }
         ensures rises { Rises self.old.held self.new.held }
     {
@@ -159,6 +165,7 @@ impl Client {
         ensures free { pending_in self.old.phase ≡ NonePending → pending_in self.new.phase ≡ NonePending }
         ensures ends { IfOk result (λ news. is_ended news ≡ false) }
         ensures verdicts { SameVerdicts self.old self.new }
+        ensures as_sent { IfOk result (NewsAsSent self.old.held.links.items) }
         ensures writes { unsent self.old.phase ≡ None → ClientWrites self.new }
         ensures rises { Rises self.old.held self.new.held }
     {
@@ -180,6 +187,7 @@ impl Client {
         ensures acts { ActsIf Q.shows (Q.view port.old) (Q.view port.new) }
         ensures shown { (repos : ℕ) → ShownIf Q.shows (Q.view port.old) (Q.view port.new) repos result }
         ensures moves { (item : Present) → pending_in self.old.phase ≡ NonePending → NoneAwaits 8 self.old.held.links.items → IfOk result (StepsFrom Q.shows item (Q.view port.old) (Q.view port.new) NonePending self.old self.new) }
+        ensures as_sent { (links : List Link) → IfOk result (NewsAsSent links) }
         ensures writes { unsent self.old.phase ≡ None → ClientWrites self.new }
         ensures rises { Rises self.old.held self.new.held }
     {
@@ -209,6 +217,7 @@ impl Client {
         ensures acts { ActsIf Q.shows (Q.view port.old) (Q.view port.new) }
         ensures shown { (repos : ℕ) → ShownIf Q.shows (Q.view port.old) (Q.view port.new) repos result }
         ensures moves { (item : Present) → pending_in self.old.phase ≡ NonePending → InSession at self.old.held → SendsTransform self.old.held.client self.old.held.links.items (record { at = at; request = request }) → IsOfSession self.old.held.links.items (record { at = at; request = request }) → request.writes ≡ (oref, made) ∷ [] → oref.repo ≡ at.repo → NoneAwaits 8 self.old.held.links.items → IfOk result (StepsFrom Q.shows item (Q.view port.old) (Q.view port.new) NonePending self.old self.new) }
+        ensures as_sent { (links : List Link) → IfOk result (NewsAsSent links) }
         ensures writes { unsent self.old.phase ≡ None → ClientWrites self.new }
         ensures rises { Rises self.old.held self.new.held }
     {
@@ -231,6 +240,7 @@ impl Client {
         ensures acts { ActsIf Q.shows (Q.view port.old) (Q.view port.new) }
         ensures shown { (repos : ℕ) → ShownIf Q.shows (Q.view port.old) (Q.view port.new) repos result }
         ensures moves { (item : Present) → pending_in self.old.phase ≡ NonePending → InSession at self.old.held → SendsTransform self.old.held.client self.old.held.links.items (record { at = at; request = request }) → IsOfSession self.old.held.links.items (record { at = at; request = request }) → request.writes ≡ (oref, made) ∷ [] → oref.repo ≡ at.repo → HoldsWritten request self.old.held.cache.cache → NoneAwaits 8 self.old.held.links.items → IfOk result (StepsFrom Q.shows item (Q.view port.old) (Q.view port.new) NonePending self.old self.new) }
+        ensures as_sent { (links : List Link) → IfOk result (NewsAsSent links) }
         ensures writes { unsent self.old.phase ≡ None → ClientWrites self.new }
         ensures rises { Rises self.old.held self.new.held }
     {
@@ -247,6 +257,7 @@ impl Client {
         ensures ends { IfOk result (λ news. is_ended news ≡ false) }
         ensures duties { self.new.duties ≡ self.old.duties }
         ensures free { pending_in self.old.phase ≡ NonePending → pending_in self.new.phase ≡ NonePending }
+        ensures as_sent { (links : List Link) → IfOk result (NewsAsSent links) }
         ensures writes { unsent self.old.phase ≡ None → ClientWrites self.new }
         ensures rises { Rises self.old.held self.new.held }
     {
@@ -265,6 +276,7 @@ impl Client {
         ensures duties { OnOk result (KeepsDuties self.old.duties self.new.duties) }
         ensures client { self.new.held.client ≡ self.old.held.client }
         ensures free { pending_in self.old.phase ≡ NonePending → pending_in self.new.phase ≡ NonePending }
+        ensures as_sent { (links : List Link) → IfOk result (NewsAsSent links) }
         ensures writes { unsent self.old.phase ≡ None → ClientWrites self.new }
         ensures rises { Rises self.old.held self.new.held }
     {

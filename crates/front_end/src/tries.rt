@@ -1,5 +1,7 @@
 //! How a try goes on behind a call, begins anew, and ends.
 
+ghost use Rattle.client_state.specs.declared.link.Link.{Link};
+ghost use Rattle.client_state.specs.Settling.{CameAsSent, NewsAsSent, SettlesAsSent};
 ghost use Rattle.client_items.specs.Meanings.{is_ended};
 ghost use Rattle.client_state.specs.Handing.{KeepsDuties, helps_by};
 ghost use Rattle.client_state.specs.Pending.{NonePending, StaysPending, abort_in, pending_in};
@@ -16,7 +18,7 @@ ghost use Rattle.front_end.specs.Showing.{NewsShown};
 ghost use Rattle.client_items.specs.declared.news.News.TheVariants as news;
 ghost use Rattle.client_port.specs.Acting.{Refuses};
 ghost use Rattle.client_port.specs.Views.{View};
-ghost use Rattle.std.specs.Prelude.{IfOk, IsSome, None, OnOk, false, ℕ, ◌≡◌, ◌≤◌, ◌⊎◌};
+ghost use Rattle.std.specs.Prelude.{IfOk, IsSome, None, OnOk, false, ℕ, ◌≡◌, ◌≤◌, ◌⊎◌, List};
 ghost use Rattle.thor_value.specs.declared.names.Oref.{Oref};
 
 use crate::client::Client;
@@ -63,6 +65,7 @@ impl Client {
         ensures free { pending_in self.old.phase ≡ NonePending → pending_in self.new.phase ≡ NonePending }
         ensures ends { is_ended result ≡ false }
         ensures verdicts { SameVerdicts self.old self.new }
+        ensures as_sent { (links : List Link) → CameAsSent links came → NewsAsSent links result }
         ensures writes { (before : Contents) → CameStays came before self.old.held.cache.cache → PhaseWrites self.old.phase before → ClientWrites self.new }
         ensures rises { Rises self.old.held self.new.held }
     {
@@ -85,6 +88,7 @@ impl Client {
         ensures free { pending_in self.old.phase ≡ NonePending → pending_in self.new.phase ≡ NonePending }
         ensures ends { is_ended result ≡ false }
         ensures duties { self.new.duties ≡ self.old.duties }
+        ensures as_sent { (links : List Link) → SettlesAsSent links learnt.settled → NewsAsSent links result }
         ensures writes { ClientWrites self.old → ClientWrites self.new }
         ensures rises { Rises self.old.held self.new.held }
     {
@@ -114,6 +118,7 @@ impl Client {
         ensures none { (x : Oref) → changed self.new.held.cache.cache x ≡ None }
         ensures links { self.new.held.links ≡ self.old.held.links }
         ensures less { HoldsLess self.old.held self.new.held }
+        ensures as_sent { (links : List Link) → NewsAsSent links result }
         ensures writes { ClientWrites self.new }
         ensures bounds { KeepsBounds self.old.held self.new.held }
         ensures phase { self.new.phase ≡ phase.Between }
@@ -151,6 +156,7 @@ impl Client {
         ensures learns { Learns refusal repo self.old.held self.new.held }
         ensures client { self.new.held.client ≡ self.old.held.client }
         ensures stays { StaysPending (pending_in self.old.phase) (pending_in self.new.phase) self.old.held self.new.held }
+        ensures as_sent { (links : List Link) → IfOk result (NewsAsSent links) }
         ensures writes { ClientWrites self.old → ClientWrites self.new }
         ensures rises { Rises self.old.held self.new.held }
     {

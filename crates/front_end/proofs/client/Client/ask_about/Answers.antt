@@ -1,3 +1,4 @@
+use Rattle.client_state.specs.Settling.{SettlesAsSent}
 use Rattle.client_items.specs.Courses.{IsDownAt, is_committed}
 use Rattle.client_items.specs.declared.news.Learnt.{Learnt}
 use Rattle.client_state.proofs.Moving.{less_itself}
@@ -50,3 +51,6 @@ returns-in-Err-clause-moves g c = λ item d verdicts none. by_ask_so _ item _ _ 
 
 pub returns-then-ts-opened-clause-moves : goal.returns-then-ts-opened-clause-moves
 returns-then-ts-opened-clause-moves g c = λ item d verdicts none. by_rest _ item _ c.args.self.now.held c.args.self.now.held _ _ d _ _ (less_itself c.args.self.now.held) (stays_itself _ c.args.self.now.held) refl (λ s. record { verdicts = inl (inl verdicts); helping = inr (subst (λ (o : Option Helping). IsHelpTold (g.Q.Port.view c.args.port.now) (g.Q.Port.view c.args.port.now) (helps_by o)) (sym none) tt) })
+
+pub returns-in-Some-clause-as_sent : goal.returns-in-Some-clause-as_sent
+returns-in-Some-clause-as_sent g c = subst (λ (o : Option Learnt). IfSome o (λ l. SettlesAsSent c.args.self.now.held.links.items l.settled)) c.in-Some.is c.in_ok-settled-in-Ok-Settled.ensures.as_sent

@@ -1,3 +1,4 @@
+use Rattle.client_state.specs.Settling.{SettlesAsSent}
 use Rattle.client_items.specs.Courses.{IsDownAt, is_committed}
 use Rattle.client_items.specs.declared.news.Learnt.{Learnt}
 use Rattle.client_port.specs.Acting.{RefusesAsk}
@@ -60,3 +61,6 @@ returns-in-Ok-Undecided-clause-hands g c = hands_nothing _ _ _ c.args.self.now c
 
 pub returns-in_ok-cause_of-in-Err-clause-hands : goal.returns-in_ok-cause_of-in-Err-clause-hands
 returns-in_ok-cause_of-in-Err-clause-hands g c = hands_nothing _ _ _ c.args.self.now c.args.self.now (refl, refl)
+
+pub returns-in-Some-clause-as_sent : goal.returns-in-Some-clause-as_sent
+returns-in-Some-clause-as_sent g c = subst (λ (o : Option Learnt). IfSome o (λ l. SettlesAsSent c.args.self.now.held.links.items l.settled)) c.in-Some.is c.in_ok-learnt-in-Ok-Settled.ensures.as_sent

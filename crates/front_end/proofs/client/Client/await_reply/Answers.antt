@@ -1,3 +1,4 @@
+use Rattle.client_state.specs.Settling.{NewsAsSent}
 use Rattle.client_items.specs.declared.news.News.{News}
 use Rattle.front_end.proofs.client.Client.await_reply.Goals as goal
 use Rattle.front_end.specs.Stepping.{ClientSteps, news_in}
@@ -9,3 +10,6 @@ returns-in-Some-clause-moves g c = λ item joined. subst (λ (o : Option News). 
 
 pub returns-in-None-clause-moves : goal.returns-in-None-clause-moves
 returns-in-None-clause-moves g c = λ item joined. subst (λ (o : Option News). ClientSteps g.Q.Port.shows item (g.Q.Port.view c.args.port.now) (g.Q.Port.view c.receive.new.port) c.args.self.now c.receive.new.self (news_in o)) c.in-None.is (c.in_ok-news.ensures.moves item joined)
+
+pub returns-in-Some-clause-as_sent : goal.returns-in-Some-clause-as_sent
+returns-in-Some-clause-as_sent g c = λ links. subst (λ (o : Option News). NewsAsSent links (news_in o)) c.in-Some.is (c.in_ok-news.ensures.as_sent links)

@@ -1,8 +1,11 @@
+use Rattle.std.specs.Prelude.{IfOk}
+use Rattle.client_state.specs.declared.link.Link.{Link}
+use Rattle.client_state.specs.Settling.{NewsAsSent}
 use Rattle.client_state.proofs.Writing.{nothing_unsent}
 use Rattle.front_end.proofs.Calling.{same_sends}
 use Rattle.front_end.proofs.Stepping.{hands_nothing, hands_same}
 use Rattle.front_end.proofs.client.Client.begin.Goals as goal
-use Rattle.std.proofs.Common.{refl, sym, ◌∙◌}
+use Rattle.std.proofs.Common.{refl, sym, ◌∙◌, subst, List}
 
 pub returns-in_err-run-in-Some-Tx-clause-writes : goal.returns-in_err-run-in-Some-Tx-clause-writes
 returns-in_err-run-in-Some-Tx-clause-writes g c = λ none. nothing_unsent _ _ none
@@ -27,3 +30,6 @@ returns-in_ok-transaction-in-Some-Upgrade-clause-hands g c = hands_same _ _ _ c.
 
 pub returns-in-None-clause-hands : goal.returns-in-None-clause-hands
 returns-in-None-clause-hands g c = hands_nothing _ _ _ c.args.self.now c.args.self.now (refl, refl)
+
+pub returns-in_ok-transaction-in-Some-Upgrade-clause-as_sent : goal.returns-in_ok-transaction-in-Some-Upgrade-clause-as_sent
+returns-in_ok-transaction-in-Some-Upgrade-clause-as_sent g c = subst (λ (ls : List Link). IfOk c.join_and_draw.result (NewsAsSent ls)) (c.undo.ensures.less.1) c.join_and_draw.ensures.as_sent

@@ -1,3 +1,4 @@
+use Rattle.client_state.specs.Settling.{NewsAsSent}
 use Rattle.client_items.specs.declared.news.News.{News}
 use Rattle.client_state.specs.Pending.{pending_in}
 use Rattle.front_end.proofs.Stepping.{by_none_idle_so}
@@ -14,3 +15,6 @@ returns-in-None-clause-moves g c = λ item joined. by_none_idle_so item _ _ _ c.
 
 pub returns-in-None-clause-writes : goal.returns-in-None-clause-writes
 returns-in-None-clause-writes g c = λ w. rw (c.wait.ensures.rest) (c.receive.ensures.writes w)
+
+pub returns-in-Some-clause-as_sent : goal.returns-in-Some-clause-as_sent
+returns-in-Some-clause-as_sent g c = λ links. subst (λ (o : Option News). NewsAsSent links (news_in o)) c.in-Some.is (c.in_ok-news.ensures.as_sent links)

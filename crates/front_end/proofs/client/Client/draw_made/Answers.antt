@@ -1,3 +1,4 @@
+use Rattle.client_state.specs.Settling.{DrewAsSent}
 use Rattle.client_state.proofs.Moving.{sends_then_drops}
 use Rattle.client_state.proofs.Writing.{came_itself, nothing_unsent}
 use Rattle.client_state.specs.Showing.{DrewShown}
@@ -37,3 +38,6 @@ returns-in-Refused-clause-free g c = λ none. c.go_behind.ensures.free none
 
 pub returns-in_err-ts-clause-free : goal.returns-in_err-ts-clause-free
 returns-in_err-ts-clause-free g c = λ none. none
+
+pub returns-in-Refused-clause-as_sent : goal.returns-in-Refused-clause-as_sent
+returns-in-Refused-clause-as_sent g c = c.go_behind.ensures.as_sent _ (subst (DrewAsSent c.args.self.now.held.links.items) c.in-Refused.is c.in_ok-ts.ensures.as_sent)

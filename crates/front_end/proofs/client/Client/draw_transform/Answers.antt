@@ -1,10 +1,13 @@
+use Rattle.std.specs.Prelude.{IfOk}
+use Rattle.client_state.specs.declared.link.Link.{Link}
+use Rattle.client_state.specs.Settling.{NewsAsSent}
 use Rattle.client_state.proofs.Writing.{nothing_unsent}
 use Rattle.client_state.specs.declared.duties.Duties.{Duties}
 use Rattle.client_state.specs.declared.held.Held.{Held}
 use Rattle.front_end.proofs.Calling.{on_any}
 use Rattle.front_end.proofs.Stepping.{hands_nothing, hands_same}
 use Rattle.front_end.proofs.client.Client.draw_transform.Goals as goal
-use Rattle.std.proofs.Common.{ap, ◌∙◌}
+use Rattle.std.proofs.Common.{ap, ◌∙◌, subst, List}
 
 pub returns-in_err-becomes-in-Some-clause-writes : goal.returns-in_err-becomes-in-Some-clause-writes
 returns-in_err-becomes-in-Some-clause-writes g c = λ none. nothing_unsent _ _ (c.go_on_with.ensures.phase ∙ none)
@@ -29,3 +32,9 @@ returns-in_ok-becomes-in-Some-clause-hands g c = on_any c.draw_made.result _ (ha
 
 pub returns-in-None-clause-hands : goal.returns-in-None-clause-hands
 returns-in-None-clause-hands g c = hands_same _ _ _ c.args.self.now c.go_on_with-in-None.new.self c.join_behind.new.self (ap (λ (h : Held). h.links.items) c.go_on_with-in-None.ensures.held) c.go_on_with-in-None.ensures.duties c.join_behind.result c.join_behind.ensures.hands
+
+pub returns-in_ok-becomes-in-Some-clause-as_sent : goal.returns-in_ok-becomes-in-Some-clause-as_sent
+returns-in_ok-becomes-in-Some-clause-as_sent g c = subst (λ (ls : List Link). IfOk c.draw_made.result (NewsAsSent ls)) (ap (λ (h : Held). h.links.items) c.go_on_with.ensures.held) c.draw_made.ensures.as_sent
+
+pub returns-in-None-clause-as_sent : goal.returns-in-None-clause-as_sent
+returns-in-None-clause-as_sent g c = subst (λ (ls : List Link). IfOk c.join_behind.result (NewsAsSent ls)) (ap (λ (h : Held). h.links.items) c.go_on_with-in-None.ensures.held) c.join_behind.ensures.as_sent

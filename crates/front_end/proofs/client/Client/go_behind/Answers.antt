@@ -1,3 +1,4 @@
+use Rattle.client_state.specs.Settling.{CameAsSent}
 use Rattle.client_state.proofs.Writing.{came_learnt, came_well, still_writes}
 use Rattle.client_state.specs.Pending.{pending_in}
 use Rattle.client_state.specs.Showing.{CameShown}
@@ -18,3 +19,6 @@ returns-in-Anew-clause-free c = λ none. ap pending_in c.begin_anew.ensures.phas
 
 pub returns-in-Refused-clause-free : goal.returns-in-Refused-clause-free
 returns-in-Refused-clause-free c = λ none. ap pending_in c.end_try.ensures.phase
+
+pub returns-in-Learnt-clause-as_sent : goal.returns-in-Learnt-clause-as_sent
+returns-in-Learnt-clause-as_sent c = λ links h. c.take_learnt.ensures.as_sent links (subst (CameAsSent links) c.in-Learnt.is h)

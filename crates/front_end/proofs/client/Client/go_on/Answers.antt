@@ -1,3 +1,6 @@
+use Rattle.std.specs.Prelude.{IfOk}
+use Rattle.client_state.specs.declared.link.Link.{Link}
+use Rattle.client_state.specs.Settling.{NewsAsSent}
 use Rattle.client_state.proofs.Moving.{less_itself}
 use Rattle.client_state.proofs.Writing.{drawn_writes, evaluated_writes, nothing_unsent}
 use Rattle.client_state.specs.Pending.{pending_in}
@@ -5,7 +8,7 @@ use Rattle.client_state.specs.Writing.{unsent as shares_unsent}
 use Rattle.front_end.proofs.Stepping.{by_rest_kept, from_idle, from_phase, sends_from, sends_idle_from}
 use Rattle.front_end.proofs.client.Client.go_on.Goals as goal
 use Rattle.front_end.specs.declared.client.Client.{Client}
-use Rattle.std.proofs.Common.{ap, inr, refl, sym, ◌∙◌}
+use Rattle.std.proofs.Common.{ap, inr, refl, sym, ◌∙◌, subst, List}
 
 pub returns-in-Between-clause-moves : goal.returns-in-Between-clause-moves
 returns-in-Between-clause-moves g c = λ w. sends_idle_from _ _ _ _ c.args.self.now _ _ _ _ c.take_phase.ensures.rest c.begin.result c.begin.ensures.moves (c.begin.ensures.free (ap (λ (k : Client). pending_in k.phase) c.take_phase.ensures.rest)) c.begin.ensures.ends c.begin.ensures.hands
@@ -42,3 +45,21 @@ returns-in-Asking-clause-writes g c = λ w. nothing_unsent _ _ (ap (λ (k : Clie
 
 pub returns-in-Asking-clause-moves : goal.returns-in-Asking-clause-moves
 returns-in-Asking-clause-moves g c = λ w idle. rw (c.set_phase.ensures, c.take_phase.ensures.rest) (by_rest_kept _ _ _ c.args.self.now.held c.args.self.now.held _ _ _ _ _ (less_itself c.args.self.now.held) (inr (sym (ap pending_in (sym c.take_phase.ensures.phase ∙ c.in-Asking.is)), λ at written. written)) refl refl refl)
+
+pub returns-in-Between-clause-as_sent : goal.returns-in-Between-clause-as_sent
+returns-in-Between-clause-as_sent g c = subst (λ (ls : List Link). IfOk c.begin.result (NewsAsSent ls)) (ap (λ (k : Client). k.held.links.items) c.take_phase.ensures.rest) c.begin.ensures.as_sent
+
+pub returns-in-Evaluating-clause-as_sent : goal.returns-in-Evaluating-clause-as_sent
+returns-in-Evaluating-clause-as_sent g c = subst (λ (ls : List Link). IfOk c.evaluate.result (NewsAsSent ls)) (ap (λ (k : Client). k.held.links.items) c.take_phase.ensures.rest) c.evaluate.ensures.as_sent
+
+pub returns-in-Transforming-clause-as_sent : goal.returns-in-Transforming-clause-as_sent
+returns-in-Transforming-clause-as_sent g c = subst (λ (ls : List Link). IfOk c.transform.result (NewsAsSent ls)) (ap (λ (k : Client). k.held.links.items) c.take_phase.ensures.rest) c.transform.ensures.as_sent
+
+pub returns-in-Evaluated-clause-as_sent : goal.returns-in-Evaluated-clause-as_sent
+returns-in-Evaluated-clause-as_sent g c = subst (λ (ls : List Link). IfOk c.join_and_draw.result (NewsAsSent ls)) (ap (λ (k : Client). k.held.links.items) c.take_phase.ensures.rest) c.join_and_draw.ensures.as_sent
+
+pub returns-in-Drawn-clause-as_sent : goal.returns-in-Drawn-clause-as_sent
+returns-in-Drawn-clause-as_sent g c = c.send.ensures.as_sent _
+
+pub returns-in-Preparing-clause-as_sent : goal.returns-in-Preparing-clause-as_sent
+returns-in-Preparing-clause-as_sent g c = c.prepare_or_decide.ensures.as_sent _

@@ -1,10 +1,13 @@
+use Rattle.std.specs.Prelude.{IfOk}
+use Rattle.client_state.specs.declared.link.Link.{Link}
+use Rattle.client_state.specs.Settling.{NewsAsSent}
 use Rattle.client_state.proofs.Writing.{is_evaluated}
 use Rattle.client_state.specs.Pending.{pending_in}
 use Rattle.front_end.proofs.Calling.{on_any}
 use Rattle.front_end.proofs.Stepping.{hands_nothing, hands_same}
 use Rattle.front_end.proofs.client.Client.join_and_draw.Goals as goal
 use Rattle.front_end.specs.declared.client.Client.{Client}
-use Rattle.std.proofs.Common.{ap, ◌∙◌}
+use Rattle.std.proofs.Common.{ap, ◌∙◌, subst, List}
 
 pub returns-in-Some-clause-writes : goal.returns-in-Some-clause-writes
 returns-in-Some-clause-writes g c = λ w. c.join_behind.ensures.writes (rw (c.set_phase.ensures) (is_evaluated _ _ w))
@@ -23,3 +26,9 @@ returns-in-Some-clause-hands g c = hands_same _ _ _ c.args.self.now c.set_phase.
 
 pub returns-in-None-clause-hands : goal.returns-in-None-clause-hands
 returns-in-None-clause-hands g c = on_any c.draw.result _ (hands_nothing _ _ _ c.args.self.now c.draw.new.self (c.draw.ensures.verdicts.0 ∙ ap (λ (k : Client). k.duties.verdicts) c.set_phase.ensures, c.draw.ensures.verdicts.1 ∙ ap (λ (k : Client). k.duties.helping) c.set_phase.ensures))
+
+pub returns-in-Some-clause-as_sent : goal.returns-in-Some-clause-as_sent
+returns-in-Some-clause-as_sent g c = subst (λ (ls : List Link). IfOk c.join_behind.result (NewsAsSent ls)) (ap (λ (k : Client). k.held.links.items) c.set_phase.ensures) c.join_behind.ensures.as_sent
+
+pub returns-in-None-clause-as_sent : goal.returns-in-None-clause-as_sent
+returns-in-None-clause-as_sent g c = subst (λ (ls : List Link). IfOk c.draw.result (NewsAsSent ls)) (ap (λ (k : Client). k.held.links.items) c.set_phase.ensures) c.draw.ensures.as_sent

@@ -1,5 +1,5 @@
 use Rattle.client_state.specs.Handing.{handed}
-use Rattle.front_end.proofs.Settling.{back_then, settled_then}
+use Rattle.front_end.proofs.Settling.{back_then, settled_then, settled_sent}
 use Rattle.front_end.proofs.Stepping.{tells_late}
 use Rattle.front_end.proofs.client.Client.learn_of.Goals as goal
 use Rattle.front_end.specs.declared.client.Client.{Client}
@@ -16,3 +16,9 @@ returns-then-ne-clause-hands c = λ before takes a old new told. inl refl
 
 pub returns-clause-hands : goal.returns-clause-hands
 returns-clause-hands c = λ before takes a old new told. tells_late old new a before.links.items c.args.repo c.args.sent c.args.index c.args.verdict _ _ takes.there (search rules) told (ap (λ (k : Client). k.duties.verdicts) c.settle.ensures.rest ∙ (c.in_ok-hand_on.ensures.handed ∙ ap (λ (rs : List ℕ). handed c.args.verdict rs c.args.self.now.duties.verdicts) c.in_ok-others.ensures.all))
+
+pub returns-clause-as_sent : goal.returns-clause-as_sent
+returns-clause-as_sent c = λ before takes. settled_sent before.links.items c.args.repo c.args.sent c.args.index _ c.settle.result.settled takes.there c.settle.ensures.index c.settle.ensures.tx c.settle.ensures.stands c.settle.ensures.own
+
+pub returns-then-ne-clause-as_sent : goal.returns-then-ne-clause-as_sent
+returns-then-ne-clause-as_sent c = λ before takes. tt

@@ -7,3 +7,6 @@ use Rattle.std.specs.Prelude.{OnOk}
 
 pub returns-in-Some-clause-hands : goal.returns-in-Some-clause-hands
 returns-in-Some-clause-hands c = λ a old new told. subst (λ (ds : List Duty). OnOk c.learn_of.result (MayTell old new a c.args.self.now.held.links.items ds c.learn_of.new.self.duties.verdicts)) (ap (λ (k : Client). k.duties.verdicts) c.take_unsettled.ensures.rest) (c.learn_of.ensures.hands c.args.self.now.held c.in-Some.ensures.taken a old new told)
+
+pub returns-in-Some-clause-as_sent : goal.returns-in-Some-clause-as_sent
+returns-in-Some-clause-as_sent c = c.learn_of.ensures.as_sent c.args.self.now.held c.in-Some.ensures.taken

@@ -1,9 +1,12 @@
+use Rattle.std.specs.Prelude.{IfOk}
+use Rattle.client_state.specs.declared.link.Link.{Link}
+use Rattle.client_state.specs.Settling.{NewsAsSent}
 use Rattle.client_state.specs.Pending.{pending_in}
 use Rattle.client_state.specs.Writing.{unsent}
 use Rattle.front_end.proofs.Stepping.{from_idle, sends_idle_from}
 use Rattle.front_end.proofs.client.Client.transform.Goals as goal
 use Rattle.front_end.specs.declared.client.Client.{Client}
-use Rattle.std.proofs.Common.{ap, refl}
+use Rattle.std.proofs.Common.{ap, refl, subst, List}
 
 pub returns-in-Ok-clause-moves : goal.returns-in-Ok-clause-moves
 returns-in-Ok-clause-moves g c = λ item. from_idle _ _ _ _ c.args.self.now _ _ _ _ _ c.set_phase.ensures refl c.commit_transform.result (c.commit_transform.ensures.moves item (ap (λ (k : Client). pending_in k.phase) c.set_phase.ensures))
@@ -16,3 +19,9 @@ returns-in-Ok-clause-writes g c = c.commit_transform.ensures.writes (ap (λ (k :
 
 pub returns-in-Err-clause-writes : goal.returns-in-Err-clause-writes
 returns-in-Err-clause-writes g c = c.collect.ensures.writes (ap (λ (k : Client). unsent k.phase) c.set_phase.ensures)
+
+pub returns-in-Ok-clause-as_sent : goal.returns-in-Ok-clause-as_sent
+returns-in-Ok-clause-as_sent g c = c.commit_transform.ensures.as_sent _
+
+pub returns-in-Err-clause-as_sent : goal.returns-in-Err-clause-as_sent
+returns-in-Err-clause-as_sent g c = subst (λ (ls : List Link). IfOk c.collect.result (NewsAsSent ls)) (ap (λ (k : Client). k.held.links.items) c.set_phase.ensures) c.collect.ensures.as_sent

@@ -1,5 +1,5 @@
 use Rattle.client_state.specs.Moving.{Unsent}
-use Rattle.front_end.proofs.Calling.{shown_down}
+use Rattle.front_end.proofs.Calling.{on_any, shown_down}
 use Rattle.front_end.proofs.Moving.{keeps_behind, nothing_owed}
 use Rattle.front_end.proofs.Showing.{goes_shown}
 use Rattle.front_end.proofs.front_end.FrontEnd.ask_last.Goals as goal
@@ -13,3 +13,6 @@ returns-clause-shown g c = goes_shown _ _ _ _ _ _ _ _ _ c.in_ok-news.ensures.sho
 
 pub returns-clause-moves : goal.returns-clause-moves
 returns-clause-moves g c = shown_down _ _ _ c.args.self.now.client.held c.ask_last.new.self c.take_down.new.self.client c.take_down.ensures.client c.take_down.result (λ s. Unsent (c.in_ok-news.ensures.moves s))
+
+pub returns-clause-as_sent : goal.returns-clause-as_sent
+returns-clause-as_sent g c = on_any c.take_down.result _ (record { came = c.in_ok-news.news; goes = c.take_down.ensures.told; as_sent = c.in_ok-news.ensures.as_sent })
