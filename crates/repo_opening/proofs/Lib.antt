@@ -1,3 +1,4 @@
 pub mod Paging
 pub mod Reading
 pub mod Syncing
+pub mod SaidPages

@@ -1,8 +1,9 @@
 -- All disks of a repository are synced, one after the other.
-use Rattle.disk_trait.specs.AllDisks.{AllSettled, LeavesAll, MayLeaveAll, SameContent}
+use Rattle.disk_trait.specs.AllDisks.{AllSettled, GoesOn, LeavesAll, MayLeaveAll, SameContent}
 use Rattle.disk_trait.specs.Disks.{Disks, IsSettled, MayLeave, NoNewImage, OnDisk}
 use Rattle.repo_opening.specs.Same.{AreSame, Same}
-use Rattle.disk_trait.proofs.Several.{all_now, content_stays, settled_beside}
+use Rattle.repo_opening.specs.Unsound.{Failing}
+use Rattle.disk_trait.proofs.Several.{all_now, content_stays, goes_one, goes_then, settled_beside}
 use Rattle.std.proofs.Common.{List, [], arith, inl, inr, refl, subst, suc, sym, zero, ◌∙◌, ◌≡◌, ◌≢◌, ◌∷◌, ℕ}
 use Rattle.std.proofs.lemmas.Bool.{cases_eq}
 
@@ -51,3 +52,26 @@ same_content old new content run = record { content = content; crash = all_now o
 pub same_all : {P : Type 0} (disks : P → Disks) (parts : List P) → AreSame disks parts parts
 same_all disks [] = tt
 same_all disks (p ∷ parts) = (same_none (disks p), same_all disks parts)
+
+-- ---- what fails
+
+-- calls on two of the disks, and on three
+pub goes_both : (a b c : Disks) (d e : ℕ) → OnDisk a b d → OnDisk b c e → GoesOn a c
+goes_both a b c d e first then = goes_then a b c (goes_one a b d first) (goes_one b c e then)
+
+pub goes_all : (a b c d : Disks) → OnDisk a b 0 → OnDisk b c 1 → OnDisk c d 2 → GoesOn a d
+goes_all a b c d first second third = goes_then a c d (goes_both a b c 0 1 first second) (goes_one c d 2 third)
+
+-- a disk failed in later calls
+pub failing_then : (old mid new : Disks) → GoesOn old mid → Failing mid new → Failing old new
+failing_then old mid new goes fails = record {
+  disk = fails.disk;
+  within = fails.within;
+  rose = λ small. let before = goes.faults fails.disk in let rose = fails.rose small in omega (arith, before, rose);
+}
+
+pub failing_second : (a b c : Disks) → OnDisk a b 0 → Failing b c → Failing a c
+failing_second a b c first fails = failing_then a b c (goes_one a b 0 first) fails
+
+pub failing_third : (a b c d : Disks) → OnDisk a b 0 → OnDisk b c 1 → Failing c d → Failing a d
+failing_third a b c d first second fails = failing_then a c d (goes_both a b c 0 1 first second) fails

@@ -5,6 +5,7 @@ mod known;
 mod pages;
 mod repository;
 mod settled;
+mod unheld;
 mod unopened;
 
 pub use known::Known;

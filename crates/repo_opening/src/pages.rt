@@ -1,12 +1,15 @@
 //! The installed pages of a repository, read once for the checks of an opening.
 
-ghost use Rattle.disk_trait.specs.Disks.{WhereTold};
+ghost use Rattle.disk_trait.specs.Disks.{Rose, WhereTold};
 ghost use Rattle.page_format.specs.Formats.{page_size_in};
 ghost use Rattle.page_store.specs.Sides.{place_in};
-ghost use Rattle.recovery.specs.Paged.{HasSide, HasSides, Stays};
+ghost use Rattle.recovery.specs.Paged.{HasSide, HasSides, IsOnSide, Stays};
 ghost use Rattle.repo_opening.specs.Paged.{PutsPaged, PutsSide};
 ghost use Rattle.repo_opening.specs.Recovered.{HasBytes};
-ghost use Rattle.std.specs.Prelude.{IfOk, List, OnOk, Some, ◌+◌, ◌≡◌, ◌≤◌, ℕ};
+ghost use Rattle.repo_opening.specs.Told.{page_fault_of};
+ghost use Rattle.repo_opening.specs.Unsound.{IsNoPage, IsNoSide};
+ghost use Rattle.repo_opening.specs.declared.unopened.Unopened.TheVariants.{Damaged, Failed};
+ghost use Rattle.std.specs.Prelude.{IfOk, IsErrOf, List, OnOk, Some, ◌+◌, ◌<◌, ◌≡◌, ◌≤◌, ℕ};
 ghost use Rattle.thor_value.specs.FiniteMap.{overwrite};
 
 use crate::unopened::{Unopened, outage_of};
@@ -30,6 +33,8 @@ pub(crate) fn read_pages<P: Parts>(
     ensures stays { Stays (P.disks parts.old) (P.disks parts.new) }
     ensures sides { OnOk result (WhereTold (P.disks parts.new) 2 (HasSides format installed.now)) }
     ensures paged { (disk : List ℕ) → (P.disks parts.old).content 2 ≡ Some disk → OnOk result (PutsPaged format repo disk installed.now objects.old objects.new) }
+    ensures damaged { (r d place : ℕ) → IsErrOf result (Damaged r d place) → (r ≡ repo) × (d ≡ 2) × WhereTold (P.disks parts.old) 2 (λ disk. IsNoPage format repo disk installed.now place) }
+    ensures failed { (r : ℕ) → IsErrOf result (Failed r) → (r ≡ repo) × Rose ((P.disks parts.old).faults 2) ((P.disks parts.new).faults 2) }
 {
     let mut behind = 0;
     let size = length_of(parts, repo)?;
@@ -58,6 +63,8 @@ fn read_side<P: Parts>(
     ensures stays { Stays (P.disks parts.old) (P.disks parts.new) }
     ensures within { OnOk result (WhereTold (P.disks parts.new) 2 (λ disk. HasSide format disk installed)) }
     ensures side { (disk : List ℕ) → (P.disks parts.old).content 2 ≡ Some disk → OnOk result (PutsSide format repo disk installed objects.old objects.new) }
+    ensures damaged { (r d place : ℕ) → IsErrOf result (Damaged r d place) → (r ≡ repo) × (d ≡ 2) × (place ≡ place_in format installed.0 installed.1) × WhereTold (P.disks parts.old) 2 (λ disk. IsNoSide format repo disk installed) }
+    ensures failed { (r : ℕ) → IsErrOf result (Failed r) → (r ≡ repo) × Rose ((P.disks parts.old).faults 2) ((P.disks parts.new).faults 2) }
 {
     check_room(format, repo, installed, size)?;
     match read_objects(alloc, parts, format, repo, installed) {
@@ -66,7 +73,7 @@ fn read_side<P: Parts>(
             put_objects(objects, found)?;
             Ok(has_objects)
         }
-        Err(fault) => Err(fault_of(repo, fault)),
+        Err(fault) => Err(page_fault_of(repo, fault)),
     }
 }
 
@@ -77,7 +84,9 @@ fn check_room(
     installed: (u32, u8),
     size: u64,
 ) -> Result<(), Unopened>
-    ensures { OnOk result (place_in format installed.0 installed.1 + page_size_in format ≤ size) }
+    ensures room { OnOk result (place_in format installed.0 installed.1 + page_size_in format ≤ size) }
+    ensures damaged { (r d place : ℕ) → IsErrOf result (Damaged r d place) → (r ≡ repo) × (d ≡ 2) × (place ≡ place_in format installed.0 installed.1) × (size < place_in format installed.0 installed.1 + page_size_in format) }
+    ensures failed { (r : ℕ) → IsErrOf result (Failed r) → ⊥ }
 {
     let place = place_in(format, installed.0, installed.1);
     if size < place + format.page_bytes() as u64 {
@@ -104,6 +113,8 @@ fn put_objects(objects: &mut OrefMap<Obj>, found: Writes) -> Result<(), NoMemory
 fn length_of<P: Parts>(parts: &mut P, repo: u8) -> Result<u64, Unopened>
     ensures stays { Stays (P.disks parts.old) (P.disks parts.new) }
     ensures size { IfOk result (HasBytes (P.disks parts.new)) }
+    ensures damaged { (r d place : ℕ) → IsErrOf result (Damaged r d place) → ⊥ }
+    ensures failed { (r : ℕ) → IsErrOf result (Failed r) → (r ≡ repo) × Rose ((P.disks parts.old).faults 2) ((P.disks parts.new).faults 2) }
 {
     match parts.len(Disk::Pages) {
         Ok(size) => Ok(size),
@@ -111,7 +122,10 @@ fn length_of<P: Parts>(parts: &mut P, repo: u8) -> Result<u64, Unopened>
     }
 }
 
-fn fault_of(repo: u8, fault: StoreFault) -> Unopened {
+/// A fault of a page as one of the store.
+fn page_fault_of(repo: u8, fault: StoreFault) -> Unopened
+    ensures { result ≡ page_fault_of repo fault }
+{
     match fault {
         StoreFault::Failed => Unopened::Failed { repo },
         StoreFault::Damaged { place } => Unopened::Damaged {

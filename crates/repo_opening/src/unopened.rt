@@ -1,5 +1,7 @@
 //! Why a store wasn't opened.
 
+ghost use Rattle.repo_opening.specs.Told.{fault_of, outage_of};
+ghost use Rattle.repo_opening.specs.declared.unopened.Unopened.TheVariants.{NoMemory as OutOfMemory};
 ghost use Rattle.std.specs.Prelude.{IfOk, ◌≡◌};
 
 use disk_trait::Outage;
@@ -18,13 +20,17 @@ pub enum Unopened {
 }
 
 impl From<NoMemory> for Unopened {
+    ghost from_gives = { λ _ fault. fault ≡ OutOfMemory };
+
     fn from(_refused: NoMemory) -> Unopened {
         Unopened::NoMemory
     }
 }
 
 /// A repository's fault as one of the store.
-pub fn fault_of(repo: u8, fault: RecoverFault) -> Unopened {
+pub fn fault_of(repo: u8, fault: RecoverFault) -> Unopened
+    ensures { result ≡ fault_of repo fault }
+{
     match fault {
         RecoverFault::Failed { disk: _ } => Unopened::Failed { repo },
         RecoverFault::Damaged { disk, place } => Unopened::Damaged { repo, disk, place },
@@ -33,7 +39,9 @@ pub fn fault_of(repo: u8, fault: RecoverFault) -> Unopened {
 }
 
 /// An outage of a repository's disks as a fault of the store.
-pub(crate) fn outage_of(repo: u8, outage: Outage) -> Unopened {
+pub(crate) fn outage_of(repo: u8, outage: Outage) -> Unopened
+    ensures { result ≡ outage_of repo outage }
+{
     match outage {
         Outage::Failed => Unopened::Failed { repo },
         Outage::NoMemory => Unopened::NoMemory,
