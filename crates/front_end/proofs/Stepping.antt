@@ -24,7 +24,7 @@ use Rattle.client_state.specs.declared.duties.Duties.{Duties}
 use Rattle.client_state.specs.declared.duties.Duty.{Duty}
 use Rattle.client_state.specs.declared.duties.Helping.{Helping}
 use Rattle.client_state.specs.declared.held.Held.{Held}
-use Rattle.client_state.specs.declared.link.Link.TheVariants.{Unsettled}
+use Rattle.client_state.specs.declared.link.Link.TheVariants.{Unsettled as UnsettledLink}
 use Rattle.client_state.specs.declared.link.Link.{Link}
 use Rattle.client_state.specs.declared.link.Waits.TheVariants.{Idle}
 use Rattle.client_state.specs.declared.phase.Phase.{Phase}
@@ -33,7 +33,7 @@ use Rattle.client_state.specs.declared.transaction.Sent.{Sent}
 use Rattle.client_state.specs.declared.transaction.Transaction.{Transaction}
 use Rattle.front_end.proofs.Receiving as receiving
 use Rattle.front_end.proofs.Spending as spending
-use Rattle.front_end.specs.Moving.{course_of, tries_of}
+use Rattle.front_end.specs.Moving.{course_of, tries_of, uncounted}
 use Rattle.front_end.specs.Stepping.{AsksBy, AsksEach, AsksOnce, ClientHands, ClientSteps, IsFinished, IsFinishedSo, IsForgotten, IsSentMore, SameVerdicts, StepsFrom, TakesStep, present_of}
 use Rattle.front_end.specs.declared.client.Client.{Client}
 use Rattle.front_end.specs.declared.front_end.FrontEnd.{FrontEnd}
@@ -44,7 +44,7 @@ use Rattle.session_outbox.specs.declared.answers.Asked.TheVariants as answers
 use Rattle.session_outbox.specs.declared.answers.At.{At}
 use Rattle.session_outbox.specs.declared.answers.Verdict.{Verdict}
 use Rattle.session_outbox.specs.declared.message.Message.{Message}
-use Rattle.std.proofs.Common.{Bool, List, [], ap, false, inl, inr, refl, subst, sym, true, ◌++◌, ◌≡◌, ◌∙◌, ℕ}
+use Rattle.std.proofs.Common.{Bool, List, [], ap, arith, false, inl, inr, refl, subst, sym, true, ◌++◌, ◌+◌, ◌≡◌, ◌≤◌, ◌∙◌, ℕ}
 use Rattle.std.proofs.lemmas.Option.{same_Some}
 use Rattle.std.specs.List.{list_any}
 use Rattle.std.specs.Option.{option_map}
@@ -126,6 +126,10 @@ module _ (shows : Bool) (old new : View) (r : ℕ) (t : Ts) (o : answer.Asked) (
   -- the same by the verdict's own transaction
   pub told_so : shows ≡ true → IsToldBy old new r v.tx v.commit
   told_so s = subst (λ (u : Ts). IsToldBy old new r u v.commit) (sym (asked_tx old new r t v (answer_told s))) (told_by s)
+
+  -- the same by its coordinator, where that was asked
+  pub told_there : shows ≡ true → r ≡ t.repo → IsToldBy old new v.tx.repo v.tx v.commit
+  told_there s here = subst (λ (n : ℕ). IsToldBy old new n v.tx v.commit) (here ∙ sym (ap (λ (u : Ts). u.repo) (asked_tx old new r t v (answer_told s)))) (told_so s)
 
 -- ---- a step, by its call
 
@@ -333,6 +337,21 @@ pub both_if : {T : Type 0} {P Q : T → Type 0} {A : Type 0} (r : Result T NoMem
 both_if (Ok x) f p a = f x p a
 both_if (Err e) f p a = tt
 
+-- the same of three facts
+pub all_if : {T : Type 0} {P Q : T → Type 0} {A B : Type 0} (r : Result T NoMemory) → ((x : T) → P x → A → B → Q x) → IfOk r P → OnOk r A → OnOk r B → IfOk r Q
+all_if (Ok x) f p a b = f x p a b
+all_if (Err e) f p a b = tt
+
+-- and of four
+pub each_if : {T : Type 0} {P Q : T → Type 0} {A B C : Type 0} (r : Result T NoMemory) → ((x : T) → P x → A → B → C → Q x) → IfOk r P → OnOk r A → OnOk r B → OnOk r C → IfOk r Q
+each_if (Ok x) f p a b c = f x p a b c
+each_if (Err e) f p a b c = tt
+
+-- no more calls are left than before
+pub owes_no_more : {X : Type 0} (result : Result X NoMemory) (f g : Client) (n : ℕ) → ((tries : ℕ) → uncounted tries g ≤ uncounted tries f) → OnOk result ((tries : ℕ) → uncounted tries g ≤ uncounted tries f + n)
+owes_no_more (Ok x) f g n h = λ tries. let l : uncounted tries g ≤ uncounted tries f = h tries in omega (arith, l)
+owes_no_more (Err e) f g n h = tt
+
 -- ---- a step with the items
 
 module _ (shows : Bool) (old new : View) (f : FrontEnd) where
@@ -449,7 +468,7 @@ module _ (shows : Bool) (item : Present) (old new : View) (before after : Held) 
   answered_so r sent n o v is call coordinator (Err k) ends none own verdicts helping = tt
 
 -- the verdict on an Unknown item was told, and is handed on
-pub tells_late : (old new : View) (a : Pending) (links : List Link) (r : ℕ) (sent : Sent) (index : ℕ) (v : Verdict) (before after : List Duty) → slice_get links r ≡ Some (Unsettled sent index) → v.tx ≡ sent.ts → IsToldBy old new r v.tx v.commit
+pub tells_late : (old new : View) (a : Pending) (links : List Link) (r : ℕ) (sent : Sent) (index : ℕ) (v : Verdict) (before after : List Duty) → slice_get links r ≡ Some (UnsettledLink sent index) → v.tx ≡ sent.ts → IsToldBy old new r v.tx v.commit
     → after ≡ handed v (others_in sent.participants (first_in sent.participants)) before → MayTell old new a links before after
 tells_late old new a links r sent index v before after there tx told behind = inr (record { r = r; sent = sent; v = v; known = ByLink index there; tx = tx; told = subst (λ (t : Ts). IsToldBy old new r t v.commit) tx told; behind = behind })
 
