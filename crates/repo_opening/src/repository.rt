@@ -130,7 +130,7 @@ fn recover_one<P: Parts>(
     match recover(alloc, parts, mob) {
         Ok(found) => Ok(found),
         Err(RecoverFault::Damaged { disk, place }) => Err(unheld(alloc, parts, repo, disk, place)),
-        Err(RecoverFault::Failed { disk: _ }) => Err(Unopened::Failed { repo }),
+        Err(RecoverFault::Failed { disk: _disk }) => Err(Unopened::Failed { repo }),
         Err(RecoverFault::NoMemory) => Err(Unopened::NoMemory),
     }
 }

@@ -40,8 +40,13 @@ pub(crate) fn check_pages<P: Parts>(alloc: Global, parts: &mut P, repo: u8) -> R
 {
     match open_logs(alloc, parts) {
         Ok(found) => check_found(alloc, parts, repo, found),
-        Err(FindFault::Damaged { disk: _, place: _ }) => Ok(()),
-        Err(FindFault::Failed { disk: _ }) => Err(Unopened::Failed { repo }),
+        Err(
+            FindFault::Damaged {
+                disk: _disk,
+                place: _place,
+            },
+        ) => Ok(()),
+        Err(FindFault::Failed { disk: _disk }) => Err(Unopened::Failed { repo }),
         Err(FindFault::NoMemory) => Err(Unopened::NoMemory),
     }
 }

@@ -33,6 +33,12 @@ returns-clause-same g c =
     (same_then (g.P.Parts.disks c.sync.new.parts) (g.P.Parts.disks c.recover_one.new.parts) (g.P.Parts.disks c.read_pages.new.parts) c.recover_one.ensures.same
     (same_on (g.P.Parts.disks c.recover_one.new.parts) (g.P.Parts.disks c.read_pages.new.parts) c.read_pages.ensures.stays))
 
+pub returns-in_err-read-clause-same : goal.returns-in_err-read-clause-same
+returns-in_err-read-clause-same g c =
+    same_then (g.P.Parts.disks c.args.parts.now) (g.P.Parts.disks c.sync.new.parts) (g.P.Parts.disks c.read_pages.new.parts) c.sync.ensures.same
+    (same_then (g.P.Parts.disks c.sync.new.parts) (g.P.Parts.disks c.recover_one.new.parts) (g.P.Parts.disks c.read_pages.new.parts) c.recover_one.ensures.same
+    (same_on (g.P.Parts.disks c.recover_one.new.parts) (g.P.Parts.disks c.read_pages.new.parts) c.read_pages.ensures.stays))
+
 pub returns-clause-stored : goal.returns-clause-stored
 returns-clause-stored g c = λ images reads.
     let first = g.P.Parts.disks c.args.parts.now in

@@ -3,7 +3,8 @@ use Rattle.repo_opening.proofs.Reading.{found_is, reads_on}
 use Rattle.repo_opening.proofs.SaidPages.{failed_as, same_err, told_logs}
 use Rattle.repo_opening.proofs.Syncing.{failing_then, same_content, same_then}
 use Rattle.repo_opening.specs.declared.unopened.Unopened.TheVariants.{Damaged, Failed}
-use Rattle.std.proofs.Common.{arith, refl, ◌≡◌}
+use Rattle.recovery.specs.declared.fault.RecoverFault.TheVariants as recovered
+use Rattle.std.proofs.Common.{IsErrOf, arith, refl, rules, ◌<◌, ◌≡◌}
 use Rattle.repo_opening.proofs.repository.recover_one.Goals as goal
 
 pub returns-in-Ok-clause-found : goal.returns-in-Ok-clause-found
@@ -39,7 +40,8 @@ returns-in-Err-Damaged-clause-damaged g c = λ images r d place reads is.
     let told = reads_on (g.P.Parts.disks c.args.parts.now) (g.P.Parts.disks c.recover.new.parts) c.recover.ensures.content images reads in
     let this : c.unheld.result ≡ Damaged r d place = same_err _ c.unheld.result (Damaged r d place) refl is in
     let by = c.unheld.ensures.damaged images r d place told this in
-    (by.0, told_logs images c.args.repo c.in-Err-Damaged.disk c.in-Err-Damaged.place d place (c.recover.ensures.damaged images c.in-Err-Damaged.disk c.in-Err-Damaged.place reads c.in-Err-Damaged.is) by.1)
+    let wrong : IsErrOf c.recover.result (recovered.Damaged c.in-Err-Damaged.disk c.in-Err-Damaged.place) = search rules in
+    (by.0, told_logs images c.args.repo c.in-Err-Damaged.disk c.in-Err-Damaged.place d place (c.recover.ensures.damaged images c.in-Err-Damaged.disk c.in-Err-Damaged.place reads wrong) by.1)
 
 pub returns-in-Err-Damaged-clause-failed : goal.returns-in-Err-Damaged-clause-failed
 returns-in-Err-Damaged-clause-failed g c = λ r is.
@@ -48,11 +50,8 @@ returns-in-Err-Damaged-clause-failed g c = λ r is.
     (by.0, failing_then (g.P.Parts.disks c.args.parts.now) (g.P.Parts.disks c.recover.new.parts) (g.P.Parts.disks c.unheld.new.parts) c.recover.ensures.any_moment.goes by.1)
 
 pub returns-in-Err-Failed-clause-failed : goal.returns-in-Err-Failed-clause-failed
-returns-in-Err-Failed-clause-failed g c = λ r is. (
-  failed_as c.args.repo r is,
-  record {
-    disk = c.in-Err-Failed.disk;
-    within = (let small = c.recover.ensures.disk c.in-Err-Failed.disk c.in-Err-Failed.is in omega (arith, small));
-    rose = c.recover.ensures.failed c.in-Err-Failed.disk c.in-Err-Failed.is;
-  },
-)
+returns-in-Err-Failed-clause-failed g c = λ r is.
+    let wrong : IsErrOf c.recover.result (recovered.Failed c.in-Err-Failed._disk) = search rules in
+    let small = c.recover.ensures.disk c.in-Err-Failed._disk wrong in
+    let within : c.in-Err-Failed._disk < 3 = omega (arith, small) in
+    (failed_as c.args.repo r is, record { disk = c.in-Err-Failed._disk; within = within; rose = c.recover.ensures.failed c.in-Err-Failed._disk wrong })

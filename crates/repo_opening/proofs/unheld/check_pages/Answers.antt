@@ -6,7 +6,8 @@ use Rattle.repo_opening.proofs.SaidPages.{failed_as, goes_on, pages_fail, said_f
 use Rattle.repo_opening.proofs.Syncing.{failing_then, same_content, same_then}
 use Rattle.repo_opening.specs.Unsound.{HasPages, LacksPage, said_sides}
 use Rattle.page_format.specs.declared.format.StoreFormat.{StoreFormat}
-use Rattle.std.proofs.Common.{List, OnOk, Option, arith, subst, sym, ◌≡◌, ℕ}
+use Rattle.commit_log.specs.declared.fault.FindFault.TheVariants.{Damaged, Failed}
+use Rattle.std.proofs.Common.{IsErrOf, List, OnOk, Option, arith, rules, subst, sym, ◌<◌, ◌≡◌, ℕ}
 use Rattle.std.specs.Option.{option_and_then}
 use Rattle.repo_opening.proofs.unheld.check_pages.Goals as goal
 
@@ -57,14 +58,12 @@ returns-in-Err-NoMemory-clause-goes g c = c.open_logs.ensures.any_moment.goes
 
 pub returns-in-Err-Damaged-clause-pages : goal.returns-in-Err-Damaged-clause-pages
 returns-in-Err-Damaged-clause-pages g c = λ images reads.
-    torn_pages images c.args.repo c.in-Err-Damaged.disk c.in-Err-Damaged.place (c.open_logs.ensures.damaged images c.in-Err-Damaged.disk c.in-Err-Damaged.place reads c.in-Err-Damaged.is)
+    let wrong : IsErrOf c.open_logs.result (Damaged c.in-Err-Damaged._disk c.in-Err-Damaged._place) = search rules in
+    torn_pages images c.args.repo c.in-Err-Damaged._disk c.in-Err-Damaged._place (c.open_logs.ensures.damaged images c.in-Err-Damaged._disk c.in-Err-Damaged._place reads wrong)
 
 pub returns-in-Err-Failed-clause-failed : goal.returns-in-Err-Failed-clause-failed
-returns-in-Err-Failed-clause-failed g c = λ r is. (
-  failed_as c.args.repo r is,
-  record {
-    disk = c.in-Err-Failed.disk;
-    within = (let small = c.open_logs.ensures.disk c.in-Err-Failed.disk c.in-Err-Failed.is in omega (arith, small));
-    rose = c.open_logs.ensures.failed c.in-Err-Failed.disk c.in-Err-Failed.is;
-  },
-)
+returns-in-Err-Failed-clause-failed g c = λ r is.
+    let wrong : IsErrOf c.open_logs.result (Failed c.in-Err-Failed._disk) = search rules in
+    let small = c.open_logs.ensures.disk c.in-Err-Failed._disk wrong in
+    let within : c.in-Err-Failed._disk < 3 = omega (arith, small) in
+    (failed_as c.args.repo r is, record { disk = c.in-Err-Failed._disk; within = within; rose = c.open_logs.ensures.failed c.in-Err-Failed._disk wrong })
