@@ -1,8 +1,9 @@
 -- A step of a client keeps to two-phase commit: what it makes of its try's transaction, of its duties and of its present item.
 use Rattle.client_cache.specs.Copies.{Contents, changed, kept}
 use Rattle.client_items.specs.Courses.{Course, who_next}
-use Rattle.client_items.specs.Ending.{GoesBy}
+use Rattle.client_items.specs.Ending.{EndsBy, GoesBy, IsRefused}
 use Rattle.client_items.specs.Meanings.{committed_as, is_ended}
+use Rattle.client_items.specs.declared.attempts.Attempts.{Attempts}
 use Rattle.client_items.specs.declared.news.News.TheVariants as news
 use Rattle.client_items.specs.declared.news.News.{News}
 use Rattle.client_port.specs.Views.{Calm, Halted, MayCome, Unsettled, View}
@@ -46,6 +47,7 @@ use Rattle.session_outbox.specs.declared.answers.Verdict.{Verdict}
 use Rattle.session_outbox.specs.declared.message.Message.{Message}
 use Rattle.std.proofs.Common.{Bool, List, [], ap, arith, false, inl, inr, refl, subst, sym, true, ◌++◌, ◌+◌, ◌≡◌, ◌≤◌, ◌∙◌, ℕ}
 use Rattle.std.proofs.lemmas.Option.{same_Some}
+use Rattle.std.proofs.lemmas.Result.{on_ok_weaker}
 use Rattle.std.specs.List.{list_any}
 use Rattle.std.specs.Option.{option_map}
 use Rattle.std.specs.Prelude.{Err, IfOk, None, Ok, OnOk, Option, Result, Some, slice_get, ◌∷◌, ◌⊎◌}
@@ -356,16 +358,17 @@ owes_no_more (Err e) f g n h = tt
 
 module _ (shows : Bool) (old new : View) (f : FrontEnd) where
   -- what a client's function came to is taken down
-  pub takes_down : {X : Type 0} (item : Present) (g : FrontEnd) (c : Client) (came : News) → item ≡ present_of f → g.client ≡ c → (result : Result X NoMemory) → ClientSteps shows item old new f.client c came → GoesBy (tries_of f) came (course_of f) (course_of g) → OnOk result (TakesStep shows old new f g)
-  takes_down item g c came is same result steps goes = receiving.whenever result (record {
+  pub takes_down : {X : Type 0} (item : Present) (g : FrontEnd) (c : Client) (came : News) → item ≡ present_of f → g.client ≡ c → (result : Result X NoMemory) → ClientSteps shows item old new f.client c came → GoesBy (tries_of f) came (course_of f) (course_of g) → OnOk result (EndsBy f.attempts came (course_of f) (course_of g)) → OnOk result (TakesStep shows old new f g)
+  takes_down item g c came is same result steps goes ends = on_ok_weaker result (λ h. record {
     came = came;
     steps = subst (λ (k : Client). ClientSteps shows (present_of f) old new f.client k came) (sym same) (subst (λ (i : Present). ClientSteps shows i old new f.client c came) is steps);
     goes = goes;
-  })
+    ends = h;
+  }) ends
 
   -- nothing has become of the items
   pub takes_none : (g : FrontEnd) → ClientSteps shows (present_of f) old new f.client g.client news.Nothing → course_of g ≡ course_of f → TakesStep shows old new f g
-  takes_none g steps same = record { came = news.Nothing; steps = steps; goes = same }
+  takes_none g steps same = record { came = news.Nothing; steps = steps; goes = same; ends = tt }
 
   pub takes_moves : (g : FrontEnd) → TakesStep shows old new f g → MovesSoIf shows old new f.client.held g.client.held (pending_in f.client.phase) (pending_in g.client.phase)
   takes_moves g t = moves_of shows (present_of f) old new f.client.held g.client.held (pending_in f.client.phase) (pending_in g.client.phase) f.client.duties g.client.duties t.came t.steps
@@ -381,12 +384,20 @@ record_of w t = record { who = w; tries = t }
 pub item_is : (w v : Who) (t u : ℕ) → w ≡ v → t ≡ u → record_of w t ≡ record_of v u
 item_is w v t u e f = ap (λ (x : Who). record_of x t) e ∙ ap (λ (n : ℕ). record_of v n) f
 
+-- how many calls of a try were counted doesn't tell which item has to end
+ends_from : (a b : Attempts) (came : News) (old new : Course) → b.each ≡ a.each → b.tried ≡ a.tried → EndsBy b came old new → EndsBy a came old new
+ends_from a b news.Nothing old new each tried h = tt
+ends_from a b (news.TryEnded c) old new each tried h = λ spent left. subst (λ (n : ℕ). IsRefused n c old new) each (h (subst (λ (n : ℕ). n ≤ b.tried + 1) (sym each) (subst (λ (n : ℕ). a.each ≤ n + 1) (sym tried) spent)) left)
+ends_from a b (news.Ended outcome) old new each tried h = h
+ends_from a b (news.Settled settled) old new each tried h = h
+
 -- a call was counted before
-pub takes_counted : (shows : Bool) (old new : View) (f m g : FrontEnd) → m.client ≡ f.client → course_of m ≡ course_of f → tries_of m ≡ tries_of f → TakesStep shows old new m g → TakesStep shows old new f g
-takes_counted shows old new f m g client course tries t = record {
+pub takes_counted : (shows : Bool) (old new : View) (f m g : FrontEnd) → m.client ≡ f.client → course_of m ≡ course_of f → tries_of m ≡ tries_of f → m.attempts.tried ≡ f.attempts.tried → TakesStep shows old new m g → TakesStep shows old new f g
+takes_counted shows old new f m g client course tries tried t = record {
   came = t.came;
   steps = subst (λ (i : Present). ClientSteps shows i old new f.client g.client t.came) (item_is (who_next (course_of m)) (who_next (course_of f)) (tries_of m) (tries_of f) (ap who_next course) tries) (subst (λ (k : Client). ClientSteps shows (present_of m) old new k g.client t.came) client t.steps);
   goes = subst (λ (k : Course). GoesBy (tries_of f) t.came k (course_of g)) course (subst (λ (n : ℕ). GoesBy n t.came (course_of m) (course_of g)) tries t.goes);
+  ends = subst (λ (k : Course). EndsBy f.attempts t.came k (course_of g)) course (ends_from f.attempts m.attempts t.came (course_of m) (course_of g) tries tried t.ends);
 }
 
 -- ---- what is sent

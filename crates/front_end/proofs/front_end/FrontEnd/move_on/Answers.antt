@@ -11,4 +11,4 @@ returns-in-Some-clause-moves g c = on_ok_weaker c.abort.result (λ steps. takes_
 
 -- nothing was to be aborted, so nothing has changed before the rule
 pub returns-in-None-clause-moves : goal.returns-in-None-clause-moves
-returns-in-None-clause-moves g c = on_ok_weaker c.follow.result (takes_counted _ _ _ c.args.self.now _ c.follow.new.self (ap (λ (o : Option Abort). record c.args.self.now.client { duties = record c.args.self.now.client.duties { abort = o } }) (c.take.ensures.after ∙ (sym c.in-None.is ∙ c.take.ensures.value))) refl refl) c.follow.ensures.moves
+returns-in-None-clause-moves g c = on_ok_weaker c.follow.result (takes_counted _ _ _ c.args.self.now _ c.follow.new.self (ap (λ (o : Option Abort). record c.args.self.now.client { duties = record c.args.self.now.client.duties { abort = o } }) (c.take.ensures.after ∙ (sym c.in-None.is ∙ c.take.ensures.value))) refl refl refl) c.follow.ensures.moves
