@@ -7,7 +7,7 @@ use Rattle.commit_log.specs.Opening.{Found, IsTorn, log_of}
 use Rattle.commit_log.specs.Recovered.{after, after_body, can_follow, changed, closed, decided, is_whole, kept_by, log_in, next, replayed, request_at, sequence_end, stands, state_in, whole, chosen}
 use Rattle.disk_trait.proofs.Several.{goes_one, goes_then, settled_still}
 use Rattle.disk_trait.specs.AllDisks.{AllSettled, GoesOn, ReadsAs}
-use Rattle.disk_trait.specs.Disks.{Disks, OnDisk, Rose}
+use Rattle.disk_trait.specs.Disks.{Disks, Rose}
 use Rattle.log_codec.specs.Checkpoint.{state_format}
 use Rattle.log_codec.specs.Format.{value_of}
 use Rattle.log_codec.specs.Grammar.{body_format}
@@ -28,11 +28,10 @@ use Rattle.repo_opening.proofs.Paging.{next_first}
 use Rattle.repo_opening.specs.Paged.{PutsPaged}
 use Rattle.repo_opening.specs.Recovered.{HasBytes}
 use Rattle.repo_opening.specs.Told.{page_fault_of}
-use Rattle.recovery.specs.Damage.{IsDamaged}
 use Rattle.recovery.specs.Found.{recorded}
 use Rattle.recovery.specs.Reopening.{reopens}
 use Rattle.recovery.specs.declared.recovered.Recovered.{Recovered}
-use Rattle.repo_opening.specs.Unsound.{Failing, HasPages, Installs, IsNoPage, IsNoSide, IsOther, IsUnsound, LacksPage, OfLogs, OfOther, OfPage, said_pages, said_sides, side_put, sides_behind, sides_in}
+use Rattle.repo_opening.specs.Unsound.{AreNoLogs, Failing, HasPages, Installs, IsNoPage, IsNoSide, IsUnsound, LacksPage, OfLogs, OfOther, OfPage, said_pages, said_sides, side_put, sides_behind, sides_in}
 use Rattle.repo_opening.specs.declared.unopened.Unopened.TheVariants.{Damaged, Failed, NoMemory}
 use Rattle.repo_opening.specs.declared.unopened.Unopened.{Unopened}
 use Rattle.std.proofs.Common.{Bool, Err, List, None, Ok, Option, Result, Some, [], ap, arith, cond, false, get_or, inl, inr, length, nat_lt, refl, slice_get, subst, suc, sym, take, true, zero, ◌+◌, ◌<◌, ◌∙◌, ◌≡◌, ◌≤◌, ◌⊎◌, ◌≢◌, ◌∷◌, ℕ}
@@ -209,16 +208,16 @@ pub failed_as : {X : Type 0} (a b : ℕ) → ◌≡◌ {A = Result X Unopened} (
 failed_as a b is = cc
 
 -- the logs are told, or a page
-pub told_logs : (images : ℕ → List ℕ) (repo a b d place : ℕ) → IsDamaged images a b
+pub told_logs : (images : ℕ → List ℕ) (repo a b d place : ℕ) → AreNoLogs images a b
     → ((d ≡ a) × (place ≡ b) × HasPages repo (images 2) (said_pages images)) ⊎ ((d ≡ 2) × LacksPage repo (images 2) place (said_pages images))
-    → (IsDamaged images d place × HasPages repo (images 2) (said_pages images)) ⊎ ((d ≡ 2) × LacksPage repo (images 2) place (said_pages images))
+    → (AreNoLogs images d place × HasPages repo (images 2) (said_pages images)) ⊎ ((d ≡ 2) × LacksPage repo (images 2) place (said_pages images))
 told_logs images repo a b d place damaged told = elim told [
-  | inl logs ↦ inl (subst (λ (n : ℕ). IsDamaged images n place) (sym logs.0) (subst (λ (n : ℕ). IsDamaged images a n) (sym logs.1) damaged), logs.2)
+  | inl logs ↦ inl (subst (λ (n : ℕ). AreNoLogs images n place) (sym logs.0) (subst (λ (n : ℕ). AreNoLogs images a n) (sym logs.1) damaged), logs.2)
   | inr page ↦ inr page
 ]
 
 -- and so of the repository
-pub unsound_of : (images : ℕ → List ℕ) (repo repos d place : ℕ) → (IsDamaged images d place × HasPages repo (images 2) (said_pages images)) ⊎ ((d ≡ 2) × LacksPage repo (images 2) place (said_pages images)) → IsUnsound repo repos images d place
+pub unsound_of : (images : ℕ → List ℕ) (repo repos d place : ℕ) → (AreNoLogs images d place × HasPages repo (images 2) (said_pages images)) ⊎ ((d ≡ 2) × LacksPage repo (images 2) place (said_pages images)) → IsUnsound repo repos images d place
 unsound_of images repo repos d place told = elim told [
   | inl logs ↦ OfLogs logs.0 logs.1
   | inr page ↦ OfPage page.0 page.1

@@ -75,6 +75,11 @@ LacksPage repo disk place (Some said) = IsNoPage said.0 repo disk said.1 place
 
 -- ---- repositories
 
+-- the logs stand for no state, by what is wrong at this place
+pub record AreNoLogs (images : ℕ → List ℕ) (d place : ℕ) : Type 0 where
+  pub at : IsDamaged images d place
+  pub none : stands images ≡ None
+
 -- A log on this disk counts, whose state is of another repository or of a store of another size, or whose records prepare what is
 -- kept as decided.
 pub record IsOther (repo repos : ℕ) (images : ℕ → List ℕ) (d : ℕ) : Type 0 where
@@ -89,7 +94,7 @@ pub record IsOther (repo repos : ℕ) (images : ℕ → List ℕ) (d : ℕ) : Ty
 -- taken into memory, and before a checkpoint of another repository.
 pub data IsUnsound (repo repos : ℕ) (images : ℕ → List ℕ) (d place : ℕ) : Type 0 where
   -- the logs are none that a repository leaves, and each page that they say to be installed is one
-  OfLogs : IsDamaged images d place → HasPages repo (images 2) (said_pages images) → IsUnsound repo repos images d place
+  OfLogs : AreNoLogs images d place → HasPages repo (images 2) (said_pages images) → IsUnsound repo repos images d place
   -- a page isn't one
   OfPage : d ≡ 2 → LacksPage repo (images 2) place (said_pages images) → IsUnsound repo repos images d place
   -- the checkpoint is another repository's, and each page is one

@@ -2,8 +2,7 @@
 
 ghost use Rattle.disk_trait.specs.Numbers.{number};
 ghost use Rattle.disk_trait.specs.AllDisks.{GoesOn};
-ghost use Rattle.recovery.specs.Damage.{IsDamaged};
-ghost use Rattle.repo_opening.specs.Unsound.{Failing, HasPages, IsUnsound, LacksPage, said_pages};
+ghost use Rattle.repo_opening.specs.Unsound.{AreNoLogs, Failing, HasPages, IsUnsound, LacksPage, said_pages};
 ghost use Rattle.repo_opening.specs.declared.unopened.Unopened.TheVariants.{Damaged, Failed};
 ghost use Rattle.disk_trait.specs.declared.parts.Outage.TheVariants.{Failed as DiskFailed};
 ghost use Rattle.repo_opening.specs.Recovered.{Finds, IsHeld};
@@ -124,7 +123,7 @@ fn recover_one<P: Parts>(
     ensures fresh { (images : ℕ → List ℕ) → ReadsAs (P.disks parts.old) images → result ≡ Ok None → IsFresh images }
     ensures reopens { (images : ℕ → List ℕ) → ReadsAs (P.disks parts.old) images → IfOk result (λ found. IfSome found (λ r. r.reopens ≡ reopens images)) }
     ensures goes { GoesOn (P.disks parts.old) (P.disks parts.new) }
-    ensures damaged { (images : ℕ → List ℕ) (r d place : ℕ) → ReadsAs (P.disks parts.old) images → IsErrOf result (Damaged r d place) → (r ≡ repo) × ((IsDamaged images d place × HasPages repo (images 2) (said_pages images)) ⊎ ((d ≡ 2) × LacksPage repo (images 2) place (said_pages images))) }
+    ensures damaged { (images : ℕ → List ℕ) (r d place : ℕ) → ReadsAs (P.disks parts.old) images → IsErrOf result (Damaged r d place) → (r ≡ repo) × ((AreNoLogs images d place × HasPages repo (images 2) (said_pages images)) ⊎ ((d ≡ 2) × LacksPage repo (images 2) place (said_pages images))) }
     ensures failed { (r : ℕ) → IsErrOf result (Failed r) → (r ≡ repo) × Failing (P.disks parts.old) (P.disks parts.new) }
 {
     match recover(alloc, parts, mob) {

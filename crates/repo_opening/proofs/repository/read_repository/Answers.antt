@@ -14,7 +14,7 @@ use Rattle.mob_flusher.specs.Map.{Kept}
 use Rattle.page_store.specs.Store.{Store}
 use Rattle.repo_opening.specs.Paged.{PutsPaged}
 use Rattle.repo_opening.specs.Unsound.{OfPage}
-use Rattle.std.proofs.Common.{IsErrOf, List, ap, arith, refl, rules, subst, sym, ◌∙◌, ◌≡◌, ℕ}
+use Rattle.std.proofs.Common.{IsErrOf, List, ap, arith, rules, subst, sym, ◌∙◌, ◌≡◌, ℕ}
 use Rattle.repo_opening.proofs.repository.read_repository.Goals as goal
 
 pub returns-clause-found : goal.returns-clause-found

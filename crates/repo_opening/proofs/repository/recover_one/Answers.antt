@@ -41,7 +41,7 @@ returns-in-Err-Damaged-clause-damaged g c = λ images r d place reads is.
     let this : c.unheld.result ≡ Damaged r d place = same_err _ c.unheld.result (Damaged r d place) refl is in
     let by = c.unheld.ensures.damaged images r d place told this in
     let wrong : IsErrOf c.recover.result (recovered.Damaged c.in-Err-Damaged.disk c.in-Err-Damaged.place) = search rules in
-    (by.0, told_logs images c.args.repo c.in-Err-Damaged.disk c.in-Err-Damaged.place d place (c.recover.ensures.damaged images c.in-Err-Damaged.disk c.in-Err-Damaged.place reads wrong) by.1)
+    (by.0, told_logs images c.args.repo c.in-Err-Damaged.disk c.in-Err-Damaged.place d place (record { at = c.recover.ensures.damaged images c.in-Err-Damaged.disk c.in-Err-Damaged.place reads wrong; none = c.recover.ensures.lost images c.in-Err-Damaged.disk c.in-Err-Damaged.place reads wrong }) by.1)
 
 pub returns-in-Err-Damaged-clause-failed : goal.returns-in-Err-Damaged-clause-failed
 returns-in-Err-Damaged-clause-failed g c = λ r is.

@@ -1,14 +1,11 @@
-use Rattle.commit_log.specs.Opening.{log_of}
-use Rattle.disk_trait.proofs.Several.{goes_then}
 use Rattle.disk_trait.specs.AllDisks.{ReadsAs}
 use Rattle.repo_opening.proofs.Reading.{reads_on, same_on}
 use Rattle.repo_opening.proofs.SaidPages.{failed_as, goes_on, pages_fail, said_found, settled_on, torn_pages}
 use Rattle.repo_opening.proofs.Syncing.{failing_then, same_content, same_then}
-use Rattle.repo_opening.specs.Unsound.{HasPages, LacksPage, said_sides}
+use Rattle.repo_opening.specs.Unsound.{HasPages, LacksPage}
 use Rattle.page_format.specs.declared.format.StoreFormat.{StoreFormat}
 use Rattle.commit_log.specs.declared.fault.FindFault.TheVariants.{Damaged, Failed}
 use Rattle.std.proofs.Common.{IsErrOf, List, OnOk, Option, arith, rules, subst, sym, ◌<◌, ◌≡◌, ℕ}
-use Rattle.std.specs.Option.{option_and_then}
 use Rattle.repo_opening.proofs.unheld.check_pages.Goals as goal
 
 pub returns-in-Ok-clause-settled : goal.returns-in-Ok-clause-settled
