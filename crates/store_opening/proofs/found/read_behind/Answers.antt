@@ -1,6 +1,7 @@
 use Rattle.repo_opening.specs.Paged.{PutsStored}
 use Rattle.store_opening.proofs.Holding.{always}
-use Rattle.std.proofs.Common.{IsErrOf, Ok, ap, refl, rules, sym, ◌∙◌}
+use Rattle.store_opening.proofs.Misfits.{told_as}
+use Rattle.std.proofs.Common.{IsErrOf, Ok, ap, length, rules, ◌∙◌, ◌≡◌}
 use Rattle.repo_opening.proofs.Reading.{reads_on}
 use Rattle.repo_opening.specs.declared.unopened.Unopened.TheVariants.{Damaged}
 use Rattle.store_opening.specs.Unsound.{NotOpen, Unsound}
@@ -21,10 +22,13 @@ pub returns-in-Ok-clause-damaged : goal.returns-in-Ok-clause-damaged
 returns-in-Ok-clause-damaged g c = λ image r d place reads is.
     let told = c.placed.ensures.damaged r d place is in
     let fresh = told.3.each image (reads_on (g.P.Parts.disks c.args.part) (g.P.Parts.disks c.read_repository.new.parts) c.read_repository.ensures.same.content image reads) in
-    (told.0 ∙ c.number_at.ensures, NotOpen fresh told.4 told.1 told.2)
+    let first : c.in-Ok-Ok.repo ≡ length c.args.places.now = search rules in
+    (told.0 ∙ first, NotOpen fresh told.4 told.1 told.2)
 
 pub returns-in-Err-clause-damaged : goal.returns-in-Err-clause-damaged
 returns-in-Err-clause-damaged g c = λ image r d place reads is.
     let wrong : IsErrOf c.read_repository.result (Damaged r d place) = search rules in
     let told = c.read_repository.ensures.damaged image r d place reads wrong in
-    (told.0, Unsound told.1)
+    let first : c.in-Ok-Ok.repo ≡ length c.args.places.now = search rules in
+    let second : c.in-Ok-Ok.repos ≡ c.args.repos = search rules in
+    (told.0 ∙ first, Unsound (told_as c.in-Ok-Ok.repo c.in-Ok-Ok.repos r c.args.repos d place image told.0 second told.1))
