@@ -89,12 +89,13 @@ module _ {P : Type 0} (disks : P → Disks) where
   told all images places repos r d place image reads count is begun (NotOpen fresh behind disk at) = OfFresh image is fresh (begun behind) disk at
 
   -- what is told of it is wrong of the store
-  pub told_behind : (yielded rest all : List P) (part : P) (places : List (Closed P)) (images : List (ℕ → List ℕ)) (repos r d place : ℕ) → yielded ++ part ∷ rest ≡ all → ReadAll disks all images → AreSeated disks yielded places → repos ≡ length all
-      → (t : There part (length yielded) images) → (r ≡ length places) × IsNoRepository disks places repos t.image r d place → IsNoStore images r d place
-  told_behind yielded rest all part places images repos r d place whole reads seated count t why =
-      let long : length places ≡ length yielded = AllZip-long (IsSeated disks) yielded places seated in
-      told all images places repos r d place t.image reads count (subst (λ (n : ℕ). slice_get images n ≡ Some t.image) (sym (why.0 ∙ long)) t.is)
-      (begins yielded (part ∷ rest) places images (subst (λ (ps : List P). ReadAll disks ps images) (sym whole) reads) seated) why.1
+  pub told_behind : (yielded rest all : List P) (part : P) (now places : List (Closed P)) (images : List (ℕ → List ℕ)) (repos r d place : ℕ) → now ≡ places → yielded ++ part ∷ rest ≡ all → ReadAll disks all images → AreSeated disks yielded places → repos ≡ length all
+      → (t : There part (length yielded) images) → (r ≡ length now) × IsNoRepository disks now repos t.image r d place → IsNoStore images r d place
+  told_behind yielded rest all part now places images repos r d place same whole reads seated count t why =
+      let here : AreSeated disks yielded now = subst (λ (ps : List (Closed P)). AreSeated disks yielded ps) (sym same) seated in
+      let long : length now ≡ length yielded = AllZip-long (IsSeated disks) yielded now here in
+      told all images now repos r d place t.image reads count (subst (λ (n : ℕ). slice_get images n ≡ Some t.image) (sym (why.0 ∙ long)) t.is)
+      (begins yielded (part ∷ rest) now images (subst (λ (ps : List P). ReadAll disks ps images) (sym whole) reads) here) why.1
 
 -- the same under other names of the numbers
 pub told_as : (repo repos r count d place : ℕ) (image : ℕ → List ℕ) → r ≡ repo → repos ≡ count → IsUnsound repo repos image d place → IsUnsound r count image d place

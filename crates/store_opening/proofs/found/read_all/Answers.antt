@@ -28,7 +28,7 @@ loop-part-preserved g c =
           let t = there disks c.loop-part.yielded rest c.args.parts.items c.in-Some.part images whole reads in
           elim (c.read_next-found.ensures.damaged t.image r d place t.reads is) [
             | inl before ↦ inv.5 images r d place reads before
-            | inr here ↦ told_behind disks c.loop-part.yielded rest c.args.parts.items c.in-Some.part c.loop-part.places.items images c.len-repos.result r d place whole reads inv.3 (c.len-repos.ensures ∙ c.args.parts.ok.0) t here
+            | inr here ↦ told_behind disks c.loop-part.yielded rest c.args.parts.items c.in-Some.part c.as_slice.result.now c.loop-part.places.items images c.len-repos.result r d place c.as_slice.ensures.value whole reads inv.3 (c.len-repos.ensures ∙ c.args.parts.ok.0) t here
           ],
     )
 
