@@ -11,9 +11,10 @@ use Rattle.repo_opening.specs.Recovered.{IsRecovered}
 use Rattle.repo_opening.specs.Same.{Same}
 use Rattle.repo_opening.specs.Unsound.{IsUnsound}
 use Rattle.repo_opening.specs.declared.repository.Read.{Read}
-use Rattle.std.proofs.Common.{List, None, Option, Some, [], ap, arith, inl, inr, length, refl, slice_get, subst, suc, sym, take, zero, ℕ, ◌++◌, ◌+◌, ◌∙◌, ◌≡◌, ◌∷◌, ◌⊎◌}
+use Rattle.std.proofs.Common.{Err, List, None, Ok, OnOk, Option, Result, Some, [], ap, arith, inl, inr, length, refl, slice_get, subst, suc, sym, take, zero, ℕ, ◌++◌, ◌+◌, ◌∙◌, ◌≡◌, ◌∷◌, ◌⊎◌}
 use Rattle.std.proofs.lemmas.Slice.Zip.{AllZip-long, all_zipped_more}
 use Rattle.std.specs.List.{AllZip}
+use Rattle.std.specs.Prelude.{IfSome}
 use Rattle.store_opening.proofs.Holding.{known_stands}
 use Rattle.store_opening.specs.Joined.{read_states}
 use Rattle.store_opening.specs.Reading.{ReadAll, StandFor}
@@ -131,3 +132,14 @@ unfit images states r d place stand at (Nobody is disk) = OfName is (record { st
 -- what is told of repositories that don't fit together is wrong of the store
 pub misfit : (images : List (ℕ → List ℕ)) (reads : List Read) (r d place : ℕ) → StandFor images (read_states reads) → HaveLogs images reads → IsCheckpoint reads r d place → IsNoStore images r d place
 misfit images reads r d place stand logs told = unfit images (read_states reads) r d place stand told.1 (which images reads r d logs told.0)
+
+-- ---- answers
+
+pub same_err : {T E : Type 0} (a b : E) → ◌≡◌ {A = Result T E} (Err a) (Err b) → a ≡ b
+same_err a b is = cc
+
+pub on_ok : {A E : Type 0} (r : Result A E) (a : A) (P : Type 0) → r ≡ Ok a → OnOk r P → P
+on_ok {A} {E} r a P is h = subst (λ (q : Result A E). OnOk q P) is h
+
+pub some_at : {X : Type 0} (o : Option X) (x : X) (P : X → Type 0) → o ≡ Some x → IfSome o P → P x
+some_at {X} o x P is h = subst (λ (q : Option X). IfSome q P) is h

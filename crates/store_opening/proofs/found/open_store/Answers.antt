@@ -1,4 +1,5 @@
-use Rattle.std.proofs.Common.{Ok, ap, length, ◌∙◌, ◌≡◌}
+use Rattle.repo_opening.specs.declared.unopened.Unopened.TheVariants.{Damaged}
+use Rattle.std.proofs.Common.{IsErrOf, Ok, ap, rules, length, ◌∙◌, ◌≡◌}
 use Rattle.store_opening.proofs.Holding.{ok_at, stored_is}
 use Rattle.store_opening.specs.Joined.{read_states}
 use Rattle.store_opening.specs.OpenedStore.{joined, roots_of}
@@ -13,3 +14,8 @@ returns-clause-stored c = λ images stand puts.
     let roots : c.in_ok-roots.roots ≡ roots_of states =
     c.in_ok-roots.ensures.made.0 ∙ ok_at c.roots_of.result c.in_ok-paged.roots (λ roots. roots ≡ roots_of states) c.in_ok-paged.ensures.made.1 c.roots_of.ensures in
     stored_is images states c.args.paged _ stand puts objects epoch roots
+
+pub returns-in_err-roots-clause-damaged : goal.returns-in_err-roots-clause-damaged
+returns-in_err-roots-clause-damaged c = λ r d place is.
+    let wrong : IsErrOf c.fitted-fit.result (Damaged r d place) = search rules in
+    c.fitted-fit.ensures.damaged r d place wrong
