@@ -1,7 +1,7 @@
 //! How far a try has come.
 
 ghost use Rattle.client_state.specs.Owing.{asking_in, calls_in, calls_of_abort};
-ghost use Rattle.client_state.specs.Pending.{abort_in, noted, pending_in, runs_in};
+ghost use Rattle.client_state.specs.Pending.{abort_in, asked_at, noted, pending_in, prepared_at, runs_in};
 ghost use Rattle.client_cache.specs.Copies.{Contents};
 ghost use Rattle.client_state.specs.Reading.{ReadsNone, phase_reads};
 ghost use Rattle.client_state.specs.Sending.{DrawsPhase};
@@ -171,6 +171,8 @@ impl Phase {
     pub fn note_prepared(&mut self, repo: u8) -> Result<(), NoMemory>
         ensures shares { unsent self.new ≡ unsent self.old }
         ensures pending { OnOk result (pending_in self.new ≡ noted repo (pending_in self.old)) }
+        ensures kept { prepared_at (pending_in self.new) ≡ prepared_at (pending_in self.old) }
+        ensures asked { asked_at (pending_in self.new) ≡ asked_at (pending_in self.old) }
     {
         match self {
             Phase::Preparing { prepared, .. } => prepared.push(repo),

@@ -7,14 +7,16 @@ ghost use Rattle.client_state.specs.Reading.{share_reads, shares_have_read};
 ghost use Rattle.client_state.specs.Sending.{CarriesSessions, carried, carried_at};
 ghost use Rattle.client_state.specs.Writing.{FirstOf, NoneOf, is_of, new_share, read_more_at, shares_write, with_read, with_write, written_at};
 ghost use Rattle.paused_eval.specs.Copies.{last_of};
+ghost use Rattle.std.specs.List.{list_any};
 ghost use Rattle.std.specs.Ordering.{eq_by_cmp};
 ghost use Rattle.std.specs.Prelude.{IfOk, IsTrue, MatchOption, None, OnOk, Some, [], cond, length, slice_get, ◌++◌, ◌-◌, ◌∷◌, ◌≡◌, ◌≤◌};
-ghost use Rattle.thor_value.specs.Names.{oref_cmp};
+ghost use Rattle.thor_value.specs.Names.{oref_cmp, same_oref};
 ghost use Rattle.thor_value.specs.declared.names.Oref.{Oref};
 
 use crate::link::Link;
 use client_items::Meaning;
 use session_outbox::At;
+use std::alloc::Global;
 use thor_value::{Answer, NoMemory, Obj, Oref, OrefSet, Orefs, Repos, Sequence, Text, Ts, Writes};
 
 /// What one participant is sent of a transaction.
@@ -110,7 +112,14 @@ impl Share {
     fn reads(&self, oref: Oref) -> bool
         ensures { result ≡ share_reads oref self.now }
     {
-        self.repo == oref.repo && self.ros.as_slice().iter().any(|read| oref == *read)
+        self.repo == oref.repo && self.has_read(oref)
+    }
+
+    /// Whether an object is among those that it reads.
+    fn has_read(&self, oref: Oref) -> bool
+        ensures { result ≡ list_any (same_oref oref) self.now.ros }
+    {
+        self.ros.as_slice().iter().any(|read| oref == *read)
     }
 }
 
@@ -149,10 +158,7 @@ impl Transaction {
     {
         let ros = read_or_created(reads, &fresh)?;
         let shares = shares_of(&ros, writes)?;
-        let mut participants = Sequence::new(fresh.allocator());
-        for share in &shares {
-            participants.push(share.repo)?;
-        }
+        let participants = repos_of(fresh.allocator(), shares.as_slice())?;
         Ok(Transaction {
             meaning: Meaning::Ran(answer),
             epoch,
@@ -277,6 +283,15 @@ fn first_of(participants: &Repos) -> u8
         Some(repo) => *repo,
         None => 0,
     }
+}
+
+/// The repositories of some shares, in their order.
+fn repos_of(alloc: Global, shares: &[Share]) -> Result<Repos, NoMemory> {
+    let mut repos = Sequence::new(alloc);
+    for share in shares {
+        repos.push(share.repo)?;
+    }
+    Ok(repos)
 }
 
 /// The participants other than one.

@@ -1,13 +1,12 @@
 -- Which parts of a paused run may cross threads, one type at a time.
 use denote.Param.Send.{IsSend, IsSync, enum_send, sendable}
-use denote.Builtin.{u8}
 use denote.Enum.Declared.{shape}
 use Rattle.std.proofs.Crossing.{crosses}
 use Rattle.thor_value.proofs.boxed.Boxed.TheSendSync as boxed
 use Rattle.thor_value.proofs.names.Oref.TheSendSync as oref
 use Rattle.thor_value.proofs.sequence.Sequence.TheSendSync as sequence
 use Rattle.thor_value.proofs.values.Value.TheSendSync as value
-use Rattle.thor_value.specs.contracts.sequence.Sequence as Sequence
+use Rattle.thor_value.proofs.words.Word.TheSendSync as word
 use Rattle.class_defs.proofs.expressions.At.TheSendSync as at
 use Rattle.class_defs.proofs.expressions.Operator.TheSendSync as operator
 use Rattle.class_defs.proofs.literals.Literal.TheSendSync as literal
@@ -33,9 +32,6 @@ ruleset base = (sequence.the_send, sequence.the_sync, boxed.the_send, boxed.the_
 
 ruleset trees = (expr_send, expr_sync, stmt_send, stmt_sync)
 
-pub text_send : IsSend (Sequence.the_row u8)
-text_send = search base depth 30
-
 pub shared_exprs_send : IsSend SharedExprs.the_row
 shared_exprs_send = search (trees, base) depth 30
 
@@ -53,14 +49,14 @@ doing_send = enum_send (shape Doing.the_type) (
   (
     (search base, (shared_stmt_send, tt)),
     (
-      (text_send, (search (leaves, base) depth 20, tt)),
-      ((search base, (search base, (oref.the_field_send, (text_send, (search (leaves, base) depth 20, tt))))), ((flow.the_field_send, tt), tt)),
+      (word.the_send, (search (leaves, base) depth 20, tt)),
+      ((search base, (search base, (oref.the_field_send, (word.the_send, (search (leaves, base) depth 20, tt))))), ((flow.the_field_send, tt), tt)),
     ),
   ),
 )
 
 pub frame_send : IsSend (Frame.the_field).row
-frame_send = enum_send (shape Frame.the_type) (tt, ((search base, (operator.the_field_send, (expr_send, tt))), ((operator.the_field_send, (value.the_field_send, tt)), ((search base, (expr_type.the_field_send, (text_send, (shared_exprs_send, tt)))), ((search base, (expr_type.the_field_send, (value.the_field_send, (text_send, (search (leaves, base) depth 20, (shared_exprs_send, tt)))))), ((search base, (search (leaves, base) depth 20, (search (leaves, base) depth 20, (expr_type.the_field_send, tt)))), ((expr_type.the_field_send, (text_send, tt)), ((text_send, tt), ((text_send, tt), (tt, ((search base, (shared_block_send, tt)), ((search base, (shared_block_send, (shared_block_send, tt))), (tt, (tt, ((search base, (shared_block_send, tt)), ((search base, tt), ((search base, (search base, (expr_send, (shared_block_send, tt)))), ((search base, (search base, (expr_send, (shared_block_send, tt)))), tt))))))))))))))))))
+frame_send = enum_send (shape Frame.the_type) (tt, ((search base, (operator.the_field_send, (expr_send, tt))), ((operator.the_field_send, (value.the_field_send, tt)), ((search base, (expr_type.the_field_send, (word.the_send, (shared_exprs_send, tt)))), ((search base, (expr_type.the_field_send, (value.the_field_send, (word.the_send, (search (leaves, base) depth 20, (shared_exprs_send, tt)))))), ((search base, (search (leaves, base) depth 20, (search (leaves, base) depth 20, (expr_type.the_field_send, tt)))), ((expr_type.the_field_send, (word.the_send, tt)), ((word.the_send, tt), ((word.the_send, tt), (tt, ((search base, (shared_block_send, tt)), ((search base, (shared_block_send, (shared_block_send, tt))), (tt, (tt, ((search base, (shared_block_send, tt)), ((search base, tt), ((search base, (search base, (expr_send, (shared_block_send, tt)))), ((search base, (search base, (expr_send, (shared_block_send, tt)))), tt))))))))))))))))))
 
 pub paused_send : IsSend (Paused.the_field).row
 paused_send = search (doing_send, frame_send, stack.the_send, leaves, base, crosses) depth 30

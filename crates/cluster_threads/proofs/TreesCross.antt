@@ -24,7 +24,7 @@ use Rattle.class_defs.specs.contracts.store.RootDeclaration as RootDeclaration
 use Rattle.class_defs.specs.contracts.store.Schema as Schema
 use Rattle.class_defs.specs.contracts.store.Schemas as Schemas
 
-ruleset base = (sequence.the_send, sequence.the_sync, boxed.the_send, boxed.the_sync, shared.the_send, shared.the_sync, word.the_field_send, word.the_field_sync, sendable)
+ruleset base = (sequence.the_send, sequence.the_sync, boxed.the_send, boxed.the_sync, shared.the_send, shared.the_sync, word.the_send, word.the_sync, sendable)
 
 pub name_send : IsSend (Name.the_field).row
 name_send = search base depth 30

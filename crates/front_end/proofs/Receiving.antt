@@ -37,11 +37,6 @@ pub whenever : {T E P : Type 0} (r : Result T E) → P → OnOk r P
 whenever (Ok x) p = p
 whenever (Err e) p = tt
 
--- two that hold of an answer
-pub both_ok : {T E P Q R : Type 0} (r : Result T E) → (P → Q → R) → OnOk r P → OnOk r Q → OnOk r R
-both_ok (Ok x) f p q = f p q
-both_ok (Err e) f p q = tt
-
 -- ---- a message and the copies
 
 pub takes_then_less : (repo : ℕ) (m : Message) (before mid after : Held) → CopiesTaken repo m before.cache.cache mid.cache.cache → mid.client ≡ before.client → mid.links.items ≡ before.links.items
@@ -83,7 +78,7 @@ module _ (old new : View) (r s : ℕ) (k : Refusal) (d : Does {X = Option Messag
   outage_by refused.NoMemory m g h = tt
 
   -- a call that is refused, but not since its session is gone, met an outage
-  outage : IsNotGone k → IsOutage k
+  pub outage : IsNotGone k → IsOutage k
   outage g = outage_by k d.met g d.answer
 
 -- Where no session is gone, none is lost.
@@ -120,13 +115,13 @@ loses_so k repo before after links copies = record { left = after.cache.cache; l
 -- ---- the call
 
 module _ (old new : View) (at : At) (before mid after : Held) (rest : mid ≡ record before { links = mid.links }) (joined : InSession at before) where
-  same_copies : mid.cache.cache ≡ before.cache.cache
+  pub same_copies : mid.cache.cache ≡ before.cache.cache
   same_copies = ap (λ (h : Held). h.cache.cache) rest
 
-  same_client : mid.client ≡ before.client
+  pub same_client : mid.client ≡ before.client
   same_client = ap (λ (h : Held). h.client) rest
 
-  pub taken : (m : Message) → Does {X = Option Message} old new at.repo (Ok (Some m)) (ReceiveWork at.session (Ok (Some m))) → mid.links.items ≡ at_repo before.links.items at.repo (took m) → TakesCopies at.repo m mid after → Moves old new before after
+  unfoldable pub taken : (m : Message) → Does {X = Option Message} old new at.repo (Ok (Some m)) (ReceiveWork at.session (Ok (Some m))) → mid.links.items ≡ at_repo before.links.items at.repo (took m) → TakesCopies at.repo m mid after → Moves old new before after
   taken m d links t = Received at m d joined (record { left = t.left; links = t.links ∙ links; brought = subst (λ (c : Contents). CopiesTaken at.repo m c t.left) same_copies t.brought; fewer = t.fewer }) (t.client ∙ same_client)
 
   -- what is undecided stays so as by what comes behind the call
@@ -135,12 +130,12 @@ module _ (old new : View) (at : At) (before mid after : Held) (rest : mid ≡ re
   behind_taken p z o links (inr f) = inr (f.0, λ k w. f.1 k (taken_written at.repo o before mid links same_copies k w))
 
   -- a message was taken
-  pub by_message : (shows : Bool) (o : Option Message) (m : Message) → o ≡ Some m → (shows ≡ true → Does {X = Option Message} old new at.repo (Ok o) (ReceiveWork at.session (Ok o)))
+  unfoldable pub by_message : (shows : Bool) (o : Option Message) (m : Message) → o ≡ Some m → (shows ≡ true → Does {X = Option Message} old new at.repo (Ok o) (ReceiveWork at.session (Ok o)))
       → mid.links.items ≡ links_behind (Ok o) at.repo before.links.items → TakesCopies at.repo m mid after → (p z : Pending) → StaysPending p z mid after → MovesSoIf shows old new before after p z
   unfolding taken
   by_message shows o m is call links t p z stays = λ s. record { moves = taken m (subst (λ (x : Option Message). Does {X = Option Message} old new at.repo (Ok x) (ReceiveWork at.session (Ok x))) is (call s)) (subst (λ (x : Option Message). mid.links.items ≡ links_behind (Ok x) at.repo before.links.items) is links) t; pends = behind_taken p z o links stays }
 
-  loses_there : (k : Refusal) → mid.links.items ≡ before.links.items → Loses k at.repo mid after → Loses k at.repo before after
+  pub loses_there : (k : Refusal) → mid.links.items ≡ before.links.items → Loses k at.repo mid after → Loses k at.repo before after
   loses_there k links l = record {
     left = l.left;
     links = l.links ∙ ap (λ (ls : List Link). links_refused k at.repo ls) links;
@@ -148,7 +143,7 @@ module _ (old new : View) (at : At) (before mid after : Held) (rest : mid ≡ re
     fewer = l.fewer;
   }
 
-  pub refused_so : (k : Refusal) → Does {X = Option Message} old new at.repo (Err k) (ReceiveWork at.session (Err k)) → mid.links.items ≡ before.links.items → EndsReceive k at.repo mid after → Moves old new before after
+  unfoldable pub refused_so : (k : Refusal) → Does {X = Option Message} old new at.repo (Err k) (ReceiveWork at.session (Err k)) → mid.links.items ≡ before.links.items → EndsReceive k at.repo mid after → Moves old new before after
   refused_so k d links (LosesThere l client) = ReceiveRefused at k d joined (loses_there k links l) (client ∙ same_client)
   refused_so k d links (StopsThere g s client f) = ReceiveStopped at k d joined (outage old new at.repo at.session k d g) (record {
     here = s.here ∙ ap (λ (ls : List Link). option_map (waiting Idle) (slice_get ls at.repo)) links;
@@ -199,9 +194,9 @@ no_message shows old new at before mid rest o is call links = record {
 }
 
 module _ (shows : Bool) (old new : View) (at : At) (before mid : Held) (k : ReceivesNone shows old new at before mid) (joined : InSession at before) where
-  pub by_none : (p z : Pending) → z ≡ p → MovesSoIf shows old new before mid p z
+  unfoldable pub by_none : (p z : Pending) → z ≡ p → MovesSoIf shows old new before mid p z
   by_none p z e = λ s. record { moves = ReceivedNone at (k.call s) joined (inl k.links) k.client (λ x. inl (ap (λ (c : Contents). kept c x) k.copies)); pends = inr (e, still_written before mid k.links (λ x. ap (λ (c : Contents). changed c x) k.copies)) }
 
   -- and the client waits no more
-  pub by_none_idle : (after : Held) → after ≡ record mid { links = after.links } → after.links.items ≡ at_repo mid.links.items at.repo (waiting Idle) → (p z : Pending) → z ≡ p → MovesSoIf shows old new before after p z
+  unfoldable pub by_none_idle : (after : Held) → after ≡ record mid { links = after.links } → after.links.items ≡ at_repo mid.links.items at.repo (waiting Idle) → (p z : Pending) → z ≡ p → MovesSoIf shows old new before after p z
   by_none_idle after rest links p z e = λ s. record { moves = ReceivedNone at (k.call s) joined (inr (links ∙ ap (λ (ls : List Link). at_repo ls at.repo (waiting Idle)) k.links)) (ap (λ (h : Held). h.client) rest ∙ k.client) (λ x. inl (ap (λ (c : Contents). kept c x) (ap (λ (h : Held). h.cache.cache) rest ∙ k.copies))); pends = inr (e, waits_written at.repo Idle before after (links ∙ ap (λ (ls : List Link). at_repo ls at.repo (waiting Idle)) k.links) (ap (λ (h : Held). h.cache.cache) rest ∙ k.copies)) }

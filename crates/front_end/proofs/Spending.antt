@@ -10,7 +10,7 @@ use Rattle.thor_value.specs.declared.names.Ts.{Ts}
 use Rattle.repo_refusals.specs.declared.refusal.Refusal.{Refusal}
 
 module _ (old new : View) (a b after : Held) where
-  unsent : SendsNothing old new (record a { names = b.names }) after → SendsNothing old new a after
+  pub unsent : SendsNothing old new (record a { names = b.names }) after → SendsNothing old new a after
   unsent (Rested same less) = Rested same less
   unsent (Connected repo k apart client f) = Connected repo k apart client f
   unsent (Fetched at page left k idle client f) = Fetched at page left k idle client f
@@ -19,23 +19,23 @@ module _ (old new : View) (a b after : Held) where
   unsent (Asked r t result d less) = Asked r t result d less
   unsent (Settled r t v sent index d there links client f) = Settled r t v sent index d there links client f
 
-  takes : (repo : ℕ) (m : Message) → Takes repo m (record a { names = b.names }) after → Takes repo m a after
+  pub takes : (repo : ℕ) (m : Message) → Takes repo m (record a { names = b.names }) after → Takes repo m a after
   takes repo m t = record { left = t.left; links = t.links; brought = t.brought; fewer = t.fewer }
 
-  loses : (k : Refusal) (repo : ℕ) → Loses k repo (record a { names = b.names }) after → Loses k repo a after
+  pub loses : (k : Refusal) (repo : ℕ) → Loses k repo (record a { names = b.names }) after → Loses k repo a after
   loses k repo l = record { left = l.left; links = l.links; kept_so = l.kept_so; fewer = l.fewer }
 
-  learns : (k : Refusal) (repo : ℕ) → Learns k repo (record a { names = b.names }) after → Learns k repo a after
+  pub learns : (k : Refusal) (repo : ℕ) → Learns k repo (record a { names = b.names }) after → Learns k repo a after
   learns k repo l = record { left = l.left; links = l.links; kept_so = l.kept_so; fewer = l.fewer }
 
-  stops : (repo : ℕ) → StopsWaiting repo (record a { names = b.names }) after → StopsWaiting repo a after
+  pub stops : (repo : ℕ) → StopsWaiting repo (record a { names = b.names }) after → StopsWaiting repo a after
   stops repo s = record { here = s.here; others = s.others }
 
-  ends : (c : Bool) → EndsSo c (record a { names = b.names }) after → EndsSo c a after
+  pub ends : (c : Bool) → EndsSo c (record a { names = b.names }) after → EndsSo c a after
   ends true e = e
   ends false e = e
 
-  pub other_names : Moves old new (record a { names = b.names }) after → Moves old new a after
+  unfoldable pub other_names : Moves old new (record a { names = b.names }) after → Moves old new a after
   other_names (Unsent m) = Unsent (unsent m)
   other_names (Received at m d joined t client) = Received at m d joined (takes at.repo m t) client
   other_names (ReceivedNone at d joined links client f) = ReceivedNone at d joined links client f

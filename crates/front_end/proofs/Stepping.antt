@@ -1,8 +1,9 @@
 -- A step of a client keeps to two-phase commit: what it makes of its try's transaction, of its duties and of its present item.
 use Rattle.client_cache.specs.Copies.{Contents, changed, kept}
 use Rattle.client_items.specs.Courses.{Course, who_next}
-use Rattle.client_items.specs.Ending.{GoesBy}
+use Rattle.client_items.specs.Ending.{EndsBy, GoesBy, IsRefused}
 use Rattle.client_items.specs.Meanings.{committed_as, is_ended}
+use Rattle.client_items.specs.declared.attempts.Attempts.{Attempts}
 use Rattle.client_items.specs.declared.news.News.TheVariants as news
 use Rattle.client_items.specs.declared.news.News.{News}
 use Rattle.client_port.specs.Views.{Calm, Halted, MayCome, Unsettled, View}
@@ -24,7 +25,7 @@ use Rattle.client_state.specs.declared.duties.Duties.{Duties}
 use Rattle.client_state.specs.declared.duties.Duty.{Duty}
 use Rattle.client_state.specs.declared.duties.Helping.{Helping}
 use Rattle.client_state.specs.declared.held.Held.{Held}
-use Rattle.client_state.specs.declared.link.Link.TheVariants.{Unsettled}
+use Rattle.client_state.specs.declared.link.Link.TheVariants.{Unsettled as UnsettledLink}
 use Rattle.client_state.specs.declared.link.Link.{Link}
 use Rattle.client_state.specs.declared.link.Waits.TheVariants.{Idle}
 use Rattle.client_state.specs.declared.phase.Phase.{Phase}
@@ -33,7 +34,7 @@ use Rattle.client_state.specs.declared.transaction.Sent.{Sent}
 use Rattle.client_state.specs.declared.transaction.Transaction.{Transaction}
 use Rattle.front_end.proofs.Receiving as receiving
 use Rattle.front_end.proofs.Spending as spending
-use Rattle.front_end.specs.Moving.{course_of, tries_of}
+use Rattle.front_end.specs.Moving.{course_of, tries_of, uncounted}
 use Rattle.front_end.specs.Stepping.{AsksBy, AsksEach, AsksOnce, ClientHands, ClientSteps, IsFinished, IsFinishedSo, IsForgotten, IsSentMore, SameVerdicts, StepsFrom, TakesStep, present_of}
 use Rattle.front_end.specs.declared.client.Client.{Client}
 use Rattle.front_end.specs.declared.front_end.FrontEnd.{FrontEnd}
@@ -44,8 +45,9 @@ use Rattle.session_outbox.specs.declared.answers.Asked.TheVariants as answers
 use Rattle.session_outbox.specs.declared.answers.At.{At}
 use Rattle.session_outbox.specs.declared.answers.Verdict.{Verdict}
 use Rattle.session_outbox.specs.declared.message.Message.{Message}
-use Rattle.std.proofs.Common.{Bool, List, [], ap, false, inl, inr, refl, subst, sym, true, ◌++◌, ◌≡◌, ◌∙◌, ℕ}
+use Rattle.std.proofs.Common.{Bool, List, [], ap, arith, false, inl, inr, refl, subst, sym, true, ◌++◌, ◌+◌, ◌≡◌, ◌≤◌, ◌∙◌, ℕ}
 use Rattle.std.proofs.lemmas.Option.{same_Some}
+use Rattle.std.proofs.lemmas.Result.{on_ok_weaker}
 use Rattle.std.specs.List.{list_any}
 use Rattle.std.specs.Option.{option_map}
 use Rattle.std.specs.Prelude.{Err, IfOk, None, Ok, OnOk, Option, Result, Some, slice_get, ◌∷◌, ◌⊎◌}
@@ -126,6 +128,10 @@ module _ (shows : Bool) (old new : View) (r : ℕ) (t : Ts) (o : answer.Asked) (
   -- the same by the verdict's own transaction
   pub told_so : shows ≡ true → IsToldBy old new r v.tx v.commit
   told_so s = subst (λ (u : Ts). IsToldBy old new r u v.commit) (sym (asked_tx old new r t v (answer_told s))) (told_by s)
+
+  -- the same by its coordinator, where that was asked
+  pub told_there : shows ≡ true → r ≡ t.repo → IsToldBy old new v.tx.repo v.tx v.commit
+  told_there s here = subst (λ (n : ℕ). IsToldBy old new n v.tx v.commit) (here ∙ sym (ap (λ (u : Ts). u.repo) (asked_tx old new r t v (answer_told s)))) (told_so s)
 
 -- ---- a step, by its call
 
@@ -333,20 +339,36 @@ pub both_if : {T : Type 0} {P Q : T → Type 0} {A : Type 0} (r : Result T NoMem
 both_if (Ok x) f p a = f x p a
 both_if (Err e) f p a = tt
 
+-- the same of three facts
+pub all_if : {T : Type 0} {P Q : T → Type 0} {A B : Type 0} (r : Result T NoMemory) → ((x : T) → P x → A → B → Q x) → IfOk r P → OnOk r A → OnOk r B → IfOk r Q
+all_if (Ok x) f p a b = f x p a b
+all_if (Err e) f p a b = tt
+
+-- and of four
+pub each_if : {T : Type 0} {P Q : T → Type 0} {A B C : Type 0} (r : Result T NoMemory) → ((x : T) → P x → A → B → C → Q x) → IfOk r P → OnOk r A → OnOk r B → OnOk r C → IfOk r Q
+each_if (Ok x) f p a b c = f x p a b c
+each_if (Err e) f p a b c = tt
+
+-- no more calls are left than before
+pub owes_no_more : {X : Type 0} (result : Result X NoMemory) (f g : Client) (n : ℕ) → ((tries : ℕ) → uncounted tries g ≤ uncounted tries f) → OnOk result ((tries : ℕ) → uncounted tries g ≤ uncounted tries f + n)
+owes_no_more (Ok x) f g n h = λ tries. let l : uncounted tries g ≤ uncounted tries f = h tries in omega (arith, l)
+owes_no_more (Err e) f g n h = tt
+
 -- ---- a step with the items
 
 module _ (shows : Bool) (old new : View) (f : FrontEnd) where
   -- what a client's function came to is taken down
-  pub takes_down : {X : Type 0} (item : Present) (g : FrontEnd) (c : Client) (came : News) → item ≡ present_of f → g.client ≡ c → (result : Result X NoMemory) → ClientSteps shows item old new f.client c came → GoesBy (tries_of f) came (course_of f) (course_of g) → OnOk result (TakesStep shows old new f g)
-  takes_down item g c came is same result steps goes = receiving.whenever result (record {
+  pub takes_down : {X : Type 0} (item : Present) (g : FrontEnd) (c : Client) (came : News) → item ≡ present_of f → g.client ≡ c → (result : Result X NoMemory) → ClientSteps shows item old new f.client c came → GoesBy (tries_of f) came (course_of f) (course_of g) → OnOk result (EndsBy f.attempts came (course_of f) (course_of g)) → OnOk result (TakesStep shows old new f g)
+  takes_down item g c came is same result steps goes ends = on_ok_weaker result (λ h. record {
     came = came;
     steps = subst (λ (k : Client). ClientSteps shows (present_of f) old new f.client k came) (sym same) (subst (λ (i : Present). ClientSteps shows i old new f.client c came) is steps);
     goes = goes;
-  })
+    ends = h;
+  }) ends
 
   -- nothing has become of the items
   pub takes_none : (g : FrontEnd) → ClientSteps shows (present_of f) old new f.client g.client news.Nothing → course_of g ≡ course_of f → TakesStep shows old new f g
-  takes_none g steps same = record { came = news.Nothing; steps = steps; goes = same }
+  takes_none g steps same = record { came = news.Nothing; steps = steps; goes = same; ends = tt }
 
   pub takes_moves : (g : FrontEnd) → TakesStep shows old new f g → MovesSoIf shows old new f.client.held g.client.held (pending_in f.client.phase) (pending_in g.client.phase)
   takes_moves g t = moves_of shows (present_of f) old new f.client.held g.client.held (pending_in f.client.phase) (pending_in g.client.phase) f.client.duties g.client.duties t.came t.steps
@@ -362,12 +384,20 @@ record_of w t = record { who = w; tries = t }
 pub item_is : (w v : Who) (t u : ℕ) → w ≡ v → t ≡ u → record_of w t ≡ record_of v u
 item_is w v t u e f = ap (λ (x : Who). record_of x t) e ∙ ap (λ (n : ℕ). record_of v n) f
 
+-- how many calls of a try were counted doesn't tell which item has to end
+ends_from : (a b : Attempts) (came : News) (old new : Course) → b.each ≡ a.each → b.tried ≡ a.tried → EndsBy b came old new → EndsBy a came old new
+ends_from a b news.Nothing old new each tried h = tt
+ends_from a b (news.TryEnded c) old new each tried h = λ spent left. subst (λ (n : ℕ). IsRefused n c old new) each (h (subst (λ (n : ℕ). n ≤ b.tried + 1) (sym each) (subst (λ (n : ℕ). a.each ≤ n + 1) (sym tried) spent)) left)
+ends_from a b (news.Ended outcome) old new each tried h = h
+ends_from a b (news.Settled settled) old new each tried h = h
+
 -- a call was counted before
-pub takes_counted : (shows : Bool) (old new : View) (f m g : FrontEnd) → m.client ≡ f.client → course_of m ≡ course_of f → tries_of m ≡ tries_of f → TakesStep shows old new m g → TakesStep shows old new f g
-takes_counted shows old new f m g client course tries t = record {
+pub takes_counted : (shows : Bool) (old new : View) (f m g : FrontEnd) → m.client ≡ f.client → course_of m ≡ course_of f → tries_of m ≡ tries_of f → m.attempts.tried ≡ f.attempts.tried → TakesStep shows old new m g → TakesStep shows old new f g
+takes_counted shows old new f m g client course tries tried t = record {
   came = t.came;
   steps = subst (λ (i : Present). ClientSteps shows i old new f.client g.client t.came) (item_is (who_next (course_of m)) (who_next (course_of f)) (tries_of m) (tries_of f) (ap who_next course) tries) (subst (λ (k : Client). ClientSteps shows (present_of m) old new k g.client t.came) client t.steps);
   goes = subst (λ (k : Course). GoesBy (tries_of f) t.came k (course_of g)) course (subst (λ (n : ℕ). GoesBy n t.came (course_of m) (course_of g)) tries t.goes);
+  ends = subst (λ (k : Course). EndsBy f.attempts t.came k (course_of g)) course (ends_from f.attempts m.attempts t.came (course_of m) (course_of g) tries tried t.ends);
 }
 
 -- ---- what is sent
@@ -449,7 +479,7 @@ module _ (shows : Bool) (item : Present) (old new : View) (before after : Held) 
   answered_so r sent n o v is call coordinator (Err k) ends none own verdicts helping = tt
 
 -- the verdict on an Unknown item was told, and is handed on
-pub tells_late : (old new : View) (a : Pending) (links : List Link) (r : ℕ) (sent : Sent) (index : ℕ) (v : Verdict) (before after : List Duty) → slice_get links r ≡ Some (Unsettled sent index) → v.tx ≡ sent.ts → IsToldBy old new r v.tx v.commit
+pub tells_late : (old new : View) (a : Pending) (links : List Link) (r : ℕ) (sent : Sent) (index : ℕ) (v : Verdict) (before after : List Duty) → slice_get links r ≡ Some (UnsettledLink sent index) → v.tx ≡ sent.ts → IsToldBy old new r v.tx v.commit
     → after ≡ handed v (others_in sent.participants (first_in sent.participants)) before → MayTell old new a links before after
 tells_late old new a links r sent index v before after there tx told behind = inr (record { r = r; sent = sent; v = v; known = ByLink index there; tx = tx; told = subst (λ (t : Ts). IsToldBy old new r t v.commit) tx told; behind = behind })
 

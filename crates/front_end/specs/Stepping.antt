@@ -1,6 +1,6 @@
 -- What a client's step makes of its try's transaction, of its duties and of its items (this project's).
 use Rattle.client_items.specs.Courses.{who_next}
-use Rattle.client_items.specs.Ending.{GoesBy}
+use Rattle.client_items.specs.Ending.{EndsBy, GoesBy}
 use Rattle.client_items.specs.declared.news.News.TheVariants as news
 use Rattle.client_items.specs.declared.news.News.{News}
 use Rattle.client_port.specs.Acting.{ActsIf}
@@ -112,11 +112,12 @@ RuleHelpsBy rules.HandOn helping = Unit {0}
 abbrev pub present_of : FrontEnd → Present
 present_of f = record { who = who_next (course_of f); tries = tries_of f }
 
--- The client has made a step: what that came to is what its items have gone by.
+-- The client has made a step: what that came to is what its items have gone by, and an item that has to end by it has ended so.
 pub record TakesStep (shows : Bool) (old new : View) (f g : FrontEnd) : Type 0 where
   pub came : News
   pub steps : ClientSteps shows (present_of f) old new f.client g.client came
   pub goes : GoesBy (tries_of f) came (course_of f) (course_of g)
+  pub ends : EndsBy f.attempts came (course_of f) (course_of g)
 
 -- ---- behind the last step
 

@@ -185,6 +185,7 @@ impl FrontEnd {
         ensures held { held_of self.new ≡ held_of self.old }
         ensures pending { pending_of self.new ≡ pending_of self.old }
         ensures client { self.new.client ≡ self.old.client }
+        ensures tried { self.new.attempts.tried ≡ self.old.attempts.tried }
     {
         self.attempts.count_call()
     }

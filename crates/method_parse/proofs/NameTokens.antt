@@ -21,16 +21,16 @@ name_kind k text e = first_of (is_name_kind k) (fits_word text) e
 abbrev held : List ℕ → ℕ → Name
 held text line = record { text = text; line = line }
 
-no_kind : (k : Bool) (fits : Bool) (n : Name) → k ≡ false → None ≡ cond (k && fits) (Some n) None
+pub no_kind : (k : Bool) (fits : Bool) (n : Name) → k ≡ false → None ≡ cond (k && fits) (Some n) None
 no_kind true fits n e = absurd cc
 no_kind false fits n e = refl
 
-some_word : (k fits : Bool) (text word : List ℕ) (line : ℕ) → k ≡ true → Some word ≡ cond fits (Some text) None → Some (held word line) ≡ cond (k && fits) (Some (held text line)) None
+pub some_word : (k fits : Bool) (text word : List ℕ) (line : ℕ) → k ≡ true → Some word ≡ cond fits (Some text) None → Some (held word line) ≡ cond (k && fits) (Some (held text line)) None
 some_word true true text word line k e = let same : word ≡ text = cc in ap (λ (t : List ℕ). Some (held t line)) same
 some_word true false text word line k e = absurd cc
 some_word false fits text word line k e = absurd cc
 
-no_word : (k fits : Bool) (text : List ℕ) (n : Name) → None ≡ cond fits (Some text) None → None ≡ cond (k && fits) (Some n) None
+pub no_word : (k fits : Bool) (text : List ℕ) (n : Name) → None ≡ cond fits (Some text) None → None ≡ cond (k && fits) (Some n) None
 no_word true true text n e = absurd cc
 no_word true false text n e = refl
 no_word false fits text n e = refl
@@ -52,7 +52,7 @@ word_bytes : (text : List ℕ) → is_word text ≡ true → list_all is_text_by
 word_bytes [] e = absurd cc
 word_bytes (b ∷ bs) e =
     let p = and_parts (is_letter b) (list_all is_word_byte bs) e in
-    and_from (is_text_byte b) (list_all is_text_byte bs) (text_byte b (or_left (is_letter b) (is_digit b || b == 95) p.0)) (text_bytes bs p.1)
+    and_from (is_text_byte b) (list_all is_text_byte bs) (text_byte b (or_left (is_letter b || is_digit b) (b == 95) (or_left (is_letter b) (is_digit b) p.0))) (text_bytes bs p.1)
 
 pub spelled_name : (k : TokenKind) (text : List ℕ) → IsToken k text → is_name_kind k ≡ true → is_name_by k text ≡ true
 spelled_name kinds.Name text is kind = and_from (leb (length text) 32) (list_all is_text_byte text) (le-leb (length text) 32 is.1) (word_bytes text is.0)

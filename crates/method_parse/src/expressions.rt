@@ -264,7 +264,10 @@ fn after_this(
         return Ok((leaf(Expr::This { line }), tokens));
     }
     let (_, rest) = word(tokens, b".")?;
-    let (field, rest) = name(rest)?;
+    let (field, rest) = match name(rest) {
+        Ok(read) => read,
+        Err(error) => return Err(error),
+    };
     after_field(alloc, place, room, line, field, rest)
 }
 
@@ -298,7 +301,10 @@ fn created(tokens: &[Token]) -> Result<(Deep, &[Token]), ParseError>
     ensures within { IfOk result (λ x. x.0.depth ≤ 1) }
 {
     let (_, rest) = word(tokens, b"new")?;
-    let (class, rest) = name(rest)?;
+    let (class, rest) = match name(rest) {
+        Ok(read) => read,
+        Err(error) => return Err(error),
+    };
     let (_, rest) = word(rest, b"(")?;
     let (_, rest) = word(rest, b")")?;
     let (at, rest) = at(rest)?;
@@ -333,7 +339,10 @@ fn primary(
             Err(error) => Err(error),
         },
         Start::Name => {
-            let (name, rest) = name(tokens)?;
+            let (name, rest) = match name(tokens) {
+                Ok(read) => read,
+                Err(error) => return Err(error),
+            };
             Ok((leaf(Expr::Variable { name }), rest))
         }
         Start::Null => {
@@ -386,7 +395,13 @@ fn called(
     ensures within { IfOk result (λ x. x.0.depth ≤ room.depth) }
 {
     let (receiver, (_, rest)) = both(receiver, word(tokens, b"."))?;
-    let (receiver, (method, rest)) = both(receiver, name(rest))?;
+    let (method, rest) = match name(rest) {
+        Ok(read) => read,
+        Err(error) => {
+            drop(receiver);
+            return Err(error);
+        }
+    };
     let (called, (read, rest)) = both((receiver, method), arguments(alloc, place, room, rest))?;
     let (receiver, method) = called;
     Ok((call(alloc, receiver, method, read)?, rest))

@@ -7,5 +7,5 @@ ghost use Rattle.method_parse.specs.Matching.{is_name, is_name_kind};
 
 /// Each token of the kind of names that is spelled as its kind is, is a name; those that `scan` finds are spelled so.
 pub fn spelled_names_are_names()
-    ensures names { (token : Token) → IsToken token.kind token.text → is_name_kind token.kind ≡ true → is_name token ≡ true }
+    ensures { (token : Token) → IsToken token.kind token.text → is_name_kind token.kind ≡ true → is_name token ≡ true }
 {}

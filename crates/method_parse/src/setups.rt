@@ -54,8 +54,14 @@ fn next_begins_class(tokens: &[Token]) -> bool
 fn field(tokens: &[Token]) -> Result<(Field, &[Token]), ParseError>
     ensures { Gives (λ x. (x.0, x.1.now)) result (field tokens.now) }
 {
-    let (type_name, rest) = type_word(tokens)?;
-    let (name, rest) = name(rest)?;
+    let (type_name, rest) = match type_word(tokens) {
+        Ok(read) => read,
+        Err(error) => return Err(error),
+    };
+    let (name, rest) = match name(rest) {
+        Ok(read) => read,
+        Err(error) => return Err(error),
+    };
     let (_, rest) = word(rest, b";")?;
     Ok((Field { type_name, name }, rest))
 }
@@ -66,7 +72,10 @@ fn more_fields(fields: Fields, tokens: &[Token]) -> Result<(Fields, &[Token]), P
     ensures { Gives (λ x. (x.0, x.1.now)) result (more_fields fields tokens.now) }
 {
     let mut fields = fields;
-    let (one, rest) = field(tokens)?;
+    let (one, rest) = match field(tokens) {
+        Ok(read) => read,
+        Err(error) => return Err(error),
+    };
     fields.push(one)?;
     Ok((fields, rest))
 }
@@ -91,8 +100,14 @@ fn fields(alloc: Global, tokens: &[Token]) -> Result<(Fields, &[Token]), ParseEr
 fn parameter(tokens: &[Token]) -> Result<(Parameter, &[Token]), ParseError>
     ensures { Gives (λ x. (x.0, x.1.now)) result (parameter tokens.now) }
 {
-    let (type_name, rest) = type_word(tokens)?;
-    let (name, rest) = name(rest)?;
+    let (type_name, rest) = match type_word(tokens) {
+        Ok(read) => read,
+        Err(error) => return Err(error),
+    };
+    let (name, rest) = match name(rest) {
+        Ok(read) => read,
+        Err(error) => return Err(error),
+    };
     Ok((Parameter { type_name, name }, rest))
 }
 
@@ -106,7 +121,10 @@ fn more_parameters(
 {
     let mut parameters = parameters;
     let (_, rest) = word(tokens, b",")?;
-    let (one, rest) = parameter(rest)?;
+    let (one, rest) = match parameter(rest) {
+        Ok(read) => read,
+        Err(error) => return Err(error),
+    };
     parameters.push(one)?;
     Ok((parameters, rest))
 }
@@ -135,7 +153,10 @@ fn other_parameters(
 fn some_parameters(alloc: Global, tokens: &[Token]) -> Result<(Parameters, &[Token]), ParseError>
     ensures { Gives (λ x. (x.0, x.1.now)) result (some_parameters tokens.now) }
 {
-    let (one, rest) = parameter(tokens)?;
+    let (one, rest) = match parameter(tokens) {
+        Ok(read) => read,
+        Err(error) => return Err(error),
+    };
     let mut first = Parameters::new(alloc);
     first.push(one)?;
     other_parameters(first, rest)
@@ -168,8 +189,14 @@ fn method(alloc: Global, tokens: &[Token]) -> Result<(Method, &[Token]), ParseEr
     ensures { Gives (λ x. (x.0, x.1.now)) result (method tokens.now) }
 {
     let (_, rest) = word(tokens, b"method")?;
-    let (result, rest) = type_word(rest)?;
-    let (name, rest) = name(rest)?;
+    let (result, rest) = match type_word(rest) {
+        Ok(read) => read,
+        Err(error) => return Err(error),
+    };
+    let (name, rest) = match name(rest) {
+        Ok(read) => read,
+        Err(error) => return Err(error),
+    };
     let (parameters, rest) = parameters(alloc, rest)?;
     let (body, rest) = block_in(alloc, Place::Method, MAX_NESTING, rest)?;
     let method = Method {
@@ -231,7 +258,10 @@ fn class(alloc: Global, tokens: &[Token]) -> Result<(Class, &[Token]), ParseErro
 {
     let (kind, rest) = kind(tokens)?;
     let (_, rest) = word(rest, b"class")?;
-    let (name, rest) = name(rest)?;
+    let (name, rest) = match name(rest) {
+        Ok(read) => read,
+        Err(error) => return Err(error),
+    };
     let (_, rest) = word(rest, b"{")?;
     let (fields, rest) = fields(alloc, rest)?;
     let (methods, rest) = methods(alloc, rest)?;
@@ -281,7 +311,10 @@ fn root(tokens: &[Token]) -> Result<(WrittenRoot, &[Token]), ParseError>
     ensures { Gives (λ x. (x.0, x.1.now)) result (root tokens.now) }
 {
     let (_, rest) = word(tokens, b"root")?;
-    let (called, rest) = name(rest)?;
+    let (called, rest) = match name(rest) {
+        Ok(read) => read,
+        Err(error) => return Err(error),
+    };
     root_named(called, rest)
 }
 
@@ -292,7 +325,10 @@ fn root_named(called: Name, tokens: &[Token]) -> Result<(WrittenRoot, &[Token]),
 {
     let (_, rest) = word(tokens, b"=")?;
     let (_, rest) = word(rest, b"new")?;
-    let (class, rest) = name(rest)?;
+    let (class, rest) = match name(rest) {
+        Ok(read) => read,
+        Err(error) => return Err(error),
+    };
     root_of_class(called, class, rest)
 }
 
@@ -323,7 +359,10 @@ fn more_roots(roots: WrittenRoots, tokens: &[Token]) -> Result<(WrittenRoots, &[
     ensures { Gives (λ x. (x.0, x.1.now)) result (more_roots roots tokens.now) }
 {
     let mut roots = roots;
-    let (one, rest) = root(tokens)?;
+    let (one, rest) = match root(tokens) {
+        Ok(read) => read,
+        Err(error) => return Err(error),
+    };
     roots.push(one)?;
     Ok((roots, rest))
 }

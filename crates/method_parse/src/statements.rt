@@ -75,8 +75,14 @@ fn variable(
     ensures { Gives (λ x. (x.0, x.1.now)) result (variable place brackets tokens.now) }
 {
     let (_, rest) = word(tokens, b"var")?;
-    let (type_name, rest) = type_word(rest)?;
-    let (name, rest) = name(rest)?;
+    let (type_name, rest) = match type_word(rest) {
+        Ok(read) => read,
+        Err(error) => return Err(error),
+    };
+    let (name, rest) = match name(rest) {
+        Ok(read) => read,
+        Err(error) => return Err(error),
+    };
     let (line, rest) = word(rest, b"=")?;
     let (value, rest) = ended(alloc, place, brackets, rest)?;
     let stmt = Stmt::Var {

@@ -33,7 +33,10 @@ fn dotted(tokens: &[Token]) -> Result<(Name, &[Token]), ParseError>
     ensures { Gives (λ x. (x.0, x.1.now)) result (dotted tokens.now) }
 {
     let (_, rest) = word(tokens, b".")?;
-    let (one, rest) = name(rest)?;
+    let (one, rest) = match name(rest) {
+        Ok(read) => read,
+        Err(error) => return Err(error),
+    };
     Ok((one, rest))
 }
 
@@ -43,7 +46,10 @@ fn more_names(names: Names, tokens: &[Token]) -> Result<(Names, &[Token]), Parse
     ensures { Gives (λ x. (x.0, x.1.now)) result (more_names names tokens.now) }
 {
     let mut names = names;
-    let (one, rest) = dotted(tokens)?;
+    let (one, rest) = match dotted(tokens) {
+        Ok(read) => read,
+        Err(error) => return Err(error),
+    };
     names.push(one)?;
     Ok((names, rest))
 }

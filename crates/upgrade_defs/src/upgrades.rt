@@ -18,8 +18,14 @@ const MAX_FIELDS: usize = 32;
 fn field(alloc: Global, tokens: &[Token]) -> Result<(FieldUpgrade, &[Token]), ParseError>
     ensures { Gives (λ x. (x.0, x.1.now)) result (field tokens.now) }
 {
-    let (type_name, rest) = type_word(tokens)?;
-    let (name, rest) = name(rest)?;
+    let (type_name, rest) = match type_word(tokens) {
+        Ok(read) => read,
+        Err(error) => return Err(error),
+    };
+    let (name, rest) = match name(rest) {
+        Ok(read) => read,
+        Err(error) => return Err(error),
+    };
     let (_, rest) = word(rest, b"=")?;
     let (value, rest) = value(alloc, rest)?;
     let (value, (_, rest)) = both(value, word(rest, b";"))?;
@@ -67,7 +73,10 @@ fn class(alloc: Global, tokens: &[Token]) -> Result<(ClassUpgrade, &[Token]), Pa
     ensures { Gives (λ x. (x.0, x.1.now)) result (class tokens.now) }
 {
     let (_, rest) = word(tokens, b"class")?;
-    let (name, rest) = name(rest)?;
+    let (name, rest) = match name(rest) {
+        Ok(read) => read,
+        Err(error) => return Err(error),
+    };
     let (_, rest) = word(rest, b"{")?;
     let (fields, rest) = fields(alloc, rest)?;
     let (methods, rest) = methods(alloc, rest)?;

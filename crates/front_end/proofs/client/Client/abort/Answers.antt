@@ -1,12 +1,13 @@
 use Rattle.client_state.proofs.Moving.{less_itself}
 use Rattle.client_state.proofs.Pending.{stays_itself}
 use Rattle.client_state.specs.Handing.{handed}
+use Rattle.client_state.specs.Owing.{count_of}
 use Rattle.client_state.specs.declared.duties.Duties.{Duties}
 use Rattle.front_end.proofs.Acting.{by_decide}
 use Rattle.front_end.proofs.Receiving.{whenever}
-use Rattle.front_end.proofs.Stepping.{by_abort_refused_so, by_abort_so}
+use Rattle.front_end.proofs.Stepping.{by_abort_refused_so, by_abort_so, owes_no_more}
 use Rattle.front_end.proofs.client.Client.abort.Goals as goal
-use Rattle.std.proofs.Common.{ap, refl, ◌∙◌}
+use Rattle.std.proofs.Common.{ap, refl, ◌+◌, ◌∙◌}
 use Rattle.std.proofs.lemmas.Result.{on_ok_weaker}
 
 pub returns-in-Ok-clause-acts : goal.returns-in-Ok-clause-acts
@@ -20,3 +21,6 @@ returns-in-Ok-clause-moves g c = λ item d was verdicts helping. on_ok_weaker c.
 
 pub returns-in-Err-clause-moves : goal.returns-in-Err-clause-moves
 returns-in-Err-clause-moves g c = λ item d was verdicts helping. whenever c.leave_prepared.result (by_abort_refused_so _ item _ _ c.args.self.now.held c.leave_prepared.new.self.held _ _ d _ _ c.args.abort.coordinator c.args.abort.ts c.in-Err.refusal c.in-Err.ensures.call c.leave_prepared.ensures.loses c.leave_prepared.ensures.client c.leave_prepared.ensures.stays (record { prepared = c.args.abort.prepared; was = was; verdicts = ap (λ (x : Duties). x.verdicts) c.leave_prepared.ensures.duties ∙ verdicts; helping = ap (λ (x : Duties). x.helping) c.leave_prepared.ensures.duties ∙ helping }) refl)
+
+pub returns-in-Err-clause-owed : goal.returns-in-Err-clause-owed
+returns-in-Err-clause-owed g c = owes_no_more c.leave_prepared.result c.args.self.now c.leave_prepared.new.self (count_of c.args.abort.prepared + 1) c.leave_prepared.ensures.left

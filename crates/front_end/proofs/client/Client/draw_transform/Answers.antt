@@ -28,4 +28,4 @@ pub returns-in_ok-becomes-in-Some-clause-hands : goal.returns-in_ok-becomes-in-S
 returns-in_ok-becomes-in-Some-clause-hands g c = on_any c.draw_made.result _ (hands_nothing _ _ _ c.args.self.now c.draw_made.new.self (c.draw_made.ensures.verdicts.0 ∙ ap (λ (x : Duties). x.verdicts) c.go_on_with.ensures.duties, c.draw_made.ensures.verdicts.1 ∙ ap (λ (x : Duties). x.helping) c.go_on_with.ensures.duties))
 
 pub returns-in-None-clause-hands : goal.returns-in-None-clause-hands
-returns-in-None-clause-hands g c = hands_same _ _ _ c.args.self.now c.go_on_with.new.self c.join_behind.new.self (ap (λ (h : Held). h.links.items) c.go_on_with.ensures.held) c.go_on_with.ensures.duties c.join_behind.result c.join_behind.ensures.hands
+returns-in-None-clause-hands g c = hands_same _ _ _ c.args.self.now c.go_on_with-in-None.new.self c.join_behind.new.self (ap (λ (h : Held). h.links.items) c.go_on_with-in-None.ensures.held) c.go_on_with-in-None.ensures.duties c.join_behind.result c.join_behind.ensures.hands

@@ -17,7 +17,7 @@ pub returns-in-Transforming-clause-moves : goal.returns-in-Transforming-clause-m
 returns-in-Transforming-clause-moves g c = λ w. from_idle _ _ _ _ c.args.self.now _ _ _ _ _ c.take_phase.ensures.rest (ap pending_in (sym c.take_phase.ensures.phase ∙ c.in-Transforming.is)) c.transform.result (c.transform.ensures.moves _)
 
 pub returns-in-Evaluated-clause-moves : goal.returns-in-Evaluated-clause-moves
-returns-in-Evaluated-clause-moves g c = λ w idle. from_phase _ _ _ _ c.args.self.now _ _ _ _ _ c.take_phase.ensures.rest refl c.join_and_draw.result (sends_from _ _ _ _ _ _ _ c.join_and_draw.result c.join_and_draw.ensures.moves c.join_and_draw.ensures.free c.join_and_draw.ensures.ends c.join_and_draw.ensures.hands)
+returns-in-Evaluated-clause-moves g c = λ w idle. from_phase _ _ _ _ c.args.self.now c.take_phase.new.self c.join_and_draw.new.self _ _ _ c.take_phase.ensures.rest refl c.join_and_draw.result (sends_from _ _ _ _ c.take_phase.new.self c.join_and_draw.new.self _ c.join_and_draw.result c.join_and_draw.ensures.moves c.join_and_draw.ensures.free c.join_and_draw.ensures.ends c.join_and_draw.ensures.hands)
 
 pub returns-in-Drawn-clause-moves : goal.returns-in-Drawn-clause-moves
 returns-in-Drawn-clause-moves g c = λ w. from_idle _ _ _ _ c.args.self.now _ _ _ _ _ c.take_phase.ensures.rest (ap pending_in (sym c.take_phase.ensures.phase ∙ c.in-Drawn.is)) c.send.result (c.send.ensures.moves _ refl (ap (λ (k : Client). pending_in k.phase) c.take_phase.ensures.rest) (rw (c.take_phase.ensures.rest) (drawn_writes _ _ _ _ (sym c.take_phase.ensures.phase ∙ c.in-Drawn.is) w)))

@@ -1,6 +1,8 @@
 use Rattle.client_state.proofs.Writing.{nothing_unsent}
 use Rattle.client_state.specs.Links.{at_repo}
 use Rattle.client_state.specs.Writing.{unsent}
+use Rattle.client_state.specs.declared.link.Link.TheVariants.{Unsettled}
+use Rattle.client_state.specs.declared.link.Link.{Link}
 use Rattle.front_end.proofs.Leaving.{held_unknown}
 use Rattle.front_end.proofs.Stepping.{put_there}
 use Rattle.front_end.proofs.client.Client.hold_as_unknown.Goals as goal
@@ -14,4 +16,4 @@ pub returns-clause-writes : goal.returns-clause-writes
 returns-clause-writes c = λ none. nothing_unsent _ _ (ap (λ (k : Client). unsent k.phase) c.leave_all.ensures.rest ∙ none)
 
 pub returns-clause-link : goal.returns-clause-link
-returns-clause-link c = λ link there. put_there c.give_up.new.self.links.items c.set_link.new.self.links.items _ _ (c.set_link.ensures.links ∙ ap (λ (r : ℕ). at_repo c.give_up.new.self.links.items r _) c.coordinator-coordinator.ensures) link there
+returns-clause-link c = λ link there. put_there c.give_up.new.self.links.items c.set_link.new.self.links.items _ (Unsettled c.args.sent c.args.task.who.index) (c.set_link.ensures.links ∙ ap (λ (r : ℕ). at_repo c.give_up.new.self.links.items r (λ (l : Link). Unsettled c.args.sent c.args.task.who.index)) c.coordinator-coordinator.ensures) link there

@@ -6,8 +6,7 @@ use Rattle.client_state.specs.Pending.{pending_in}
 use Rattle.client_state.specs.Stepping.{EndsAsked}
 use Rattle.client_state.specs.Writing.{unsent}
 use Rattle.client_state.specs.declared.duties.Duties.{Duties}
-use Rattle.front_end.proofs.Showing.{abort_shown, told_decided, try_shown}
-use Rattle.front_end.proofs.Stepping.{decided_so}
+use Rattle.front_end.proofs.Showing.{abort_shown, decided_so, told_decided, try_shown}
 use Rattle.front_end.proofs.client.Client.learn_own.Goals as goal
 use Rattle.front_end.specs.declared.client.Client.{Client}
 use Rattle.std.proofs.Common.{Bool, List, ap, refl, subst, sym, true, ℕ, ◌∙◌}

@@ -31,7 +31,7 @@ pub returns-in_ok-take-in-Ok-Some-clause-moves : goal.returns-in_ok-take-in-Ok-S
 returns-in_ok-take-in-Ok-Some-clause-moves g c = λ item joined. by_message_so item _ _ c.args.at c.args.self.now.held c.receive.new.self c.take.new.self.held c.receive.ensures.rest joined _ _ _ _ _ _ c.in_ok-take-in-Ok-Some.ensures.ends c.in_ok-take-in-Ok-Some.ensures.duties c.in-Ok-Some.field-0 c.in-Ok-Some.message c.in-Ok-Some.field-0-is c.in-Ok-Some.ensures.call c.in-Ok-Some.ensures.links c.in_ok-take-in-Ok-Some.ensures.takes c.in_ok-take-in-Ok-Some.ensures.stays
 
 pub returns-in-Ok-None-clause-moves : goal.returns-in-Ok-None-clause-moves
-returns-in-Ok-None-clause-moves g c = λ item joined. by_none_so item _ _ _ c.args.at c.args.self.now.held c.receive.new.self (no_message _ _ _ c.args.at c.args.self.now.held c.receive.new.self c.receive.ensures.rest c.in-Ok-None.field-0 c.in-Ok-None.field-0-is c.in-Ok-None.ensures.call c.in-Ok-None.ensures.links) joined _ _ refl _ _ (same_duties _ _ refl)
+returns-in-Ok-None-clause-moves g c = λ item joined. by_none_so item _ _ _ c.args.at c.args.self.now.held c.receive.new.self (no_message _ _ _ c.args.at c.args.self.now.held c.receive.new.self c.receive.ensures.rest c.in-Ok-None.field-0 c.in-Ok-None.field-0-is c.in-Ok-None.ensures.call c.in-Ok-None.ensures.links) joined _ _ refl _ _ (same_duties c.args.self.now.duties c.args.self.now.duties refl)
 
 pub returns-in-Ok-None-clause-none : goal.returns-in-Ok-None-clause-none
 returns-in-Ok-None-clause-none g c = λ none. no_message _ _ _ c.args.at c.args.self.now.held c.receive.new.self c.receive.ensures.rest c.in-Ok-None.field-0 c.in-Ok-None.field-0-is c.in-Ok-None.ensures.call c.in-Ok-None.ensures.links

@@ -24,7 +24,7 @@ pub returns-clause-rises : goal.returns-clause-rises
 returns-clause-rises g c = subst (λ (h : Held). Rises h (held_of c.make_counted.new.self)) c.count_call.ensures.held c.make_counted.ensures.rises
 
 pub returns-clause-moves : goal.returns-clause-moves
-returns-clause-moves g c = λ may helps. on_ok_weaker c.make_counted.result (λ t. takes_counted _ _ _ c.args.self.now c.count_call.new.self c.make_counted.new.self c.count_call.ensures.client c.count_call.ensures.course c.count_call.ensures.each t) (c.make_counted.ensures.moves (subst (λ (k : Client). MayFollow c.args.rule k.held) (sym c.count_call.ensures.client) may) (subst (λ (k : Client). HelpsBy c.args.rule k.duties.helping) (sym c.count_call.ensures.client) helps))
+returns-clause-moves g c = λ may helps. on_ok_weaker c.make_counted.result (λ t. takes_counted _ _ _ c.args.self.now c.count_call.new.self c.make_counted.new.self c.count_call.ensures.client c.count_call.ensures.course c.count_call.ensures.each c.count_call.ensures.tried t) (c.make_counted.ensures.moves (subst (λ (k : Client). MayFollow c.args.rule k.held) (sym c.count_call.ensures.client) may) (subst (λ (k : Client). HelpsBy c.args.rule k.duties.helping) (sym c.count_call.ensures.client) helps))
 
 pub returns-then-not-count_call-clause-moves : goal.returns-then-not-count_call-clause-moves
-returns-then-not-count_call-clause-moves g c = λ may helps. on_ok_weaker c.run_out_of_calls.result (λ t. takes_counted _ _ _ c.args.self.now c.count_call.new.self c.run_out_of_calls.new.self c.count_call.ensures.client c.count_call.ensures.course c.count_call.ensures.each t) c.run_out_of_calls.ensures.moves
+returns-then-not-count_call-clause-moves g c = λ may helps. on_ok_weaker c.run_out_of_calls.result (λ t. takes_counted _ _ _ c.args.self.now c.count_call.new.self c.run_out_of_calls.new.self c.count_call.ensures.client c.count_call.ensures.course c.count_call.ensures.each c.count_call.ensures.tried t) c.run_out_of_calls.ensures.moves

@@ -1,6 +1,5 @@
 use Rattle.client_state.proofs.Moving.{less_itself}
 use Rattle.client_state.proofs.Pending.{moves_so, stays_itself}
-use Rattle.front_end.proofs.Calling.{nothing_done}
 use Rattle.front_end.proofs.Stepping.{by_rest_kept, takes_moves, takes_none}
 use Rattle.front_end.proofs.Steps.{steps_fall}
 use Rattle.front_end.proofs.front_end.FrontEnd.step.Goals as goal
@@ -11,7 +10,7 @@ pub returns-clause-steps : goal.returns-clause-steps
 returns-clause-steps g c = λ _. steps_fall c.args.self.now c.move_on.new.self c.move_on.ensures.each (c.in_ok-move_on.ensures.falls (c.if-has_ended.ensures.left refl))
 
 pub returns-then-has_ended-clause-pends : goal.returns-then-has_ended-clause-pends
-returns-then-has_ended-clause-pends g c = nothing_done _ _ (held_of c.args.self.now) _ _ refl
+returns-then-has_ended-clause-pends g c = takes_moves _ _ _ c.args.self.now c.args.self.now (takes_none _ _ _ c.args.self.now c.args.self.now (by_rest_kept _ _ _ (held_of c.args.self.now) (held_of c.args.self.now) _ _ _ _ _ (less_itself (held_of c.args.self.now)) (stays_itself _ (held_of c.args.self.now)) refl refl refl) refl)
 
 pub returns-clause-moves : goal.returns-clause-moves
 returns-clause-moves g c = moves_so _ _ _ _ _ _ _ (takes_moves _ _ _ c.args.self.now c.move_on.new.self c.in_ok-move_on.ensures.moves)
