@@ -11,11 +11,10 @@ use Rattle.repo_opening.specs.Recovered.{IsRecovered}
 use Rattle.repo_opening.specs.Same.{Same}
 use Rattle.repo_opening.specs.Unsound.{IsUnsound}
 use Rattle.repo_opening.specs.declared.repository.Read.{Read}
-use Rattle.std.proofs.Common.{Err, List, None, Ok, OnOk, Option, Result, Some, [], ap, arith, inl, inr, length, refl, slice_get, subst, suc, sym, take, zero, ℕ, ◌++◌, ◌+◌, ◌∙◌, ◌≡◌, ◌∷◌, ◌⊎◌}
+use Rattle.std.proofs.Common.{IfOk, IfSome, List, None, Ok, OnOk, Option, Result, Some, [], ap, arith, inl, inr, length, refl, slice_get, subst, suc, sym, take, zero, ℕ, ◌++◌, ◌+◌, ◌∙◌, ◌≡◌, ◌∷◌, ◌⊎◌}
 use Rattle.std.proofs.lemmas.Slice.Zip.{AllZip-long, all_zipped_more}
 use Rattle.std.specs.List.{AllZip}
-use Rattle.std.specs.Prelude.{IfSome}
-use Rattle.store_opening.proofs.Holding.{known_stands}
+use Rattle.store_opening.proofs.Holding.{ok_at}
 use Rattle.store_opening.specs.Joined.{read_states}
 use Rattle.store_opening.specs.Reading.{ReadAll, StandFor}
 use Rattle.store_opening.specs.Seated.{AreSeated, IsSeated}
@@ -90,14 +89,27 @@ module _ {P : Type 0} (disks : P → Disks) where
   told all images places repos r d place image reads count is begun (NotOpen fresh behind disk at) = OfFresh image is fresh (begun behind) disk at
 
   -- what is told of it is wrong of the store
-  pub told_behind : (yielded rest all : List P) (part : P) (places : List (Closed P)) (images : List (ℕ → List ℕ)) (repos r d place : ℕ) → yielded ++ part ∷ rest ≡ all → ReadAll disks all images → AreSeated disks yielded places → repos ≡ length all
-      → (t : There part (length yielded) images) → (r ≡ length places) × IsNoRepository disks places repos t.image r d place → IsNoStore images r d place
-  told_behind yielded rest all part places images repos r d place whole reads seated count t why =
-      let long : length places ≡ length yielded = AllZip-long (IsSeated disks) yielded places seated in
-      told all images places repos r d place t.image reads count (subst (λ (n : ℕ). slice_get images n ≡ Some t.image) (sym (why.0 ∙ long)) t.is)
-      (begins yielded (part ∷ rest) places images (subst (λ (ps : List P). ReadAll disks ps images) (sym whole) reads) seated) why.1
+  pub told_behind : (yielded rest all : List P) (part : P) (now places : List (Closed P)) (images : List (ℕ → List ℕ)) (repos r d place : ℕ) → now ≡ places → yielded ++ part ∷ rest ≡ all → ReadAll disks all images → AreSeated disks yielded places → repos ≡ length all
+      → (t : There part (length yielded) images) → (r ≡ length now) × IsNoRepository disks now repos t.image r d place → IsNoStore images r d place
+  told_behind yielded rest all part now places images repos r d place same whole reads seated count t why =
+      let here : AreSeated disks yielded now = subst (λ (ps : List (Closed P)). AreSeated disks yielded ps) (sym same) seated in
+      let long : length now ≡ length yielded = AllZip-long (IsSeated disks) yielded now here in
+      told all images now repos r d place t.image reads count (subst (λ (n : ℕ). slice_get images n ≡ Some t.image) (sym (why.0 ∙ long)) t.is)
+      (begins yielded (part ∷ rest) now images (subst (λ (ps : List P). ReadAll disks ps images) (sym whole) reads) here) why.1
+
+-- the same under other names of the numbers
+pub told_as : (repo repos r count d place : ℕ) (image : ℕ → List ℕ) → r ≡ repo → repos ≡ count → IsUnsound repo repos image d place → IsUnsound r count image d place
+told_as repo repos r count d place image first second is = subst (λ (n : ℕ). IsUnsound r n image d place) second (subst (λ (n : ℕ). IsUnsound n repos image d place) (sym first) is)
 
 -- ---- whether they fit together
+
+-- what is known of what was made, where it was
+pub on_ok_at : {A E : Type 0} (r : Result A E) (a : A) (P : Type 0) → r ≡ Ok a → OnOk r P → P
+on_ok_at {A} {E} r a P is h = subst (λ (q : Result A E). OnOk q P) is h
+
+-- what is known of what was read, where it was
+pub some_of : {A E : Type 0} (r : Result (Option A) E) (found : Option A) (x : A) (P : A → Type 0) → r ≡ Ok found → found ≡ Some x → IfOk r (λ f. IfSome f P) → P x
+some_of {A} {E} r found x P is some holds = subst (λ (o : Option A). IfSome o P) some (ok_at r found (λ f. IfSome f P) is holds)
 
 logs_more : (images : List (ℕ → List ℕ)) (reads : List Read) (image : ℕ → List ℕ) (r : Read) → HaveLogs images reads → IsLogOn image r.recovered.now.log.disk → HaveLogs (images ++ image ∷ []) (reads ++ r ∷ [])
 logs_more images reads image r logs log = all_zipped_more (λ (i : ℕ → List ℕ) (read : Read). IsLogOn i read.recovered.now.log.disk) images reads image r logs log
@@ -132,14 +144,3 @@ unfit images states r d place stand at (Nobody is disk) = OfName is (record { st
 -- what is told of repositories that don't fit together is wrong of the store
 pub misfit : (images : List (ℕ → List ℕ)) (reads : List Read) (r d place : ℕ) → StandFor images (read_states reads) → HaveLogs images reads → IsCheckpoint reads r d place → IsNoStore images r d place
 misfit images reads r d place stand logs told = unfit images (read_states reads) r d place stand told.1 (which images reads r d logs told.0)
-
--- ---- answers
-
-pub same_err : {T E : Type 0} (a b : E) → ◌≡◌ {A = Result T E} (Err a) (Err b) → a ≡ b
-same_err a b is = cc
-
-pub on_ok : {A E : Type 0} (r : Result A E) (a : A) (P : Type 0) → r ≡ Ok a → OnOk r P → P
-on_ok {A} {E} r a P is h = subst (λ (q : Result A E). OnOk q P) is h
-
-pub some_at : {X : Type 0} (o : Option X) (x : X) (P : X → Type 0) → o ≡ Some x → IfSome o P → P x
-some_at {X} o x P is h = subst (λ (q : Option X). IfSome q P) is h

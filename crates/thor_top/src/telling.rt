@@ -36,28 +36,40 @@ fn reported<G: Gate>(
     ensures lines { IfOk ran (λ r. IfOk result.0 (IsToldWith r.lines expected.now)) }
 {
     match ran {
-        Ok(
-            Ran {
-                ends,
-                lines,
-                traces,
-            },
-        ) => {
-            let told = report(
-                alloc,
-                expected.running,
-                expected.form,
-                &expected.opened.schemas,
-                &expected.opened.store,
-                &expected.script,
-                lines,
-                &ends,
-            );
-            mem::forget(ends);
-            (reply_of(gate, told), traces)
-        }
+        Ok(run) => replied_run(alloc, gate, expected, run),
         Err(NoMemory) => (Err(NoMemory), Traces::new(alloc)),
     }
+}
+
+/// What is replied of a run that was made, with its traces.
+fn replied_run<G: Gate>(
+    alloc: Global,
+    gate: &G,
+    expected: &Expected,
+    ran: Ran,
+) -> (Result<Reply, NoMemory>, Traces)
+    requires { IsSorted expected.now.opened.store.objects }
+    ensures reply { IfOk result.0 (IsReported expected.now.running expected.now.form expected.now.opened.schemas expected.now.opened.store expected.now.script) }
+    ensures traces { result.1 ≡ ran.traces }
+    ensures lines { IfOk result.0 (IsToldWith ran.lines expected.now) }
+{
+    let Ran {
+        ends,
+        lines,
+        traces,
+    } = ran;
+    let told = report(
+        alloc,
+        expected.running,
+        expected.form,
+        &expected.opened.schemas,
+        &expected.opened.store,
+        &expected.script,
+        lines,
+        &ends,
+    );
+    mem::forget(ends);
+    (reply_of(gate, told), traces)
 }
 
 /// What is replied of a run, which is what is told of it. The gate is told of one whose history didn't pass its check.

@@ -1,5 +1,5 @@
 use Rattle.repo_opening.specs.declared.unopened.Unopened.TheVariants.{Damaged}
-use Rattle.std.proofs.Common.{IsErrOf, Ok, ap, rules, length, ◌∙◌, ◌≡◌}
+use Rattle.std.proofs.Common.{IsErrOf, Ok, ap, length, rules, ◌∙◌, ◌≡◌}
 use Rattle.store_opening.proofs.Holding.{ok_at, stored_is}
 use Rattle.store_opening.specs.Joined.{read_states}
 use Rattle.store_opening.specs.OpenedStore.{joined, roots_of}

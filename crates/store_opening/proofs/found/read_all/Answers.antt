@@ -3,7 +3,7 @@ use Rattle.store_opening.proofs.Places.{next_one, none_left, zip_all, zip_more}
 use Rattle.store_opening.proofs.found.read_all.Goals as goal
 use Rattle.store_opening.specs.Seated.{IsSeated}
 use Rattle.disk_trait.specs.AllDisks.{ReadsAs}
-use Rattle.std.proofs.Common.{List, OnOk, ap, arith, inl, inr, length, rules, subst, sym, ℕ, ◌++◌, ◌∙◌, ◌≡◌, ◌∷◌}
+use Rattle.std.proofs.Common.{List, OnOk, ap, arith, inl, inr, subst, sym, ℕ, ◌++◌, ◌∙◌, ◌≡◌, ◌∷◌}
 use Rattle.std.proofs.lemmas.List.{append-nil}
 use Rattle.store_opening.proofs.Holding.{ends, puts_next}
 use Rattle.store_opening.specs.Reading.{PutsAll, ReadAll}
@@ -25,11 +25,10 @@ loop-part-preserved g c =
           let disks = g.P.Parts.disks in
           let rest = into_iter_items c.next.new.self in
           let whole : c.loop-part.yielded ++ c.in-Some.part ∷ rest ≡ c.args.parts.items = ap (λ ps. c.loop-part.yielded ++ ps) (sym next.0) ∙ inv.2 in
-          let room : c.args.parts.len ≡ length c.args.parts.items = search rules in
           let t = there disks c.loop-part.yielded rest c.args.parts.items c.in-Some.part images whole reads in
           elim (c.read_next-found.ensures.damaged t.image r d place t.reads is) [
             | inl before ↦ inv.5 images r d place reads before
-            | inr here ↦ told_behind disks c.loop-part.yielded rest c.args.parts.items c.in-Some.part c.loop-part.places.items images c.len-repos.result r d place whole reads inv.3 (c.len-repos.ensures ∙ room) t here
+            | inr here ↦ told_behind disks c.loop-part.yielded rest c.args.parts.items c.in-Some.part c.as_slice.result.now c.loop-part.places.items images c.len-repos.result r d place c.as_slice.ensures.value whole reads inv.3 (c.len-repos.ensures ∙ c.args.parts.ok.0) t here
           ],
     )
 

@@ -1,7 +1,7 @@
 use Rattle.repo_opening.specs.Paged.{PutsStored}
 use Rattle.store_opening.proofs.Holding.{always}
-use Rattle.std.proofs.Common.{IsErrOf, Ok, ap, length, rules, subst, sym, ℕ, ◌∙◌, ◌≡◌}
-use Rattle.repo_opening.specs.Unsound.{IsUnsound}
+use Rattle.store_opening.proofs.Misfits.{told_as}
+use Rattle.std.proofs.Common.{IsErrOf, Ok, ap, length, rules, ◌∙◌, ◌≡◌}
 use Rattle.repo_opening.proofs.Reading.{reads_on}
 use Rattle.repo_opening.specs.declared.unopened.Unopened.TheVariants.{Damaged}
 use Rattle.store_opening.specs.Unsound.{NotOpen, Unsound}
@@ -20,16 +20,15 @@ returns-in-Ok-clause-put g c = λ images reads. always c.placed.result.1 (PutsSt
 
 pub returns-in-Ok-clause-damaged : goal.returns-in-Ok-clause-damaged
 returns-in-Ok-clause-damaged g c = λ image r d place reads is.
-    let number : c.in-Ok-Ok.repo ≡ length c.args.places.now = search rules in
     let told = c.placed.ensures.damaged r d place is in
     let fresh = told.3.each image (reads_on (g.P.Parts.disks c.args.part) (g.P.Parts.disks c.read_repository.new.parts) c.read_repository.ensures.same.content image reads) in
-    (told.0 ∙ number, NotOpen fresh told.4 told.1 told.2)
+    let first : c.in-Ok-Ok.repo ≡ length c.args.places.now = search rules in
+    (told.0 ∙ first, NotOpen fresh told.4 told.1 told.2)
 
 pub returns-in-Err-clause-damaged : goal.returns-in-Err-clause-damaged
 returns-in-Err-clause-damaged g c = λ image r d place reads is.
-    let number : c.in-Ok-Ok.repo ≡ length c.args.places.now = search rules in
-    let count : c.in-Ok-Ok.repos ≡ c.args.repos = search rules in
     let wrong : IsErrOf c.read_repository.result (Damaged r d place) = search rules in
     let told = c.read_repository.ensures.damaged image r d place reads wrong in
-    let here = subst (λ (n : ℕ). IsUnsound n c.in-Ok-Ok.repos image d place) (sym told.0) told.1 in
-    (told.0 ∙ number, Unsound (subst (λ (n : ℕ). IsUnsound r n image d place) count here))
+    let first : c.in-Ok-Ok.repo ≡ length c.args.places.now = search rules in
+    let second : c.in-Ok-Ok.repos ≡ c.args.repos = search rules in
+    (told.0 ∙ first, Unsound (told_as c.in-Ok-Ok.repo c.in-Ok-Ok.repos r c.args.repos d place image told.0 second told.1))
