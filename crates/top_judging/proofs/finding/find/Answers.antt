@@ -1,4 +1,4 @@
-use Rattle.std.proofs.Common.{IfOk, Result, rules, subst, sym, ℕ, ◌∙◌, ◌≡◌}
+use Rattle.std.proofs.Common.{IfOk, Result, subst, sym, ℕ, ◌≡◌}
 use Rattle.store_opening.specs.Reading.{ReadAll}
 use Rattle.thor_value.specs.declared.memory.NoMemory.{NoMemory}
 use Rattle.top_judging.proofs.StageLaws.{err_map, ok_map, unjudged_replies, unopened_replies}
@@ -27,10 +27,9 @@ returns-in-Err-clause-reply g c =
     let D = ReadAll g.P.Parts.disks c.args.parts.items in
     let plan = c.args.plan.now in
     let script = c.args.script.now in
-    let same : c.in-Err.field-0.why ≡ c.in-Err.why = search rules in
-    let none : (repo disk place : ℕ) → c.in-Err.why ≡ Damaged repo disk place → HoldNoStore D repo disk place = λ repo disk place is. record { each = λ images reads. c.in-Err.ensures.damaged images repo disk place reads (same ∙ is) } in
+    let none : (repo disk place : ℕ) → c.in-Err.field-0.why ≡ Damaged repo disk place → HoldNoStore D repo disk place = λ repo disk place is. record { each = λ images reads. c.in-Err.ensures.damaged images repo disk place reads is } in
     subst (λ (q : Result Reply NoMemory). IfOk q (RepliesTo D plan script)) (sym c.unplayed.ensures.reply)
-    (ok_map c.unopened.result (RepliesWhy c.in-Err.why) (RepliesTo D plan script) (unopened_replies D plan script c.in-Err.why none) c.unopened.ensures.told)
+    (ok_map c.unopened.result (RepliesWhy c.in-Err.field-0.why) (RepliesTo D plan script) (unopened_replies D plan script c.in-Err.field-0.why none) c.unopened.ensures.told)
 
 pub returns-in-Ok-clause-untold : goal.returns-in-Ok-clause-untold
 returns-in-Ok-clause-untold g c =
