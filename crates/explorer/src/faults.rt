@@ -5,7 +5,7 @@ use repo_opening::Unopened;
 use script_parse::ReadError;
 use simulation_setup::Unbegun;
 use thor_value::NoMemory;
-use top_reply::Status;
+use top_reply::{Status, Untold};
 
 /// Why a run has no report.
 #[derive(Clone, Copy)]
@@ -31,6 +31,12 @@ impl Fault {
 
 impl From<NoMemory> for Fault {
     fn from(_missing: NoMemory) -> Fault {
+        Fault::NoMemory
+    }
+}
+
+impl From<Untold> for Fault {
+    fn from(_why: Untold) -> Fault {
         Fault::NoMemory
     }
 }

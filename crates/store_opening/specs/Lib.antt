@@ -6,3 +6,4 @@ pub mod Limits
 pub mod OpenedStore
 pub mod Reading
 pub mod Seated
+pub mod Unsound

@@ -7,6 +7,7 @@ ghost use Rattle.commit_log.specs.Recovered.{stands};
 ghost use Rattle.std.specs.Prelude.{IfSome, List, Some, ℕ};
 ghost use Rattle.store_opening.specs.Joined.{IsKept, state_of};
 ghost use Rattle.store_opening.specs.Seated.{Gives, IsSeated};
+ghost use Rattle.store_opening.specs.Unsound.{IsLogOn};
 
 use disk_trait::Parts;
 use repo_opening::{Known, Read, Settled};
@@ -47,6 +48,7 @@ impl<P: Parts> Closed<P> {
     pub(crate) fn read(&self) -> Option<Read<'_>>
         ensures kept { IfSome result IsKept }
         ensures stands { (part : P) (images : ℕ → List ℕ) → IsSeated P.disks part self.now → ReadsAs (P.disks part) images → IfSome result (λ read. stands images ≡ Some (state_of read)) }
+        ensures log { (part : P) (images : ℕ → List ℕ) → IsSeated P.disks part self.now → ReadsAs (P.disks part) images → IfSome result (λ read. IsLogOn images read.recovered.now.log.disk) }
     {
         match self {
             Closed::Known(known) => Some(known.read()),

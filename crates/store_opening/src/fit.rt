@@ -7,10 +7,25 @@ ghost use Rattle.store_opening.specs.OpenedStore.{joined};
 use crate::joined::{Settled, joined, settle_repository};
 use crate::separate::{has_coordinators, has_own_names, is_below};
 use class_defs::{Root, Roots, Schemas};
-use repo_opening::{Read, Unopened, number_at};
+use repo_opening::{Read, number_at};
 use std::alloc::Global;
 use store_check::{Fitting, Texts, fits, is_lawful, schemas_of};
-use thor_value::{NoMemory, Obj, Oref, OrefMap, Text, both};
+use thor_value::{NoMemory, Obj, OrefMap, Text, both};
+
+/// Why the repositories of a store weren't found to fit together.
+#[derive(Clone, Copy)]
+pub(crate) enum Misfit {
+    /// They don't: by the checkpoint of this one, or by a name of this one.
+    Of { repo: u8 },
+    /// Memory was not there.
+    NoMemory,
+}
+
+impl From<NoMemory> for Misfit {
+    fn from(_refused: NoMemory) -> Misfit {
+        Misfit::NoMemory
+    }
+}
 
 /// A repository with its prepared transactions taken.
 #[derive(Clone, Copy)]
@@ -29,7 +44,7 @@ pub(crate) fn check_store(
     alloc: Global,
     store: &[Read<'_>],
     paged: OrefMap<Obj>,
-) -> Result<(Schemas, OrefMap<Obj>), Unopened>
+) -> Result<(Schemas, OrefMap<Obj>), Misfit>
     requires { AreKept store.now }
     ensures { IfOk result (λ checked. checked.1 ≡ joined (read_states store.now) paged) }
 {
@@ -44,14 +59,14 @@ fn check_standing(
     store: &[Read<'_>],
     standing: &[Stands],
     paged: OrefMap<Obj>,
-) -> Result<(Schemas, OrefMap<Obj>), Unopened>
+) -> Result<(Schemas, OrefMap<Obj>), Misfit>
     requires { AreKept store.now }
     ensures { IfOk result (λ checked. checked.1 ≡ joined (read_states store.now) paged) }
 {
     let (paged, repos) = both(paged, number_at(store.len()))?;
     let Some((first, others)) = standing.split_first() else {
         drop(paged);
-        return Err(Unopened::NoMemory);
+        return Err(Misfit::NoMemory);
     };
     let (paged, schemas) = both(paged, checked_schemas(alloc, first, others, repos))?;
     let (held, _) = both((schemas, paged), check_each(store, standing))?;
@@ -68,19 +83,14 @@ fn checked_schemas(
     first: &Stands,
     others: &[Stands],
     repos: u8,
-) -> Result<Schemas, Unopened> {
+) -> Result<Schemas, Misfit> {
     let schemas = read_schemas(alloc, first, repos)?;
     let (schemas, _) = both(schemas, check_others(alloc, first, others, repos))?;
     Ok(schemas)
 }
 
 /// The other repositories have the texts, classes, roots and upgrades of the first one.
-fn check_others(
-    alloc: Global,
-    first: &Stands,
-    others: &[Stands],
-    repos: u8,
-) -> Result<(), Unopened> {
+fn check_others(alloc: Global, first: &Stands, others: &[Stands], repos: u8) -> Result<(), Misfit> {
     for other in others {
         check_texts(alloc, first, other, repos)?;
     }
@@ -97,10 +107,10 @@ fn check_joined(
     store: &[Read<'_>],
     objects: &OrefMap<Obj>,
     schemas: &Schemas,
-) -> Result<(), Unopened> {
-    check_objects(alloc, first, store, objects, schemas)?;
+) -> Result<(), Misfit> {
+    check_objects(alloc, first, objects, schemas)?;
     if !is_lawful(alloc, schemas, number_at(store.len())?)? {
-        return Err(first.read.damaged(first.repo));
+        return Err(Misfit::Of { repo: first.repo });
     }
     Ok(())
 }
@@ -133,7 +143,7 @@ fn standing_of<'a>(
 }
 
 /// The schemas that the texts of a repository spell.
-fn read_schemas(alloc: Global, stands: &Stands, repos: u8) -> Result<Schemas, Unopened> {
+fn read_schemas(alloc: Global, stands: &Stands, repos: u8) -> Result<Schemas, Misfit> {
     let state = &stands.read.recovered.state;
     let texts = Texts {
         classes: state.classes(),
@@ -142,12 +152,12 @@ fn read_schemas(alloc: Global, stands: &Stands, repos: u8) -> Result<Schemas, Un
     };
     match schemas_of(alloc, texts, repos)? {
         Some(schemas) => Ok(schemas),
-        None => Err(stands.read.damaged(stands.repo)),
+        None => Err(Misfit::Of { repo: stands.repo }),
     }
 }
 
 /// The texts of another repository than the first parse and break no rule. Those of the first do.
-fn check_texts(alloc: Global, first: &Stands, other: &Stands, repos: u8) -> Result<(), Unopened> {
+fn check_texts(alloc: Global, first: &Stands, other: &Stands, repos: u8) -> Result<(), Misfit> {
     if !has_texts_of(first, other) {
         read_schemas(alloc, other, repos)?;
     }
@@ -196,32 +206,32 @@ fn are_same_roots(some: &Roots, others: &Roots) -> bool {
 }
 
 /// A repository has the classes, roots and upgrades of the first one.
-fn check_alike(first: &Stands, other: &Stands) -> Result<(), Unopened> {
+fn check_alike(first: &Stands, other: &Stands) -> Result<(), Misfit> {
     let roots = first.read.recovered.state.roots();
     let others = other.read.recovered.state.roots();
     if !has_texts_of(first, other) || !are_same_roots(roots, others) {
-        return Err(other.read.damaged(other.repo));
+        return Err(Misfit::Of { repo: other.repo });
     }
     Ok(())
 }
 
 /// What is checked of each repository by itself.
-fn check_each(store: &[Read<'_>], standing: &[Stands]) -> Result<(), Unopened>
+fn check_each(store: &[Read<'_>], standing: &[Stands]) -> Result<(), Misfit>
     requires { AreKept store.now }
 {
     for one in standing {
         if !has_coordinators(store, one.repo, one.read) {
-            return Err(one.read.damaged(one.repo));
+            return Err(Misfit::Of { repo: one.repo });
         }
     }
     for one in standing {
         if !is_below(one.read, one.settled.threshold) {
-            return Err(one.read.damaged(one.repo));
+            return Err(Misfit::Of { repo: one.repo });
         }
     }
     for one in standing {
         if !has_own_names(store, one.repo, one.read) {
-            return Err(one.read.damaged(one.repo));
+            return Err(Misfit::Of { repo: one.repo });
         }
     }
     Ok(())
@@ -231,25 +241,12 @@ fn check_each(store: &[Read<'_>], standing: &[Stands]) -> Result<(), Unopened>
 fn check_objects(
     alloc: Global,
     first: &Stands,
-    store: &[Read<'_>],
     objects: &OrefMap<Obj>,
     schemas: &Schemas,
-) -> Result<(), Unopened> {
+) -> Result<(), Misfit> {
     let roots = first.read.recovered.state.roots();
     match fits(alloc, objects, roots, schemas)? {
         Fitting::Fits => Ok(()),
-        Fitting::Unfit { oref } => Err(damaged_at(store, oref)),
-    }
-}
-
-/// What is told where the object of a name doesn't fit.
-fn damaged_at(store: &[Read<'_>], oref: Oref) -> Unopened {
-    match store.get(usize::from(oref.repo)) {
-        Some(read) => read.damaged(oref.repo),
-        None => Unopened::Damaged {
-            repo: oref.repo,
-            disk: 0,
-            place: 0,
-        },
+        Fitting::Unfit { oref } => Err(Misfit::Of { repo: oref.repo }),
     }
 }

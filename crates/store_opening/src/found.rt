@@ -2,12 +2,14 @@
 
 ghost use Rattle.repo_opening.specs.Recovered.{Finds};
 ghost use Rattle.repo_opening.specs.Same.{Same};
-ghost use Rattle.store_opening.specs.Seated.{AreSeated, FindsFresh, IsSeated};
+ghost use Rattle.store_opening.specs.Seated.{AreSeated, FindsFresh, IsFreshOn, IsSeated};
 ghost use Rattle.commit_log.specs.Opening.{IsFresh};
 ghost use Rattle.std.specs.Option.{IfSome};
 ghost use Rattle.disk_trait.specs.AllDisks.{ReadsAs};
 ghost use Rattle.repo_opening.specs.Paged.{PutsStored};
-ghost use Rattle.std.specs.Prelude.{IfErr, IfOk, IsOk, List, OnOk, true, vec_capacity, vec_len, ◌≡◌, ◌≤◌, ℕ};
+ghost use Rattle.repo_opening.specs.declared.unopened.Unopened.TheVariants.{Damaged};
+ghost use Rattle.std.specs.Prelude.{IfErr, IfOk, IsErrOf, IsOk, List, Ok, OnOk, length, true, vec_capacity, vec_len, ◌≡◌, ◌≤◌, ◌⊎◌, ℕ};
+ghost use Rattle.store_opening.specs.Unsound.{BehindOpen, HaveLogs, IsCheckpoint, IsNoRepository, IsNoStore, Represents};
 ghost use Rattle.store_opening.specs.Joined.{AreKept, read_states};
 ghost use Rattle.store_opening.specs.Limits.{AnyHas, HasCountAbove, HasLifeAbove, PlaceHas};
 ghost use Rattle.store_opening.specs.OpenedStore.{roots_of};
@@ -18,7 +20,7 @@ ghost use Rattle.thor_value.specs.FiniteMap.{IsSorted, empty};
 use crate::closed::{Closed, give_back};
 use crate::eager::eager;
 use crate::fault::ClusterFault;
-use crate::fit::check_store;
+use crate::fit::{Misfit, check_store};
 use class_defs::{Plain, Roots, Schemas};
 use disk_trait::Parts;
 use method_eval::{Names, View};
@@ -75,6 +77,7 @@ impl<P: Parts> Found<P> {
         ensures found { IfOk result (HasParts P.disks parts.items) }
         ensures unread { IfErr result (λ fault. AreSame P.disks parts.items fault.parts.items) }
         ensures stored { (images : List (ℕ → List ℕ)) → ReadAll P.disks parts.items images → IfOk result (λ found. IsStoredIn images found.store) }
+        ensures damaged { (images : List (ℕ → List ℕ)) (r d place : ℕ) → ReadAll P.disks parts.items images → IfErr result (λ fault. fault.why ≡ Damaged r d place → IsNoStore images r d place) }
     {
         let Ok(spare) = Vec::with_capacity(alloc, parts.len()) else {
             return Err(unread(parts));
@@ -260,7 +263,8 @@ fn is_count_above<P: Parts>(places: &[Closed<P>], limit: u64) -> bool
 
 /// Parts that weren't read for want of memory.
 fn unread<P>(parts: Vec<P>) -> ClusterFault<P>
-    ensures { result.parts ≡ parts }
+    ensures parts { result.parts ≡ parts }
+    ensures damaged { (r d place : ℕ) → result.why ≡ Damaged r d place → ⊥ }
 {
     ClusterFault {
         parts,
@@ -283,6 +287,7 @@ fn read_all<P: Parts>(
     ensures count { vec_len result.0 ≡ vec_len parts }
     ensures seated { AreSeated P.disks parts.items result.0.items }
     ensures put { (images : List (ℕ → List ℕ)) → ReadAll P.disks parts.items images → OnOk result.1 (PutsAll images objects.old objects.new) }
+    ensures damaged { (images : List (ℕ → List ℕ)) (r d place : ℕ) → ReadAll P.disks parts.items images → IsErrOf result.1 (Damaged r d place) → IsNoStore images r d place }
 {
     let repos = parts.len();
     let mut places = places;
@@ -307,6 +312,7 @@ fn read_next<P: Parts>(
 ) -> (Closed<P>, Result<(), Unopened>)
     ensures seated { IsSeated P.disks part result.0 }
     ensures put { (images : ℕ → List ℕ) → ReadsAs (P.disks part) images → OnOk result.1 (IsOk before × PutsStored images objects.old objects.new) }
+    ensures damaged { (image : ℕ → List ℕ) (r d place : ℕ) → ReadsAs (P.disks part) image → IsErrOf result.1 (Damaged r d place) → IsErrOf before (Damaged r d place) ⊎ ((r ≡ length places.now) × IsNoRepository P.disks places.now repos image r d place) }
 {
     match before {
         Ok(()) => read_behind(alloc, part, places, repos, mob, objects),
@@ -325,6 +331,7 @@ fn read_behind<P: Parts>(
 ) -> (Closed<P>, Result<(), Unopened>)
     ensures seated { IsSeated P.disks part result.0 }
     ensures put { (images : ℕ → List ℕ) → ReadsAs (P.disks part) images → OnOk result.1 (PutsStored images objects.old objects.new) }
+    ensures damaged { (image : ℕ → List ℕ) (r d place : ℕ) → ReadsAs (P.disks part) image → IsErrOf result.1 (Damaged r d place) → (r ≡ length places.now) × IsNoRepository P.disks places.now repos image r d place }
 {
     let (Ok(repo), Ok(repos)) = (number_at(places.len()), number_at(repos)) else {
         return (Closed::Parts(part), Err(Unopened::NoMemory));
@@ -345,7 +352,8 @@ fn placed<P: Parts>(
 ) -> (Closed<P>, Result<(), Unopened>)
     requires found { Finds (P.disks part) found }
     requires fresh { FindsFresh (P.disks part) found }
-    ensures { (given : P) → Same (P.disks given) (P.disks part) → IsSeated P.disks given result.0 }
+    ensures seated { (given : P) → Same (P.disks given) (P.disks part) → IsSeated P.disks given result.0 }
+    ensures damaged { (r d place : ℕ) → IsErrOf result.1 (Damaged r d place) → (r ≡ repo) × (d ≡ 0) × (place ≡ 0) × IsFreshOn (P.disks part) × BehindOpen P.disks places.now }
 {
     match found {
         Some((recovered, behind)) => (Closed::Known(Known::new(part, recovered, behind)), Ok(())),
@@ -357,14 +365,36 @@ fn placed<P: Parts>(
 }
 
 /// Whether a repository may be fresh behind those that were read: not where repository 0 is open.
-fn may_be_fresh<P: Parts>(repo: u8, places: &[Closed<P>]) -> Result<(), Unopened> {
-    match places.first() {
-        Some(Closed::Known(_)) => Err(Unopened::Damaged {
+fn may_be_fresh<P: Parts>(repo: u8, places: &[Closed<P>]) -> Result<(), Unopened>
+    ensures { (r d place : ℕ) → IsErrOf result (Damaged r d place) → (r ≡ repo) × (d ≡ 0) × (place ≡ 0) × BehindOpen P.disks places.now }
+{
+    if begins_open(places) {
+        return Err(Unopened::Damaged {
             repo,
             disk: 0,
             place: 0,
-        }),
-        Some(_) | None => Ok(()),
+        });
+    }
+    Ok(())
+}
+
+/// Whether a repository is open.
+fn is_open<P: Parts>(place: &Closed<P>) -> bool
+    ensures { result ≡ true → (part : P) (image : ℕ → List ℕ) → IsSeated P.disks part place.now → ReadsAs (P.disks part) image → Represents image }
+{
+    match place.read() {
+        Some(_read) => true,
+        None => false,
+    }
+}
+
+/// Whether repository 0 is open.
+fn begins_open<P: Parts>(places: &[Closed<P>]) -> bool
+    ensures { result ≡ true → BehindOpen P.disks places.now }
+{
+    match places.split_first() {
+        Some((first, _others)) => is_open(first),
+        None => false,
     }
 }
 
@@ -396,6 +426,7 @@ fn store_of<P: Parts>(
     read: Result<(), Unopened>,
 ) -> Result<Store, Unopened>
     ensures stored { (parts : List P) (images : List (ℕ → List ℕ)) → AreSeated P.disks parts places.now → ReadAll P.disks parts images → OnOk read (PutsAll images empty objects) → IfOk result (IsStoredIn images) }
+    ensures damaged { (parts : List P) (images : List (ℕ → List ℕ)) (r d place : ℕ) → AreSeated P.disks parts places.now → ReadAll P.disks parts images → (IsErrOf read (Damaged r d place) → IsNoStore images r d place) → IsErrOf result (Damaged r d place) → IsNoStore images r d place }
 {
     let (objects, _) = both(objects, read)?;
     if begins_fresh(places) {
@@ -419,6 +450,7 @@ fn reads_of<P: Parts>(
 ) -> Result<Option<Vec<Read<'_>>>, NoMemory>
     ensures kept { IfOk result (λ found. IfSome found (λ reads. AreKept reads.items)) }
     ensures stand { (parts : List P) (images : List (ℕ → List ℕ)) → AreSeated P.disks parts places.now → ReadAll P.disks parts images → IfOk result (λ found. IfSome found (λ reads. StandFor images (read_states reads.items))) }
+    ensures logs { (parts : List P) (images : List (ℕ → List ℕ)) → AreSeated P.disks parts places.now → ReadAll P.disks parts images → IfOk result (λ found. IfSome found (λ reads. HaveLogs images reads.items)) }
 {
     let mut reads = Vec::new(alloc);
     for place in places {
@@ -433,10 +465,12 @@ fn reads_of<P: Parts>(
 /// A store whose repositories are open, where they fit together.
 fn open_store(alloc: Global, reads: &[Read<'_>], paged: OrefMap<Obj>) -> Result<Store, Unopened>
     requires { AreKept reads.now }
-    ensures { (images : List (ℕ → List ℕ)) → StandFor images (read_states reads.now) → PutsAll images empty paged → IfOk result (IsStoredIn images) }
+    ensures stored { (images : List (ℕ → List ℕ)) → StandFor images (read_states reads.now) → PutsAll images empty paged → IfOk result (IsStoredIn images) }
+    ensures damaged { (r d place : ℕ) → IsErrOf result (Damaged r d place) → IsCheckpoint reads.now r d place }
 {
     let (paged, roots) = both(paged, roots_of(reads))?;
-    let (roots, checked) = both(roots, check_store(alloc, reads, paged))?;
+    let fit = fitted(reads, check_store(alloc, reads, paged));
+    let (roots, checked) = both(roots, fit)?;
     let (schemas, objects) = checked;
     let Ok(epoch) = u32::try_from(schemas.upgraded.len()) else {
         drop(schemas);
@@ -454,6 +488,32 @@ fn open_store(alloc: Global, reads: &[Read<'_>], paged: OrefMap<Obj>) -> Result<
         stored,
         roots,
     }))
+}
+
+/// What was checked of a store, or which place is told where its repositories don't fit together.
+fn fitted<T: Drop>(reads: &[Read<'_>], checked: Result<T, Misfit>) -> Result<T, Unopened>
+    ensures ok { IfOk result (λ found. checked ≡ Ok found) }
+    ensures damaged { (r d place : ℕ) → IsErrOf result (Damaged r d place) → IsCheckpoint reads.now r d place }
+{
+    match checked {
+        Ok(found) => Ok(found),
+        Err(Misfit::Of { repo }) => Err(misfit_at(reads, repo)),
+        Err(Misfit::NoMemory) => Err(Unopened::NoMemory),
+    }
+}
+
+/// What is told where a repository doesn't fit: the place of its checkpoint. Of one that the store hasn't, it is byte 0 of disk 0.
+fn misfit_at(reads: &[Read<'_>], repo: u8) -> Unopened
+    ensures { (r d place : ℕ) → result ≡ Damaged r d place → IsCheckpoint reads.now r d place }
+{
+    match reads.get(usize::from(repo)) {
+        Some(read) => read.damaged(repo),
+        None => Unopened::Damaged {
+            repo,
+            disk: 0,
+            place: 0,
+        },
+    }
 }
 
 /// The roots, as repository 0 has them.

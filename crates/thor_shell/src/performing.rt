@@ -7,7 +7,7 @@ use std::sync::Wait;
 use std::thread::Threads;
 use thor_top::{Outcome, Status, StoreParts, thor};
 use thor_value::Texts;
-use top_host::{NotingSink, Progress, advise_behind};
+use top_host::{Behind, NotingSink, Progress, advise_behind};
 
 /// How the program ended, with the parts.
 #[derive(Drop)]
@@ -46,9 +46,16 @@ pub fn perform<R: Threads + Wait + Sync, P: Parts + Send>(
         &progress,
     );
     progress.clear();
-    let is_run = !traces.as_slice().is_empty();
     let noted = sink.noted();
-    advise_behind(rt, status, is_run, noted);
+    advise_behind(
+        rt,
+        status,
+        Behind {
+            is_run: !traces.as_slice().is_empty(),
+            is_unsound: progress.is_unsound(),
+            noted,
+        },
+    );
     mem::forget(traces);
     let StoreParts { repositories } = parts;
     Ended {

@@ -21,6 +21,7 @@ use Rattle.top_reply.specs.declared.form.Form.{Form}
 use Rattle.top_reply.specs.declared.form.Form.TheVariants as form
 use Rattle.top_reply.specs.declared.reply.Reply.{Reply}
 use Rattle.top_reply.specs.declared.running.Running.{Running}
+use Rattle.top_reply.specs.declared.untold.Untold.{Untold}
 use Rattle.top_statement.specs.Kept.{Refuses, RefusesBy, WritesNothing}
 use Rattle.top_statement.specs.Opening.{DiskBytes, FitsDisks, IsAccepted, IsOfDisks, IsStore, IsStoredBy}
 use Rattle.top_statement.specs.Top.{IsWithinLimits, RepliesTo, Told, form_of, origin_of, running_of}
@@ -109,3 +110,10 @@ foretells_run D repos base e accepted schemas is disks sorted = record {
 
 pub foretells_map : (P Q : Reply → Type 0) (e : Expected) → ((r : Reply) → P r → Q r) → Foretells P e → Foretells Q e
 foretells_map P Q e f foretells = record { sorted = foretells.sorted; says = λ r reported. f r (foretells.says r reported) }
+
+-- ---- a run that was made
+
+-- what is true of what is told of a run is true of what is replied of it
+pub replied_of : (told : Result Reply Untold) (r : Result Reply NoMemory) (Of : Reply → Type 0) → IfOk r (λ w. told ≡ Ok w) → IfOk told Of → IfOk r Of
+replied_of told (Ok w) Of same says = subst (λ (t : Result Reply Untold). IfOk t Of) same says
+replied_of told (Err e) Of same says = tt

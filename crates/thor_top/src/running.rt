@@ -58,7 +58,7 @@ pub(crate) fn run_in_turn<P: Parts, G: Gate>(
     } = run;
     gate.begin_run(item_count(&expected.script));
     let played = play(alloc, found, run, expected.script.events.as_slice(), gate);
-    replied(alloc, expected, played)
+    replied(alloc, gate, expected, played)
 }
 
 /// Makes a run that has a thread for each client, and tells it.
@@ -81,7 +81,7 @@ pub(crate) fn run_on_threads<R: Threads + Wait + Sync, P: Parts + Send, G: Gate 
     runtime.gate.begin_run(item_count(&expected.script));
     let events = expected.script.events.as_slice();
     let played = play_on_threads(alloc, runtime, found, run, events, mob);
-    replied(alloc, expected, played)
+    replied(alloc, runtime.gate, expected, played)
 }
 
 /// Opens what was found, and runs its clients, each in a thread of its own.

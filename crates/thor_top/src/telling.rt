@@ -1,6 +1,6 @@
 //! What is replied of a run that was made.
 
-ghost use Rattle.std.specs.Prelude.{IfErr, IfOk, IsOk, [], ◌≡◌};
+ghost use Rattle.std.specs.Prelude.{IfErr, IfOk, IsOk, Ok, [], ◌≡◌};
 ghost use Rattle.thor_top.specs.Stages.{AreTracesOf, IsToldOf, IsToldWith, TracesOf, WasMade};
 ghost use Rattle.top_judging.specs.Stages.{RepliesUnsettled};
 ghost use Rattle.thor_value.specs.FiniteMap.{IsSorted};
@@ -10,18 +10,20 @@ ghost use Rattle.top_statement.specs.Telling.{TellsRunBy};
 use crate::expected::Expected;
 use cluster_threads::{Finished, Ran};
 use disk_trait::Parts;
+use outside::Gate;
 use repo_trace::Traces;
 use std::alloc::Global;
 use std::mem;
 use store_opening::ClusterFault;
 use thor_value::NoMemory;
 use top_judging::unsettled;
-use top_reply::{Reply, report};
+use top_reply::{Reply, UNSOUND, Untold, report};
 use top_statement::{Answered, unplayed};
 
-/// What is replied of what was run, where it is as expected.
-fn reported(
+/// What is replied of what was run, where it is as expected. Where its history didn't pass its check the gate is told.
+fn reported<G: Gate>(
     alloc: Global,
+    gate: &G,
     expected: &Expected,
     ran: Result<Ran, NoMemory>,
 ) -> (Result<Reply, NoMemory>, Traces)
@@ -34,33 +36,64 @@ fn reported(
     ensures lines { IfOk ran (λ r. IfOk result.0 (IsToldWith r.lines expected.now)) }
 {
     match ran {
-        Ok(
-            Ran {
-                ends,
-                lines,
-                traces,
-            },
-        ) => {
-            let reply = report(
-                alloc,
-                expected.running,
-                expected.form,
-                &expected.opened.schemas,
-                &expected.opened.store,
-                &expected.script,
-                lines,
-                &ends,
-            );
-            mem::forget(ends);
-            (reply, traces)
-        }
+        Ok(run) => replied_run(alloc, gate, expected, run),
         Err(NoMemory) => (Err(NoMemory), Traces::new(alloc)),
+    }
+}
+
+/// What is replied of a run that was made, with its traces.
+fn replied_run<G: Gate>(
+    alloc: Global,
+    gate: &G,
+    expected: &Expected,
+    ran: Ran,
+) -> (Result<Reply, NoMemory>, Traces)
+    requires { IsSorted expected.now.opened.store.objects }
+    ensures reply { IfOk result.0 (IsReported expected.now.running expected.now.form expected.now.opened.schemas expected.now.opened.store expected.now.script) }
+    ensures traces { result.1 ≡ ran.traces }
+    ensures lines { IfOk result.0 (IsToldWith ran.lines expected.now) }
+{
+    let Ran {
+        ends,
+        lines,
+        traces,
+    } = ran;
+    let told = report(
+        alloc,
+        expected.running,
+        expected.form,
+        &expected.opened.schemas,
+        &expected.opened.store,
+        &expected.script,
+        lines,
+        &ends,
+    );
+    mem::forget(ends);
+    (reply_of(gate, told), traces)
+}
+
+/// What is replied of a run, which is what is told of it. The gate is told of one whose history didn't pass its check.
+fn reply_of<G: Gate>(gate: &G, told: Result<Reply, Untold>) -> Result<Reply, NoMemory>
+    ensures { IfOk result (λ reply. told ≡ Ok reply) }
+{
+    match told {
+        Ok(reply) => Ok(reply),
+        Err(Untold::Unsound) => {
+            gate.pass(UNSOUND);
+            Err(NoMemory)
+        }
+        Err(Untold::NoMemory) => Err(NoMemory),
     }
 }
 
 /// What is replied of a run, with the parts. The program ends behind it: the script, the store and the outcomes are left to
 /// the system, not let go of piece by piece.
-fn told<P: Parts>(alloc: Global, expected: Expected, finished: Finished<P>) -> Answered<P>
+fn told<P: Parts, G: Gate>(
+    alloc: Global,
+    gate: &G,
+    expected: Expected,
+    finished: Finished<P>,
+) -> Answered<P>
     requires { IsSorted expected.opened.store.objects }
     ensures reply { IfOk result.reply (IsReported expected.running expected.form expected.opened.schemas expected.opened.store expected.script) }
     ensures parts { result.parts ≡ finished.parts }
@@ -69,7 +102,7 @@ fn told<P: Parts>(alloc: Global, expected: Expected, finished: Finished<P>) -> A
     ensures lines { IfOk finished.ran (λ r. IfOk result.reply (IsToldWith r.lines expected)) }
 {
     let Finished { parts, ran } = finished;
-    let (reply, traces) = reported(alloc, &expected, ran);
+    let (reply, traces) = reported(alloc, gate, &expected, ran);
     mem::forget(expected);
     Answered {
         reply,
@@ -89,9 +122,10 @@ fn unopened<P: Parts>(alloc: Global, expected: Expected, fault: ClusterFault<P>)
     unplayed(alloc, unsettled(why), parts)
 }
 
-/// What is replied where a run was asked for, with the parts.
-pub(crate) fn replied<P: Parts>(
+/// What is replied where a run was asked for, with the parts. The gate is told of a run whose history didn't pass its check.
+pub(crate) fn replied<P: Parts, G: Gate>(
     alloc: Global,
+    gate: &G,
     expected: Expected,
     played: Result<Finished<P>, ClusterFault<P>>,
 ) -> Answered<P>
@@ -106,7 +140,7 @@ pub(crate) fn replied<P: Parts>(
     ensures lines { IfOk played (λ finished. IfOk finished.ran (λ r. IfOk result.reply (IsToldWith r.lines expected))) }
 {
     match played {
-        Ok(finished) => told(alloc, expected, finished),
+        Ok(finished) => told(alloc, gate, expected, finished),
         Err(fault) => unopened(alloc, expected, fault),
     }
 }

@@ -53,9 +53,10 @@ pub fn thor<R: Threads + Wait + Sync, S: Source, K: Sink, P: Parts + Send, G: Ga
     ensures rule { (refusal : Refusal) → result.reply ≡ Ok (Reply.Refused refusal) → SaysRefused (ReadAll P.disks parts.repositories.items) (IsPlan words.now (vec_len parts.repositories)) (told_by S.left S.faults source.old) (told_by S.left S.faults source.new) refusal }
     // A limit is passed.
     ensures limit { (limit : ℕ) → result.reply ≡ Ok (Reply.Limit limit) → SaysLimit (ReadAll P.disks parts.repositories.items) (IsPlan words.now (vec_len parts.repositories)) (told_by S.left S.faults source.old) (told_by S.left S.faults source.new) limit }
-    // A disk failed while the store was opened, or has bytes that are no store's.
+    // A disk failed while the store was opened; or, where the disks tell what they have, they hold no store, and this is what is
+    // wrong at that place.
     ensures disk { (repo : ℕ) → result.reply ≡ Ok (Reply.DiskFault repo) → SaysDisk (IsPlan words.now (vec_len parts.repositories)) (told_by S.left S.faults source.old) (told_by S.left S.faults source.new) repo }
-    ensures damage { (repo disk place : ℕ) → result.reply ≡ Ok (Reply.Damaged repo disk place) → SaysDamaged (IsPlan words.now (vec_len parts.repositories)) (told_by S.left S.faults source.old) (told_by S.left S.faults source.new) repo disk place }
+    ensures damage { (repo disk place : ℕ) → result.reply ≡ Ok (Reply.Damaged repo disk place) → SaysDamaged (ReadAll P.disks parts.repositories.items) (IsPlan words.now (vec_len parts.repositories)) (told_by S.left S.faults source.old) (told_by S.left S.faults source.new) repo disk place }
     // The words are no plan.
     ensures words { result.reply ≡ Ok Reply.Words → SaysWords (IsNoPlan words.now (vec_len parts.repositories)) (told_by S.left S.faults source.old) (told_by S.left S.faults source.new) }
     // The report behind the script is true of it, by `audit`: it tells one serial history of the script's items, which is legal from

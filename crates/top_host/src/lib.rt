@@ -15,7 +15,7 @@ mod store_files;
 mod telling;
 mod wrong_word;
 
-pub use advice::{NO_MEMORY, advise, advise_behind};
+pub use advice::{Behind, NO_MEMORY, advise, advise_behind};
 pub use clocks::{Clocks, Counting, Machine};
 pub use folder::{Entry, Folder, enter};
 pub use noting::{Noted, NotingSink};

@@ -5,6 +5,7 @@ use std::io::IsTerminal;
 use std::sync::atomic::Ordering::SeqCst;
 use std::sync::atomic::{AtomicBool, AtomicU64, AtomicUsize};
 use std::time::Instant;
+use top_reply::UNSOUND;
 
 /// How long the program has been at work before it tells how far a run is, in milliseconds.
 const FIRST: u64 = 1_000;
@@ -30,6 +31,8 @@ pub struct Progress {
     is_telling: AtomicBool,
     /// Whether the line stands above the cursor.
     is_shown: AtomicBool,
+    /// Whether a run's history didn't pass its check.
+    is_unsound: AtomicBool,
 }
 
 impl Progress {
@@ -48,7 +51,13 @@ impl Progress {
             next: AtomicU64::new(FIRST),
             is_telling: AtomicBool::new(false),
             is_shown: AtomicBool::new(false),
+            is_unsound: AtomicBool::new(false),
         }
+    }
+
+    /// Whether a run's history didn't pass its check.
+    pub fn is_unsound(&self) -> bool {
+        self.is_unsound.load(SeqCst)
     }
 
     /// Takes the line away, where it stands there. No thread tells any more.
@@ -102,7 +111,11 @@ impl Progress {
 }
 
 impl Gate for Progress {
-    fn pass(&self, _point: u32) {}
+    fn pass(&self, point: u32) {
+        if point == UNSOUND {
+            self.is_unsound.store(true, SeqCst);
+        }
+    }
 
     fn begin_run(&self, items: usize) {
         self.items.store(items, SeqCst);

@@ -17,12 +17,14 @@ use Rattle.store_opening.specs.declared.found.Store.{Store}
 use Rattle.thor_value.specs.declared.memory.NoMemory.{NoMemory}
 use Rattle.top_judging.specs.Audits.{RepliesAccepted, RepliesAudit, RepliesAudited, RepliesParts, RepliesReport, RepliesSource}
 use Rattle.top_judging.specs.Origins.{IsScriptFor, RepliesUnreadFor}
-use Rattle.top_judging.specs.Stages.{FitsStore, IsOpenedAs, IsRead, IsReadFrom, MisfitsStore, RepliesOver, RepliesRefused, RepliesRule, RepliesText, RepliesUnjudged, RepliesUnopened, RepliesUnread, RepliesUnsettled}
+use Rattle.top_judging.specs.Stages.{FitsStore, IsOpenedAs, IsRead, IsReadFrom, MisfitsStore, RepliesOver, RepliesRefused, RepliesRule, RepliesText, RepliesUnjudged, RepliesUnread, RepliesUnsettled, RepliesWhy}
+use Rattle.repo_opening.specs.declared.unopened.Unopened.TheVariants as why
+use Rattle.repo_opening.specs.declared.unopened.Unopened.{Unopened}
 use Rattle.top_reply.specs.declared.reply.Reply.{Reply}
 use Rattle.top_reply.specs.declared.reply.Reply.TheVariants as reply
 use Rattle.top_statement.specs.Audits.{audited_of, report_part, script_part}
 use Rattle.top_statement.specs.Opening.{DiskBytes, FitsDisks, FreshBytes, GoesWith, IsAgainst, IsStoredBy, MisfitsDisks}
-use Rattle.top_statement.specs.Top.{Front, Generated, HasBytes, IsFromSource, IsOverLimit, IsRefusalOf, Origin, Reads, RepliesTo, Says, Told, WasRead, Whole, disks_for, origin_of}
+use Rattle.top_statement.specs.Top.{Front, Generated, HasBytes, HoldNoStore, IsFromSource, IsOverLimit, IsRefusalOf, Origin, Reads, RepliesTo, Says, Told, WasRead, Whole, disks_for, origin_of}
 use Rattle.top_words.specs.declared.command.Command.{Command}
 use Rattle.top_words.specs.declared.command.Command.TheVariants.{Audit, Check, Gen, Play, Run}
 use Rattle.top_words.specs.declared.command.Plan.{Plan}
@@ -128,9 +130,10 @@ module _ (D : DiskBytes) (plan : Plan) (script : Script) where
   unjudged_replies store stored clients events r (inr (inr rule)) = subst (λ (w : Reply). RepliesTo D plan script w) (sym rule.1.1.0)
       (rule.1.1.1.0, inr (fits_disks D script.setup store stored rule.0, rule.1.1.1.1))
 
-  pub unopened_replies : (r : Reply) → RepliesUnopened r → RepliesTo D plan script r
-  unopened_replies r (inl failed) = subst (λ (w : Reply). RepliesTo D plan script w) (sym failed.1) tt
-  unopened_replies r (inr damaged) = subst (λ (w : Reply). RepliesTo D plan script w) (sym damaged.3) tt
+  pub unopened_replies : (cause : Unopened) → ((repo disk place : ℕ) → cause ≡ why.Damaged repo disk place → HoldNoStore D repo disk place) → (r : Reply) → RepliesWhy cause r → RepliesTo D plan script r
+  unopened_replies (why.Failed repo) none r is = subst (λ (w : Reply). RepliesTo D plan script w) (sym is) tt
+  unopened_replies (why.Damaged repo disk place) none r is = subst (λ (w : Reply). RepliesTo D plan script w) (sym is) (none repo disk place refl)
+  unopened_replies why.NoMemory none r is = absurd is
 
   pub unsettled_replies : (r : Reply) → RepliesUnsettled r → RepliesTo D plan script r
   unsettled_replies r failed = subst (λ (w : Reply). RepliesTo D plan script w) (sym failed.1) tt

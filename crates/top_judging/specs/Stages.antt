@@ -4,6 +4,8 @@ use Rattle.class_defs.specs.declared.declarations.Declarations.{Declarations}
 use Rattle.class_defs.specs.declared.store.Plain.{Plain}
 use Rattle.class_defs.specs.declared.store.Schemas.{Schemas}
 use Rattle.outside.specs.Faults.{Rose}
+use Rattle.repo_opening.specs.declared.unopened.Unopened.TheVariants as why
+use Rattle.repo_opening.specs.declared.unopened.Unopened.{Unopened}
 use Rattle.outside.specs.Streams.{IsMoreThan}
 use Rattle.script_parse.specs.Script.{HasFew, IsRefusedText, IsWritten}
 use Rattle.script_parse.specs.declared.refusal.Refusal.{Refusal}
@@ -94,6 +96,12 @@ RepliesUnjudged DiskReads plan script store r =
 -- what is replied where a store couldn't be read
 abbrev pub RepliesUnopened : Reply → Type 0
 RepliesUnopened r = ((repo : ℕ) × (r ≡ reply.DiskFault repo)) ⊎ ((repo disk place : ℕ) × (r ≡ reply.Damaged repo disk place))
+
+-- the reply that tells why
+abbrev pub RepliesWhy : Unopened → Reply → Type 0
+RepliesWhy (why.Failed repo) r = r ≡ reply.DiskFault repo
+RepliesWhy (why.Damaged repo disk place) r = r ≡ reply.Damaged repo disk place
+RepliesWhy why.NoMemory r = ⊥
 
 -- what is replied where one was read and couldn't be opened then: a disk failed
 abbrev pub RepliesUnsettled : Reply → Type 0

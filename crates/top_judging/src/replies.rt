@@ -1,7 +1,7 @@
 //! What the program replies where a store wasn't opened.
 
 ghost use Rattle.std.specs.Prelude.{IfOk};
-ghost use Rattle.top_judging.specs.Stages.{RepliesUnopened, RepliesUnsettled};
+ghost use Rattle.top_judging.specs.Stages.{RepliesUnopened, RepliesUnsettled, RepliesWhy};
 
 use repo_opening::Unopened;
 use thor_value::NoMemory;
@@ -9,7 +9,8 @@ use top_reply::Reply;
 
 /// The reply where what the disks hold couldn't be read, or is no store.
 pub fn unopened(why: Unopened) -> Result<Reply, NoMemory>
-    ensures { IfOk result RepliesUnopened }
+    ensures replied { IfOk result RepliesUnopened }
+    ensures told { IfOk result (RepliesWhy why) }
 {
     match why {
         Unopened::Failed { repo } => Ok(Reply::DiskFault { repo }),

@@ -12,6 +12,7 @@ ghost use Rattle.thor_value.specs.FiniteMap.{IsSorted};
 use crate::form::Form;
 use crate::reply::Reply;
 use crate::running::Running;
+use crate::untold::Untold;
 use base_reasons::Reason;
 use class_defs::{Plain, Schemas};
 use report_summary::{accounts_sum, print_summary};
@@ -171,8 +172,7 @@ struct ToldRun {
     text: Text,
 }
 
-/// A run in a form, where its history is a serial one from the store and answers the items. Else the answer is that of
-/// want of memory.
+/// A run in a form, where its history is a serial one from the store and answers the items.
 fn told_run(
     alloc: Global,
     running: Running,
@@ -182,12 +182,12 @@ fn told_run(
     script: &Script,
     lines: Lines,
     ends: &Ends,
-) -> Result<ToldRun, NoMemory>
+) -> Result<ToldRun, Untold>
     requires { IsSorted store.now.objects }
     ensures { IfOk result (λ run. IsRunWith lines running form schemas.now store.now script.now run.finished run.text) }
 {
     if !are_made(schemas) || !is_unhindered(running, script, ends.as_slice()) {
-        return Err(NoMemory);
+        return Err(Untold::Unsound);
     }
     match checked_history(alloc, schemas, store, &script.clients, lines, ends)? {
         Some(checked) => {
@@ -198,7 +198,7 @@ fn told_run(
                 text: text?,
             })
         }
-        None => Err(NoMemory),
+        None => Err(Untold::Unsound),
     }
 }
 
@@ -214,7 +214,7 @@ fn run_reply(form: Form, run: ToldRun) -> Reply
 }
 
 /// What is replied of a run, where its history is a serial one from the store and answers the items. Where it isn't,
-/// nothing is told: the answer is that of want of memory.
+/// nothing is told: it is `Unsound`.
 pub fn report(
     alloc: Global,
     running: Running,
@@ -224,7 +224,7 @@ pub fn report(
     script: &Script,
     lines: Lines,
     ends: &Ends,
-) -> Result<Reply, NoMemory>
+) -> Result<Reply, Untold>
     requires { IsSorted store.now.objects }
     ensures reported { IfOk result (IsReported running form schemas.now store.now script.now) }
     // Its history has these lines.

@@ -7,6 +7,7 @@ mod reply;
 mod running;
 mod status;
 mod texts;
+mod untold;
 
 pub use checking::report;
 pub use form::Form;
@@ -17,3 +18,4 @@ pub use texts::{
     damaged_text, disagreement_text, disk_text, limit_text, no_report_text, status_of,
 };
 pub use top_history_check::Line;
+pub use untold::{UNSOUND, Untold};

@@ -15,6 +15,7 @@ use Rattle.script_parse.specs.declared.refusal.Refusal.TheVariants as refusal
 use Rattle.script_parse.specs.declared.script.Script.{Script}
 use Rattle.store_opening.specs.Limits.{HasCountAbove, HasLifeAbove}
 use Rattle.store_opening.specs.Reading.{epochs_in}
+use Rattle.store_opening.specs.Unsound.{IsNoStore}
 use Rattle.store_opening.specs.declared.found.Store.{Store}
 use Rattle.top_statement.specs.Audits.{DisagreesAt, IsNoReport, IsTrueReport, audited_of, report_part, script_part}
 use Rattle.top_statement.specs.Opening.{DiskBytes, FitsDisks, FreshBytes, IsAccepted, IsBase, IsStoredBy, MisfitsDisks, OneOfDisks, first_schemas}
@@ -221,6 +222,10 @@ IsRefused DiskReads repos script r = ((r ≡ refusal.Setup) × MisfitsDisks Disk
 abbrev pub IsRefusalOf : DiskBytes → Plan → Script → Refusal → Type 0
 IsRefusalOf DiskReads plan script r = IsWithinLimits script × IsRefused DiskReads plan.repos script r
 
+-- disks whose reads give these bytes hold no store: this is what is wrong at this place of them
+pub record HoldNoStore (DiskReads : DiskBytes) (repo disk place : ℕ) : Type 0 where
+  pub each : (images : List (ℕ → List ℕ)) → DiskReads images → IsNoStore images repo disk place
+
 -- a reply to a script that was read: what is true of it
 abbrev pub RepliesTo : DiskBytes → Plan → Script → Reply → Type 0
 RepliesTo DiskReads plan script (reply.Report finished text) = IsRunOf DiskReads form.Report plan script finished text
@@ -229,7 +234,7 @@ RepliesTo DiskReads plan script reply.Accepted = IsCheckOf DiskReads plan script
 RepliesTo DiskReads plan script (reply.Refused r) = IsRefusalOf DiskReads plan script r
 RepliesTo DiskReads plan script (reply.Limit limit) = IsOverLimit DiskReads script limit
 RepliesTo DiskReads plan script (reply.DiskFault repo) = Unit {0}
-RepliesTo DiskReads plan script (reply.Damaged repo disk place) = Unit {0}
+RepliesTo DiskReads plan script (reply.Damaged repo disk place) = HoldNoStore DiskReads repo disk place
 RepliesTo DiskReads plan script reply.Words = ⊥
 RepliesTo DiskReads plan script reply.SourceFault = ⊥
 RepliesTo DiskReads plan script reply.Legal = ⊥
@@ -258,9 +263,9 @@ SaysLimit DiskReads Like before after limit = ByPlan Like (λ plan. OfScript pla
 abbrev pub SaysDisk : (Plan → Type 0) → Told → Told → ℕ → Type 0
 SaysDisk Like before after repo = ByPlan Like (λ plan. OfScript plan before after (λ script. Unit {0}))
 
--- a disk of a repository has bytes that are no store's; the bytes are a script
-abbrev pub SaysDamaged : (Plan → Type 0) → Told → Told → ℕ → ℕ → ℕ → Type 0
-SaysDamaged Like before after repo disk place = ByPlan Like (λ plan. OfScript plan before after (λ script. Unit {0}))
+-- a disk of a repository has bytes that are no store's, at this place; the bytes are a script
+abbrev pub SaysDamaged : DiskBytes → (Plan → Type 0) → Told → Told → ℕ → ℕ → ℕ → Type 0
+SaysDamaged DiskReads Like before after repo disk place = ByPlan Like (λ plan. OfScript plan before after (λ script. HoldNoStore DiskReads repo disk place))
 
 -- there is no such plan; the source is as it was
 abbrev pub SaysWords : Type 0 → Told → Told → Type 0
@@ -291,7 +296,7 @@ Says DiskReads Like NoPlan before after reply.Accepted = SaysAccepted DiskReads 
 Says DiskReads Like NoPlan before after (reply.Refused r) = SaysRefused DiskReads Like before after r
 Says DiskReads Like NoPlan before after (reply.Limit limit) = SaysLimit DiskReads Like before after limit
 Says DiskReads Like NoPlan before after (reply.DiskFault repo) = SaysDisk Like before after repo
-Says DiskReads Like NoPlan before after (reply.Damaged repo disk place) = SaysDamaged Like before after repo disk place
+Says DiskReads Like NoPlan before after (reply.Damaged repo disk place) = SaysDamaged DiskReads Like before after repo disk place
 Says DiskReads Like NoPlan before after reply.Words = SaysWords NoPlan before after
 Says DiskReads Like NoPlan before after reply.SourceFault = SaysSource Like before after
 Says DiskReads Like NoPlan before after reply.Legal = SaysLegal Like before after

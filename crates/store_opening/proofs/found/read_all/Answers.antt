@@ -1,8 +1,9 @@
+use Rattle.store_opening.proofs.Misfits.{there, told_behind}
 use Rattle.store_opening.proofs.Places.{next_one, none_left, zip_all, zip_more}
 use Rattle.store_opening.proofs.found.read_all.Goals as goal
 use Rattle.store_opening.specs.Seated.{IsSeated}
 use Rattle.disk_trait.specs.AllDisks.{ReadsAs}
-use Rattle.std.proofs.Common.{List, OnOk, ap, arith, subst, sym, ℕ, ◌++◌, ◌∙◌, ◌≡◌}
+use Rattle.std.proofs.Common.{List, OnOk, ap, arith, inl, inr, subst, sym, ℕ, ◌++◌, ◌∙◌, ◌≡◌, ◌∷◌}
 use Rattle.std.proofs.lemmas.List.{append-nil}
 use Rattle.store_opening.proofs.Holding.{ends, puts_next}
 use Rattle.store_opening.specs.Reading.{PutsAll, ReadAll}
@@ -20,6 +21,15 @@ loop-part-preserved g c =
           let e = ends (λ p i. ReadsAs (g.P.Parts.disks p) i) c.loop-part.yielded c.in-Some.part images reads in
           subst (λ (is : List (ℕ → List ℕ)). OnOk c.read_next-found.result.1 (PutsAll is c.args.objects.now c.read_next-found.new.objects)) (sym e.is)
           (puts_next c.loop-part.read c.read_next-found.result.1 e.before e.last c.args.objects.now c.loop-part.objects c.read_next-found.new.objects (inv.4 e.before e.each) (c.read_next-found.ensures.put e.last e.at_last)),
+      λ images r d place reads is.
+          let disks = g.P.Parts.disks in
+          let rest = into_iter_items c.next.new.self in
+          let whole : c.loop-part.yielded ++ c.in-Some.part ∷ rest ≡ c.args.parts.items = ap (λ ps. c.loop-part.yielded ++ ps) (sym next.0) ∙ inv.2 in
+          let t = there disks c.loop-part.yielded rest c.args.parts.items c.in-Some.part images whole reads in
+          elim (c.read_next-found.ensures.damaged t.image r d place t.reads is) [
+            | inl before ↦ inv.5 images r d place reads before
+            | inr here ↦ told_behind disks c.loop-part.yielded rest c.args.parts.items c.in-Some.part c.as_slice.result.now c.loop-part.places.items images c.len-repos.result r d place c.as_slice.ensures.value whole reads inv.3 (c.len-repos.ensures ∙ c.args.parts.ok.0) t here
+          ],
     )
 
 pub returns-clause-seated : goal.returns-clause-seated

@@ -1,13 +1,14 @@
-use Rattle.std.proofs.Common.{IfOk, Result, subst, sym}
+use Rattle.std.proofs.Common.{IfOk, Result, subst, sym, ℕ, ◌≡◌}
 use Rattle.store_opening.specs.Reading.{ReadAll}
 use Rattle.thor_value.specs.declared.memory.NoMemory.{NoMemory}
 use Rattle.top_judging.proofs.StageLaws.{err_map, ok_map, unjudged_replies, unopened_replies}
 use Rattle.top_judging.proofs.TellingLaws.{none_tell, unjudged_tells, unopened_tells}
-use Rattle.top_judging.specs.Stages.{RepliesUnjudged, RepliesUnopened}
+use Rattle.top_judging.specs.Stages.{RepliesUnjudged, RepliesUnopened, RepliesWhy}
+use Rattle.repo_opening.specs.declared.unopened.Unopened.TheVariants.{Damaged}
 use Rattle.top_reply.specs.declared.reply.Reply.{Reply}
 use Rattle.top_statement.specs.Opening.{IsStoredBy}
 use Rattle.top_statement.specs.Telling.{TellsNoRun}
-use Rattle.top_statement.specs.Top.{RepliesTo}
+use Rattle.top_statement.specs.Top.{HoldNoStore, RepliesTo}
 use Rattle.top_judging.proofs.finding.find.Goals as goal
 
 pub returns-in-Ok-clause-reply : goal.returns-in-Ok-clause-reply
@@ -26,8 +27,9 @@ returns-in-Err-clause-reply g c =
     let D = ReadAll g.P.Parts.disks c.args.parts.items in
     let plan = c.args.plan.now in
     let script = c.args.script.now in
+    let none : (repo disk place : ℕ) → c.in-Err.field-0.why ≡ Damaged repo disk place → HoldNoStore D repo disk place = λ repo disk place is. record { each = λ images reads. c.in-Err.ensures.damaged images repo disk place reads is } in
     subst (λ (q : Result Reply NoMemory). IfOk q (RepliesTo D plan script)) (sym c.unplayed.ensures.reply)
-    (ok_map c.unopened.result RepliesUnopened (RepliesTo D plan script) (unopened_replies D plan script) c.unopened.ensures)
+    (ok_map c.unopened.result (RepliesWhy c.in-Err.field-0.why) (RepliesTo D plan script) (unopened_replies D plan script c.in-Err.field-0.why none) c.unopened.ensures.told)
 
 pub returns-in-Ok-clause-untold : goal.returns-in-Ok-clause-untold
 returns-in-Ok-clause-untold g c =
@@ -40,4 +42,4 @@ returns-in-Ok-clause-untold g c =
 pub returns-in-Err-clause-untold : goal.returns-in-Err-clause-untold
 returns-in-Err-clause-untold g c =
     subst (λ (q : Result Reply NoMemory). TellsNoRun q) (sym c.unplayed.ensures.reply)
-    (none_tell c.unopened.result RepliesUnopened unopened_tells c.unopened.ensures)
+    (none_tell c.unopened.result RepliesUnopened unopened_tells c.unopened.ensures.replied)

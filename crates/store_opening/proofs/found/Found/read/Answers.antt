@@ -1,0 +1,11 @@
+use Rattle.repo_opening.specs.declared.unopened.Unopened.TheVariants.{Damaged}
+use Rattle.std.proofs.Common.{IsErrOf, List, rules, subst, sym}
+use Rattle.store_opening.specs.Seated.{AreSeated}
+use Rattle.store_opening.specs.declared.closed.Closed.{Closed}
+use Rattle.store_opening.proofs.found.Found.read.Goals as goal
+
+pub returns-in-Err-clause-damaged : goal.returns-in-Err-clause-damaged
+returns-in-Err-clause-damaged g c = λ images r d place reads is.
+    let wrong : IsErrOf c.store_of.result (Damaged r d place) = search rules in
+    let seated : AreSeated g.P.Parts.disks c.args.parts.items c.as_slice.result.now = subst (λ (ps : List (Closed _)). AreSeated g.P.Parts.disks c.args.parts.items ps) (sym c.as_slice.ensures.value) c.read_all-places.ensures.seated in
+    c.store_of.ensures.damaged c.args.parts.items images r d place seated reads (c.read_all-places.ensures.damaged images r d place reads) wrong
