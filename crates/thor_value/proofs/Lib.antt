@@ -6,4 +6,3 @@ pub mod ReadClauses
 pub mod Rising
 pub mod Spellings
 pub mod TextBytes
-pub mod WordsCompared

@@ -85,18 +85,14 @@ impl Word {
     }
 }
 
-/// Two texts are equal where their bytes are: then what lies behind those is equal too, so that whole rooms are compared.
+/// Two texts are equal where their bytes are.
 impl PartialEq for Word {
     ghost eq = { λ a b. pointwise nat_eq a b };
 
     ghost laws = { on_per (λ a. a) (partial_equiv_from_equiv nat_list_eq_equiv) };
 
-    #[tactic(auto, using(crate::proofs::WordsCompared::compared))]
     fn eq(&self, other: &Word) -> bool {
-        if self.len != other.len {
-            return false;
-        }
-        self.room == other.room
+        self.bytes() == other.bytes()
     }
 }
 
