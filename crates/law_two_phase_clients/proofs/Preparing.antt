@@ -226,17 +226,17 @@ module _ (S : Several) (r : ℕ) (q : Request) (sd : AreSound S) (go : Continues
 pub prepares : (S : Several) (item : Present) (links : List Link) (c : Contents) (s : Sending) (a z : Pending) (so : PreparesSo item links c s a z) → StartsRight item links c s a z so
     → AreSound S → Continues S s.at.repo (entries.Prepared s.request) → TryPrepared S item.who a → TryPrepared (grown S s.at.repo (entries.Prepared s.request)) item.who z
 prepares S item links c s a z (PreparesFirst left sends holds now) right sd go tried = subst (TryPrepared (grown S s.at.repo (entries.Prepared s.request)) item.who) (sym now) (record {
-    coordinator = right.coordinator;
-    first = new_there S s.at.repo s.request sd go item.who left (same_requests links item.who s.request.tx sends.drawn left s sends.sends s.at.repo s.request (request_is links item.who s.request.tx sends.drawn left s sends.sends right.shares));
-    next = λ n h. cc;
-    left = rest_of links item.who s.request.tx sends.drawn left s sends.sends right.shares;
-  })
+  coordinator = right.coordinator;
+  first = new_there S s.at.repo s.request sd go item.who left (same_requests links item.who s.request.tx sends.drawn left s sends.sends s.at.repo s.request (request_is links item.who s.request.tx sends.drawn left s sends.sends right.shares));
+  next = λ n h. cc;
+  left = rest_of links item.who s.request.tx sends.drawn left s sends.sends right.shares;
+})
 prepares S item links c s a z (PreparesNext at rs left sends holds now) right sd go tried = subst (TryPrepared (grown S s.at.repo (entries.Prepared s.request)) item.who) (sym now) (record {
-    coordinator = p.coordinator;
-    first = old_there at.repo p.first;
-    next = λ n h. by n (one_more_among n s.at.repo rs h);
-    left = rest_of links item.who s.request.tx sends.transaction left s sends.sends p.left;
-  })
+  coordinator = p.coordinator;
+  first = old_there at.repo p.first;
+  next = λ n h. by n (one_more_among n s.at.repo rs h);
+  left = rest_of links item.who s.request.tx sends.transaction left s sends.sends p.left;
+})
   where
     T : Several
     T = grown S s.at.repo (entries.Prepared s.request)
