@@ -5,7 +5,6 @@ use std::io::IsTerminal;
 use std::sync::atomic::Ordering::SeqCst;
 use std::sync::atomic::{AtomicBool, AtomicU64, AtomicUsize};
 use std::time::Instant;
-use top_reply::UNSOUND;
 
 /// How long the program has been at work before it tells how far a run is, in milliseconds.
 const FIRST: u64 = 1_000;
@@ -111,11 +110,7 @@ impl Progress {
 }
 
 impl Gate for Progress {
-    fn pass(&self, point: u32) {
-        if point == UNSOUND {
-            self.is_unsound.store(true, SeqCst);
-        }
-    }
+    fn pass(&self, _point: u32) {}
 
     fn begin_run(&self, items: usize) {
         self.items.store(items, SeqCst);
@@ -129,5 +124,9 @@ impl Gate for Progress {
             self.ended.fetch_add(count, SeqCst);
             self.tell_when_due(begun);
         }
+    }
+
+    fn find_unsound(&self) {
+        self.is_unsound.store(true, SeqCst);
     }
 }
