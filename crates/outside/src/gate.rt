@@ -1,5 +1,5 @@
-/// What stands beside a run: a place at which a test can hold a thread back, and who is told how far the run is, and whether it
-/// failed its check. It answers nothing.
+/// What stands beside a run: a place at which a test can hold a thread back, and who is told how far the run is, and why nothing is
+/// told of it. It answers nothing.
 pub trait Gate {
     /// Returns once the gate lets the caller pass this point.
     fn pass(&self, point: u32);
@@ -12,6 +12,9 @@ pub trait Gate {
 
     /// The history of the run didn't pass its check, so nothing is told of the run.
     fn find_unsound(&self);
+
+    /// A disk gave other bytes than as the store was read, so that the store wasn't opened.
+    fn find_changed(&self);
 }
 
 /// The gate of a program: it lets everyone pass at once, and tells nobody anything of a run.
@@ -26,4 +29,6 @@ impl Gate for OpenGate {
     fn end_items(&self, _count: usize) {}
 
     fn find_unsound(&self) {}
+
+    fn find_changed(&self) {}
 }

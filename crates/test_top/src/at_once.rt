@@ -62,6 +62,8 @@ impl Gate for Hold {
     fn end_items(&self, _count: usize) {}
 
     fn find_unsound(&self) {}
+
+    fn find_changed(&self) {}
 }
 
 /// Two clients, each with an object at a repository of its own.

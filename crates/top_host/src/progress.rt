@@ -32,6 +32,8 @@ pub struct Progress {
     is_shown: AtomicBool,
     /// Whether a run's history didn't pass its check.
     is_unsound: AtomicBool,
+    /// Whether a disk gave other bytes than as the store was read.
+    is_changed: AtomicBool,
 }
 
 impl Progress {
@@ -51,12 +53,18 @@ impl Progress {
             is_telling: AtomicBool::new(false),
             is_shown: AtomicBool::new(false),
             is_unsound: AtomicBool::new(false),
+            is_changed: AtomicBool::new(false),
         }
     }
 
     /// Whether a run's history didn't pass its check.
     pub fn is_unsound(&self) -> bool {
         self.is_unsound.load(SeqCst)
+    }
+
+    /// Whether a disk gave other bytes than as the store was read.
+    pub fn is_changed(&self) -> bool {
+        self.is_changed.load(SeqCst)
     }
 
     /// Takes the line away, where it stands there. No thread tells any more.
@@ -128,5 +136,9 @@ impl Gate for Progress {
 
     fn find_unsound(&self) {
         self.is_unsound.store(true, SeqCst);
+    }
+
+    fn find_changed(&self) {
+        self.is_changed.store(true, SeqCst);
     }
 }
