@@ -42,7 +42,7 @@ use Rattle.repo_state.specs.Entering.{decided_by, entered, finished_by, loaded}
 use Rattle.repo_state.specs.Keeps.{Keeps}
 use Rattle.repo_state.specs.Said.{said}
 use Rattle.repo_state.specs.declared.held.Held.{Held}
-use Rattle.std.proofs.Common.{Bool, Err, IfOk, List, None, Ok, OnOk, Option, Result, Some, [], ◌∷◌, ap, arith, cond, false, inl, inr, refl, subst, sym, true, ◌<◌, ◌∙◌, ◌≡◌, ◌⊎◌, ℕ}
+use Rattle.std.proofs.Common.{Bool, Err, IfOk, List, None, Ok, OnOk, Option, Result, Some, [], ◌∷◌, ap, arith, cond, false, inl, inr, refl, subst, sym, true, ◌+◌, ◌<◌, ◌∙◌, ◌≡◌, ◌⊎◌, ℕ}
 use Rattle.std.proofs.lemmas.Map.Views.{tells_apart}
 use Rattle.std.specs.BTreeMap.{insert_entry, is_at}
 use Rattle.std.specs.Cmp.{eq_by_cmp_equiv}
