@@ -311,6 +311,10 @@ says_images disks held (Torn e) whole stood says = cc
 pub images_of : {P : Type 0} (disks : P → Disks) (store : Stable P) → is_torn store ≡ false → IsKept disks store → IsSaid disks store → ImagesSay (disks_of disks store) (held_of store) (pending store)
 images_of disks store whole kept is = says_images (disks_of disks store) store.held store.phase whole kept.stands is.says
 
+-- falls of the schedule's stop leave no other image
+pub images_inside : (disks : Disks) (falls : List ℕ) (h : Held) (pending : Option Entry) → ImagesSay (with_falls disks falls) h pending → ImagesSay disks h pending
+images_inside disks falls h pending says = record { each = says.each; keeps = says.keeps }
+
 -- the log was taken out, and is let go of
 pub said_out : {P : Type 0} (disks : P → Disks) (old mid : Stable P) (log : Place) → old.phase ≡ Up log → mid ≡ down_with old None → IsOpen (disks_of disks old) log old.held → IsSaid disks old → IsSaid disks mid
 said_out disks old mid log is same stood said_old =

@@ -137,7 +137,7 @@ impl<P: Parts> Stable<P> {
     }
 
     /// Whether what is held is no state of its log.
-    fn is_torn(&self) -> bool
+    pub fn is_torn(&self) -> bool
         ensures { result ≡ is_torn self.now }
     {
         match &self.phase {

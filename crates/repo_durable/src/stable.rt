@@ -276,6 +276,7 @@ impl<P: Parts> Stable<P> {
         ensures pages { (disks_of P.disks self.new).content 2 ≡ (disks_of P.disks self.old).content 2 }
         ensures clock { (disks_of P.disks self.new).clock ≡ (disks_of P.disks self.old).clock }
         ensures names { IfErr result (λ r. repo_named (held_of self.old).repo r ≡ (held_of self.old).repo) }
+        ensures goes { GoesOn (disks_of P.disks self.old) (disks_of P.disks self.new) }
         ensures stopped { (r : ℕ) → IsErrOf result (IsStopped r) → HasFailed (disks_of P.disks self.old).faults (disks_of P.disks self.new).faults }
         ensures steady { OnOk result (NoFault (disks_of P.disks self.old) (disks_of P.disks self.new)) }
         ensures quiet { IfErr result (λ r. is_stopped r ≡ false → NoFault (disks_of P.disks self.old) (disks_of P.disks self.new)) }
@@ -375,6 +376,7 @@ impl<P: Parts> Stable<P> {
         ensures pages { (disks_of P.disks self.new).content 2 ≡ (disks_of P.disks self.old).content 2 }
         ensures clock { (disks_of P.disks self.new).clock ≡ (disks_of P.disks self.old).clock }
         ensures names { IfErr result (λ r. repo_named (held_of self.old).repo r ≡ (held_of self.old).repo) }
+        ensures goes { GoesOn (disks_of P.disks self.old) (disks_of P.disks self.new) }
         ensures stopped { (r : ℕ) → IsErrOf result (IsStopped r) → HasFailed (disks_of P.disks self.old).faults (disks_of P.disks self.new).faults }
         ensures steady { OnOk result (NoFault (disks_of P.disks self.old) (disks_of P.disks self.new)) }
         ensures quiet { IfErr result (λ r. is_stopped r ≡ false → NoFault (disks_of P.disks self.old) (disks_of P.disks self.new)) }
@@ -528,6 +530,7 @@ impl<P: Parts> Stable<P> {
         ensures pages { (disks_of P.disks self.new).content 2 ≡ (disks_of P.disks self.old).content 2 }
         ensures clock { (disks_of P.disks self.new).clock ≡ (disks_of P.disks self.old).clock }
         ensures names { IfErr result (λ r. repo_named (held_of self.old).repo r ≡ (held_of self.old).repo) }
+        ensures goes { GoesOn (disks_of P.disks self.old) (disks_of P.disks self.new) }
         ensures stopped { (r : ℕ) → IsErrOf result (IsStopped r) → HasFailed (disks_of P.disks self.old).faults (disks_of P.disks self.new).faults }
         ensures steady { OnOk result (NoFault (disks_of P.disks self.old) (disks_of P.disks self.new)) }
         ensures quiet { IfErr result (λ r. is_stopped r ≡ false → NoFault (disks_of P.disks self.old) (disks_of P.disks self.new)) }

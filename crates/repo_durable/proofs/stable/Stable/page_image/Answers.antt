@@ -6,7 +6,7 @@ use Rattle.repo_durable.proofs.Saying.{log_beside, log_same, said_unread, said_u
 use Rattle.repo_durable.proofs.Staying.{kept_up, taken_open}
 use Rattle.repo_durable.specs.Kept.{disks_of}
 use Rattle.std.proofs.Common.{ap, sym, ◌∙◌}
-use Rattle.repo_durable.proofs.Counting.{stays_between, stays_on, stays_taken, store_quiet}
+use Rattle.repo_durable.proofs.Counting.{goes_between, goes_taken, stays_between, stays_on, stays_taken, store_quiet}
 use Rattle.repo_durable.specs.Kept.{parts_in}
 use Rattle.repo_durable.specs.Kept.{is_torn}
 use Rattle.std.proofs.Common.{Err, refl}
@@ -111,3 +111,15 @@ returns-in-Err-clause-map g c =
     let mid = c.take_log.new.self in
     moves_out g.P.Parts.disks [] c.args.self.now mid (record mid { parts = c.page_image.new.parts; held = c.page_image.new.self }) c.in-Some.log taken.0 taken.1
     (moves_read g.P.Parts.disks mid c.page_image.new.parts c.page_image.new.self c.page_image.ensures.content c.page_image.ensures.said)
+
+pub returns-in-Ok-clause-goes : goal.returns-in-Ok-clause-goes
+returns-in-Ok-clause-goes g c =
+    let old = disks_of g.P.Parts.disks c.take_log.new.self in
+    let now = fused_disks g.P.Parts.disks c.page_image.new.parts in
+    goes_between g.P.Parts.disks c.args.self.now c.take_log.new.self c.set_phase.new.self c.page_image.new.parts c.in-Some.ensures.some.1 (ap parts_in c.set_phase.ensures) (goes_one old now 2 c.page_image.ensures.alone)
+
+pub returns-in-Err-clause-goes : goal.returns-in-Err-clause-goes
+returns-in-Err-clause-goes g c =
+    let old = disks_of g.P.Parts.disks c.take_log.new.self in
+    let now = fused_disks g.P.Parts.disks c.page_image.new.parts in
+    goes_taken g.P.Parts.disks c.args.self.now c.take_log.new.self now c.in-Some.ensures.some.1 (goes_one old now 2 c.page_image.ensures.alone)
