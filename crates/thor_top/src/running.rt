@@ -1,7 +1,7 @@
 //! A run is made and told.
 
 ghost use Rattle.cluster_threads.specs.Committed.{committed_lines};
-ghost use Rattle.cluster_threads.specs.Histories.{AreHistories, AreHistoriesIf};
+ghost use Rattle.cluster_threads.specs.Histories.{AreHistories, AreHistoriesIf, EndsAs};
 ghost use Rattle.std.specs.Prelude.{IfErr, IfOk, List, vec_len, ◌≡◌};
 ghost use Rattle.store_opening.specs.Counts.{HasParts, parts_in};
 ghost use Rattle.thor_top.specs.Stages.{IsToldOf, IsToldWith};
@@ -49,6 +49,7 @@ pub(crate) fn run_in_turn<P: Parts, G: Gate>(
     ensures parts { vec_len result.parts ≡ parts_in run.found }
     ensures histories { (given : List P) → HasParts P.disks given run.found → AreHistoriesIf P.disks given result.traces }
     ensures reported { (given : List P) → HasParts P.disks given run.found → TellsRunBy result.reply → AreHistories P.disks given result.traces }
+    ensures left { (given : List P) → HasParts P.disks given run.found → TellsRunBy result.reply → EndsAs P.disks given result.parts.items result.traces }
     ensures committed { TellsRunBy result.reply → IfOk result.reply (IsToldWith (committed_lines result.traces) run.expected) }
 {
     let FoundRun {

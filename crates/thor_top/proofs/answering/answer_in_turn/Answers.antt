@@ -41,3 +41,9 @@ returns-in-Err-clause-committed g c =
     let before : Told = told_by g.S.Source.left g.S.Source.faults c.args.source.now in
     let after : Told = told_by g.S.Source.left g.S.Source.faults c.begin.new.source in
     none_said (committed_lines c.untold.result.traces) (ReadAll g.P.Parts.disks c.args.parts.items) (IsHanded c.args.plan.now (vec_len c.args.parts)) before after c.untold.result.reply (subst (λ (q : Result Reply NoMemory). TellsNoRun q) (sym c.untold.ensures.reply) c.in-Err.ensures.untold)
+
+pub returns-in-Ok-clause-left : goal.returns-in-Ok-clause-left
+returns-in-Ok-clause-left g c = c.run_in_turn.ensures.left c.args.parts.items c.in-Ok.ensures.found
+
+pub returns-in-Err-clause-left : goal.returns-in-Err-clause-left
+returns-in-Err-clause-left g c = λ tells. absurd (c.in-Err.ensures.untold (subst (λ (q : Result Reply NoMemory). TellsRunBy q) c.untold.ensures.reply tells))

@@ -28,3 +28,7 @@ returns-clause-reported g c = λ tells. rw c.write_answer.ensures.traces
 pub returns-clause-committed : goal.returns-clause-committed
 returns-clause-committed g c = rw c.write_answer.ensures.traces
     (said_of c.answer_in_turn-answered.result.reply c.write_answer.result.reply _ c.write_answer.ensures.reply c.answer_in_turn-answered.ensures.committed)
+
+pub returns-clause-left : goal.returns-clause-left
+returns-clause-left g c = λ tells. rw c.write_answer.ensures.traces (rw c.write_answer.ensures.parts
+    (c.answer_in_turn-answered.ensures.left (tells_of c.answer_in_turn-answered.result.reply c.write_answer.result.reply c.write_answer.ensures.reply tells)))

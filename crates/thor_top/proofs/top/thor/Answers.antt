@@ -59,3 +59,7 @@ returns-clause-reported g c = λ p is turn tells. rw c.write_answer.ensures.trac
 pub returns-clause-committed : goal.returns-clause-committed
 returns-clause-committed g c = rw c.write_answer.ensures.traces
     (said_of c.answer-answered.result.reply c.write_answer.result.reply _ c.write_answer.ensures.reply c.answer-answered.ensures.committed)
+
+pub returns-clause-left : goal.returns-clause-left
+returns-clause-left g c = λ p is turn tells. rw c.write_answer.ensures.traces (rw c.write_answer.ensures.parts
+    (c.answer-answered.ensures.left p is turn (tells_of c.answer-answered.result.reply c.write_answer.result.reply c.write_answer.ensures.reply tells)))
