@@ -60,6 +60,10 @@ impl Gate for Hold {
     fn begin_run(&self, _items: usize) {}
 
     fn end_items(&self, _count: usize) {}
+
+    fn find_unsound(&self) {}
+
+    fn find_changed(&self) {}
 }
 
 /// Two clients, each with an object at a repository of its own.

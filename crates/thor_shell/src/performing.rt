@@ -53,6 +53,7 @@ pub fn perform<R: Threads + Wait + Sync, P: Parts + Send>(
         Behind {
             is_run: !traces.as_slice().is_empty(),
             is_unsound: progress.is_unsound(),
+            is_changed: progress.is_changed(),
             noted,
         },
     );

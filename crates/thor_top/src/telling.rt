@@ -17,7 +17,7 @@ use std::mem;
 use store_opening::ClusterFault;
 use thor_value::NoMemory;
 use top_judging::unsettled;
-use top_reply::{Reply, UNSOUND, Untold, report};
+use top_reply::{Reply, Untold, report};
 use top_statement::{Answered, unplayed};
 
 /// What is replied of what was run, where it is as expected. Where its history didn't pass its check the gate is told.
@@ -79,7 +79,7 @@ fn reply_of<G: Gate>(gate: &G, told: Result<Reply, Untold>) -> Result<Reply, NoM
     match told {
         Ok(reply) => Ok(reply),
         Err(Untold::Unsound) => {
-            gate.pass(UNSOUND);
+            gate.find_unsound();
             Err(NoMemory)
         }
         Err(Untold::NoMemory) => Err(NoMemory),

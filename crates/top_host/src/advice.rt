@@ -13,6 +13,9 @@ const NO_REPORT: &str =
 const FAILED_CHECK: &str =
     "the run ended, and then its history failed the program's own check (status 9): this is a fault of the program; a store has what was committed";
 
+const CHANGED: &str =
+    "a disk gave other bytes than a moment before, so the store wasn't opened (status 9): copy its files to another disk, and look after this one";
+
 const CLOCK_END: &str =
     "no time is left for a timestamp (ClockEnd): the machine's clock is wrong by ages, or was as something was committed; set it, and where the store refuses everything still, put its files back from a copy (docs/TASKS.md)";
 
@@ -28,6 +31,8 @@ pub struct Behind {
     pub is_run: bool,
     /// Whether its history didn't pass its check.
     pub is_unsound: bool,
+    /// Whether a disk gave other bytes than as the store was read.
+    pub is_changed: bool,
     /// What its report tells.
     pub noted: Noted,
 }
@@ -36,6 +41,7 @@ pub struct Behind {
 pub fn advise_behind(rt: HostRuntime, status: Status, behind: Behind) {
     match status {
         Status::NoMemory if behind.is_unsound => advise(rt, FAILED_CHECK),
+        Status::NoMemory if behind.is_changed => advise(rt, CHANGED),
         Status::NoMemory if behind.is_run => advise(rt, NO_REPORT),
         Status::NoMemory => advise(rt, NO_MEMORY),
         Status::Unfinished if behind.noted.is_clock_end => advise(rt, CLOCK_END),

@@ -5,7 +5,6 @@ use std::io::IsTerminal;
 use std::sync::atomic::Ordering::SeqCst;
 use std::sync::atomic::{AtomicBool, AtomicU64, AtomicUsize};
 use std::time::Instant;
-use top_reply::UNSOUND;
 
 /// How long the program has been at work before it tells how far a run is, in milliseconds.
 const FIRST: u64 = 1_000;
@@ -33,6 +32,8 @@ pub struct Progress {
     is_shown: AtomicBool,
     /// Whether a run's history didn't pass its check.
     is_unsound: AtomicBool,
+    /// Whether a disk gave other bytes than as the store was read.
+    is_changed: AtomicBool,
 }
 
 impl Progress {
@@ -52,12 +53,18 @@ impl Progress {
             is_telling: AtomicBool::new(false),
             is_shown: AtomicBool::new(false),
             is_unsound: AtomicBool::new(false),
+            is_changed: AtomicBool::new(false),
         }
     }
 
     /// Whether a run's history didn't pass its check.
     pub fn is_unsound(&self) -> bool {
         self.is_unsound.load(SeqCst)
+    }
+
+    /// Whether a disk gave other bytes than as the store was read.
+    pub fn is_changed(&self) -> bool {
+        self.is_changed.load(SeqCst)
     }
 
     /// Takes the line away, where it stands there. No thread tells any more.
@@ -111,11 +118,7 @@ impl Progress {
 }
 
 impl Gate for Progress {
-    fn pass(&self, point: u32) {
-        if point == UNSOUND {
-            self.is_unsound.store(true, SeqCst);
-        }
-    }
+    fn pass(&self, _point: u32) {}
 
     fn begin_run(&self, items: usize) {
         self.items.store(items, SeqCst);
@@ -129,5 +132,13 @@ impl Gate for Progress {
             self.ended.fetch_add(count, SeqCst);
             self.tell_when_due(begun);
         }
+    }
+
+    fn find_unsound(&self) {
+        self.is_unsound.store(true, SeqCst);
+    }
+
+    fn find_changed(&self) {
+        self.is_changed.store(true, SeqCst);
     }
 }

@@ -18,4 +18,4 @@ pub use texts::{
     damaged_text, disagreement_text, disk_text, limit_text, no_report_text, status_of,
 };
 pub use top_history_check::Line;
-pub use untold::{UNSOUND, Untold};
+pub use untold::Untold;

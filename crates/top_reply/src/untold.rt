@@ -5,10 +5,6 @@ ghost use Rattle.top_reply.specs.declared.untold.Untold.TheVariants.{NoMemory as
 
 use thor_value::NoMemory;
 
-/// The point that a gate is asked to let pass behind a run whose history didn't pass its check, so that who has the gate knows why
-/// nothing is told of it.
-pub const UNSOUND: u32 = 4_294_967_295;
-
 /// Why nothing is told of a run.
 #[derive(Clone, Copy, Debug, PartialEq, Eq)]
 pub enum Untold {
