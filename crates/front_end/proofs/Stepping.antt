@@ -523,7 +523,7 @@ every_if (Err e) f p a b c d = tt
 
 -- a client that asks has something to ask for
 pub never_none : (o : Option (Sent × ℕ)) → IsSome o → o ≡ None → ⊥
-never_none None some none = absurd some
+never_none None some none = cc
 never_none (Some x) some none = cc
 
 -- no more calls are left than before
