@@ -249,7 +249,7 @@ module _ (shows : Bool) (item : Present) (old new : View) (before after : Held) 
 
   module _ (s : Sending) (of : IsOfSession before.links.items s) where
     pub by_prepare_so : (place : ℕ) → (shows ≡ true → Does {X = ℕ} old new s.at.repo (Ok place) (PrepareWork s.at.session s.request (Ok place))) → HoldsLess before after
-        → (prepared_at pending_in q ≡ Some (s.at, s.request.tx)) ⊎ ((prepared_at pending_in q ≡ prepared_at a) × (is_preparing a ≡ true)) → PreparesSo item before.links.items before.cache.cache s a (pending_in q) → Quiet → KeepsDuties d e → NotesAbort a (pending_in q) d e → TriesSoIf
+        → (prepared_at (pending_in q) ≡ Some (s.at, s.request.tx)) ⊎ ((prepared_at (pending_in q) ≡ prepared_at a) × (is_preparing a ≡ true)) → PreparesSo item before.links.items before.cache.cache s a (pending_in q) → Quiet → KeepsDuties d e → NotesAbort a (pending_in q) d e → TriesSoIf
     by_prepare_so place call less pends prepares quiet keeps notes = λ none_left w. record { so = record { moves = Prepared s place (call w) of less; pends = pends; tries = (prepares, quiet); hands = keeps }; free = none_left; ends = tt; aborts = notes }
 
     module _ (idle : NoneAwaits 8 before.links.items) where
@@ -467,6 +467,7 @@ module _ (item : Present) (old new : View) (a b after : Held) (p z : Pending) (d
   }
 
 pub spent_steps : (item : Present) (old new : View) (a b after : Held) (p : Pending) (q : Phase) (d e : Duties) (came : News) → OwesNone d → StepsInOrder item old new (record a { names = b.names }) after p q d e came → StepsInOrder item old new a after p q d e came
+unfolding spent_so spending.other_names
 spent_steps item old new a b after p q d e came none m = record {
   so = spent_so item old new a b after p (pending_in q) d e came m.so;
   free = goes_freely old new a after d none (spending.other_names old new a b after m.so.moves);
