@@ -105,10 +105,10 @@ module _ (P : Told) where
 
     aborts : (at : At) (t : Ts) (v : Verdict) (d e : Duties) → Does {X = Verdict} old new at.repo (Ok v) (DecideWork at.session t false (Ok v)) → AbortsNext at t v d e → DutiesStand P d → DutiesStand P e
     aborts at t v d e does h all = record {
-        verdicts = same_all (handed v h.prepared d.verdicts) e.verdicts h.behind (with_handed v h.prepared d.verdicts all.verdicts
-            (at.repo, subst (λ (u : Ts). P at.repo u v.commit) (sym (decided_of old new at.repo at.session t v false does)) (holds at.repo t v.commit (ToldByDecision at.session false v refl does))));
-        helping = same_help d.helping e.helping h.helping all.helping;
-      }
+      verdicts = same_all (handed v h.prepared d.verdicts) e.verdicts h.behind (with_handed v h.prepared d.verdicts all.verdicts
+          (at.repo, subst (λ (u : Ts). P at.repo u v.commit) (sym (decided_of old new at.repo at.session t v false does)) (holds at.repo t v.commit (ToldByDecision at.session false v refl does))));
+      helping = same_help d.helping e.helping h.helping all.helping;
+    }
 
     tells_next : (r : ℕ) (t : Ts) (commit answered : Bool) (d e : Duties) → TellsNext r t commit answered d e → DutiesStand P d → DutiesStand P e
     tells_next r t commit answered d e h all =
