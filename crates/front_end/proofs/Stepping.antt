@@ -14,7 +14,7 @@ use Rattle.client_state.specs.Handing.{AbortsInVain, AbortsNext, ByAsking, ByLin
 use Rattle.client_state.specs.Links.{NoneAwaits, at_repo, waiting}
 use Rattle.client_state.specs.Moving.{Aborted, Asked, AskedInVain, AskedOwn, CommitRefused, Committed, Connected, DecideRefused, Decided, Drawn, EndsSo, Fetched, Finished, Forgot, Granted, HoldsLess, InSession, KeepsMade, KeepsTry, Learns, LeavesLess, Loses, MaySettle, Moves, PrepareRefused, Prepared, ReceiveRefused, ReceiveStopped, Received, ReceivedNone, Rested, SendsNothing, SendsNothingIf, Settled, Transformed, Unsent}
 use Rattle.client_state.specs.Participants.{first_in, others_in, sent_of}
-use Rattle.client_state.specs.Pending.{AsksBehind, IsAsking, IsPreparing, MovesSo, MovesSoIf, NonePending, Pending, RefusesToDecide, StaysAsked, StaysPending, asked_at, is_preparing, noted, pending_in, prepared_at}
+use Rattle.client_state.specs.Pending.{AsksBehind, IsAsking, IsPreparing, MovesSo, MovesSoIf, NonePending, Pending, RefusesToDecide, StaysAsked, StaysPending, abort_in, asked_at, is_preparing, noted, pending_in, prepared_at}
 use Rattle.client_state.specs.Receiving.{EndsReceive, LosesThere, ReceivesNone, StopsThere, TakesCopies}
 use Rattle.client_state.specs.Sending.{IsDrawnAt, IsOfSession, SendsShare}
 use Rattle.client_state.specs.Settling.{NewsAsSent}
@@ -22,6 +22,7 @@ use Rattle.client_state.specs.Showing.{IsToldBy, ToldByAnswer, ToldByDecision}
 use Rattle.client_state.specs.Stepping.{AsksInVain, AsksOwn, CommitsInVain, DecidesAll, EndsAsked, EndsOwn, HandsSo, HoldsThere, PreparesInVain, PreparesNext, PreparesSo, Present, RefusesNext, SendsAlone, SendsDrawn, SendsTransform, StepsSo, TriesSo}
 use Rattle.client_state.specs.Taking.{links_behind}
 use Rattle.client_state.specs.Writing.{HoldsWritten, WritesShares, WritesStay, WritesThere}
+use Rattle.client_state.specs.declared.duties.Abort.{Abort}
 use Rattle.client_state.specs.declared.duties.Duties.{Duties}
 use Rattle.client_state.specs.declared.duties.Duty.{Duty}
 use Rattle.client_state.specs.declared.duties.Helping.{Helping}
@@ -29,7 +30,8 @@ use Rattle.client_state.specs.declared.held.Held.{Held}
 use Rattle.client_state.specs.declared.link.Link.TheVariants.{Unsettled as UnsettledLink}
 use Rattle.client_state.specs.declared.link.Link.{Link}
 use Rattle.client_state.specs.declared.link.Waits.TheVariants.{Idle}
-use Rattle.client_state.specs.declared.phase.Phase.TheVariants.{Between}
+use Rattle.client_state.specs.declared.phase.Phase.TheVariants as phase
+use Rattle.client_state.specs.declared.phase.Phase.TheVariants.{Asking, Beginning, Between, Evaluated, Evaluating, Preparing, Transforming}
 use Rattle.client_state.specs.declared.phase.Phase.{Phase}
 use Rattle.client_state.specs.declared.requests.Sending.{Sending}
 use Rattle.client_state.specs.declared.transaction.Sent.{Sent}
@@ -37,7 +39,7 @@ use Rattle.client_state.specs.declared.transaction.Transaction.{Transaction}
 use Rattle.front_end.proofs.Receiving as receiving
 use Rattle.front_end.proofs.Spending as spending
 use Rattle.front_end.specs.Moving.{course_of, tries_of, uncounted}
-use Rattle.front_end.specs.Stepping.{AsksBy, AsksEach, AsksOnce, ClientHands, ClientSteps, EndsTry, GoesFreely, IsFinished, IsFinishedSo, IsForgotten, IsOver, IsSentMore, OwesNone, SameVerdicts, SendsFreely, StepsFrom, StepsInOrder, StepsInOrderIf, TakesStep, TriesFrom, present_of}
+use Rattle.front_end.specs.Stepping.{AbortsNone, AbortsSo, AsksBy, AsksEach, AsksOnce, ClientHands, ClientNotes, ClientSteps, EndsTry, GoesFreely, IsFinished, IsFinishedSo, IsForgotten, IsOver, IsSentMore, KeepsAbort, NotesAbort, OwesNone, SameVerdicts, SendsFreely, StepsFrom, StepsInOrder, StepsInOrderIf, TakesStep, TriesFrom, abort_behind, present_of}
 use Rattle.front_end.specs.declared.client.Client.{Client}
 use Rattle.front_end.specs.declared.front_end.FrontEnd.{FrontEnd}
 use Rattle.paused_eval.specs.declared.copies.Copies.{Copies}
@@ -52,7 +54,7 @@ use Rattle.std.proofs.lemmas.Option.{same_Some}
 use Rattle.std.proofs.lemmas.Result.{on_ok_weaker}
 use Rattle.std.specs.List.{list_any}
 use Rattle.std.specs.Option.{option_map}
-use Rattle.std.specs.Prelude.{Err, IfOk, None, Ok, OnOk, Option, Result, Some, slice_get, ◌∷◌, ◌⊎◌}
+use Rattle.std.specs.Prelude.{Err, IfOk, IsSome, None, Ok, OnOk, Option, Result, Some, slice_get, ◌∷◌, ◌⊎◌}
 use Rattle.thor_value.specs.declared.memory.NoMemory.{NoMemory}
 use Rattle.thor_value.specs.declared.names.Oref.{Oref}
 use Rattle.thor_value.specs.declared.names.Ts.{Ts}
@@ -83,21 +85,87 @@ module _ (old new : View) (a : Pending) (links : List Link) where
   pub told_then : (d m e : Duties) → HandsTold old new a links d m → e.verdicts ≡ m.verdicts → e.helping ≡ m.helping → HandsTold old new a links d e
   told_then d m e h v k = subst (λ (ds : List Duty). HandsTold old new a links d (record e { verdicts = ds })) (sym v) (subst (λ (o : Option Helping). HandsTold old new a links d (record e { verdicts = m.verdicts; helping = o })) (sym k) (record { verdicts = h.verdicts; helping = h.helping }))
 
+pub same_verdicts : (f g : Client) → g.duties ≡ f.duties → SameVerdicts f g
+same_verdicts f g same = (ap (λ (x : Duties). x.verdicts) same, ap (λ (x : Duties). x.helping) same, λ none. ap (λ (x : Duties). x.abort) same)
+
 module _ (shows : Bool) (old new : View) where
   -- the same of a client that is the one before, but for its phase and copies
-  pub hands_then : (f m g : Client) → ClientHands shows old new f m → SameVerdicts m g → ClientHands shows old new f g
-  hands_then f m g h same = λ a s. told_then old new a f.held.links.items f.duties m.duties g.duties (h a s) same.0 same.1
+  pub hands_then : (f m g : Client) → ClientHands shows old new f m → (pending_in f.phase ≡ NonePending → pending_in m.phase ≡ NonePending) → SameVerdicts m g → ClientHands shows old new f g
+  hands_then f m g h free same = (λ a s. told_then old new a f.held.links.items f.duties m.duties g.duties (h.0 a s) same.0 same.1, λ none. same.2 (free none) ∙ h.1 none)
 
   pub hands_nothing : (f g : Client) → SameVerdicts f g → ClientHands shows old new f g
-  hands_nothing f g same = λ a s. told_nothing old new a f.held.links.items f.duties g.duties same.0 same.1
+  hands_nothing f g same = (λ a s. told_nothing old new a f.held.links.items f.duties g.duties same.0 same.1, same.2)
+
+  pub hands_none : (f g : Client) → g.duties ≡ f.duties → ClientHands shows old new f g
+  hands_none f g same = hands_nothing f g (same_verdicts f g same)
 
   -- what is let go before a call
-  pub hands_same : (f m g : Client) → m.held.links.items ≡ f.held.links.items → m.duties ≡ f.duties → {X : Type 0} (result : Result X NoMemory) → OnOk result (ClientHands shows old new m g) → OnOk result (ClientHands shows old new f g)
-  hands_same f m g links duties (Ok x) h = λ a s. subst (λ (d : Duties). HandsTold old new a f.held.links.items d g.duties) duties (subst (λ (ls : List Link). HandsTold old new a ls m.duties g.duties) links (h a s))
-  hands_same f m g links duties (Err e) h = tt
+  pub hands_same : (f m g : Client) → m.held.links.items ≡ f.held.links.items → m.duties ≡ f.duties → (pending_in f.phase ≡ NonePending → pending_in m.phase ≡ NonePending) → {X : Type 0} (result : Result X NoMemory) → OnOk result (ClientHands shows old new m g) → OnOk result (ClientHands shows old new f g)
+  hands_same f m g links duties free (Ok x) h = (λ a s. subst (λ (d : Duties). HandsTold old new a f.held.links.items d g.duties) duties (subst (λ (ls : List Link). HandsTold old new a ls m.duties g.duties) links (h.0 a s)), λ none. h.1 (free none) ∙ ap (λ (x : Duties). x.abort) duties)
+  hands_same f m g links duties free (Err e) h = tt
 
-pub same_verdicts : (f g : Client) → g.duties ≡ f.duties → SameVerdicts f g
-same_verdicts f g same = (ap (λ (x : Duties). x.verdicts) same, ap (λ (x : Duties). x.helping) same)
+-- ---- what is to be aborted
+
+-- nothing was undecided
+pub none_noted : (a z : Pending) (b : Option Abort) → a ≡ NonePending → abort_behind a z b ≡ b
+none_noted a z b e = ap (λ (p : Pending). abort_behind p z b) e
+
+-- the same is undecided
+pub still_noted : (a : Pending) (b : Option Abort) → abort_behind a a b ≡ b
+still_noted NonePending b = refl
+still_noted (IsPreparing at t rs transaction) b = refl
+still_noted (IsAsking sent n) b = refl
+
+pub stays_noted : (a z : Pending) (d e : Duties) → z ≡ a → e.abort ≡ d.abort → NotesAbort a z d e
+stays_noted a z d e same abort = abort ∙ sym (ap (λ (p : Pending). abort_behind a p d.abort) same ∙ still_noted a d.abort)
+
+pub free_noted : (a z : Pending) (d e : Duties) → a ≡ NonePending → e.abort ≡ d.abort → NotesAbort a z d e
+free_noted a z d e none abort = abort ∙ sym (none_noted a z d.abort none)
+
+-- what its coordinator has prepared in the phase that ends
+pub some_noted : (p : Phase) (x : Abort) (b : Option Abort) → abort_in p ≡ Some x → Some x ≡ abort_behind (pending_in p) NonePending b
+some_noted Between x b h = cc
+some_noted Beginning x b h = cc
+some_noted (Evaluating run awaited) x b h = cc
+some_noted (Transforming run transform) x b h = cc
+some_noted (Evaluated transaction) x b h = cc
+some_noted (phase.Drawn t transaction) x b h = cc
+some_noted (Preparing t transaction coordinator prepared) x b h = sym h
+some_noted (Asking sent answers) x b h = cc
+
+-- nothing that it has prepared
+pub nothing_noted : (p : Phase) (z : Pending) (b : Option Abort) → abort_in p ≡ None → b ≡ abort_behind (pending_in p) z b
+nothing_noted Between z b h = refl
+nothing_noted Beginning z b h = refl
+nothing_noted (Evaluating run awaited) z b h = refl
+nothing_noted (Transforming run transform) z b h = refl
+nothing_noted (Evaluated transaction) z b h = refl
+nothing_noted (phase.Drawn t transaction) z b h = refl
+nothing_noted (Preparing t transaction coordinator prepared) z b h = cc
+nothing_noted (Asking sent answers) z b h = refl
+
+-- behind a client that is the one before, but for what it holds and how it helps
+pub notes_from : (f m g : Client) → pending_in m.phase ≡ pending_in f.phase → m.duties.abort ≡ f.duties.abort → ClientNotes m g → ClientNotes f g
+notes_from f m g pending abort notes = notes ∙ (ap (λ (p : Pending). abort_behind p (pending_in g.phase) m.duties.abort) pending ∙ ap (abort_behind (pending_in f.phase) (pending_in g.phase)) abort)
+
+pub notes_same : (f g : Client) → pending_in g.phase ≡ pending_in f.phase → g.duties ≡ f.duties → ClientNotes f g
+notes_same f g pending duties = stays_noted (pending_in f.phase) (pending_in g.phase) f.duties g.duties pending (ap (λ (x : Duties). x.abort) duties)
+
+pub notes_behind : (f m g : Client) → pending_in g.phase ≡ pending_in m.phase → g.duties.abort ≡ m.duties.abort → ClientNotes f m → ClientNotes f g
+notes_behind f m g pending abort notes = abort ∙ (notes ∙ sym (ap (λ (z : Pending). abort_behind (pending_in f.phase) z f.duties.abort) pending))
+
+-- what is asked for isn't to be aborted
+pub asking_noted : (a z : Pending) (d e : Duties) (sent : Sent) (n : ℕ) → z ≡ IsAsking sent n → e.abort ≡ d.abort → NotesAbort a z d e
+asking_noted a z d e sent n asks abort = abort ∙ sym (ap (λ (y : Pending). abort_behind a y d.abort) asks ∙ by a)
+  where
+    by : (p : Pending) → abort_behind p (IsAsking sent n) d.abort ≡ d.abort
+    by NonePending = refl
+    by (IsPreparing at t rs transaction) = refl
+    by (IsAsking x k) = refl
+
+-- nothing was undecided before
+pub keeps_noted : (f g : Client) → ClientNotes f g → KeepsAbort f g
+keeps_noted f g notes none = notes ∙ none_noted (pending_in f.phase) (pending_in g.phase) f.duties.abort none
 
 -- ---- what a verdict is about
 
@@ -181,76 +249,76 @@ module _ (shows : Bool) (item : Present) (old new : View) (before after : Held) 
 
   module _ (s : Sending) (of : IsOfSession before.links.items s) where
     pub by_prepare_so : (place : ℕ) → (shows ≡ true → Does {X = ℕ} old new s.at.repo (Ok place) (PrepareWork s.at.session s.request (Ok place))) → HoldsLess before after
-        → (prepared_at pending_in q ≡ Some (s.at, s.request.tx)) ⊎ ((prepared_at pending_in q ≡ prepared_at a) × (is_preparing a ≡ true)) → PreparesSo item before.links.items before.cache.cache s a (pending_in q) → Quiet → KeepsDuties d e → TriesSoIf
-    by_prepare_so place call less pends prepares quiet keeps = λ none_left w. record { so = record { moves = Prepared s place (call w) of less; pends = pends; tries = (prepares, quiet); hands = keeps }; free = none_left; ends = tt }
+        → (prepared_at (pending_in q) ≡ Some (s.at, s.request.tx)) ⊎ ((prepared_at (pending_in q) ≡ prepared_at a) × (is_preparing a ≡ true)) → PreparesSo item before.links.items before.cache.cache s a (pending_in q) → Quiet → KeepsDuties d e → NotesAbort a (pending_in q) d e → TriesSoIf
+    by_prepare_so place call less pends prepares quiet keeps notes = λ none_left w. record { so = record { moves = Prepared s place (call w) of less; pends = pends; tries = (prepares, quiet); hands = keeps }; free = none_left; ends = tt; aborts = notes }
 
     module _ (idle : NoneAwaits 8 before.links.items) where
       pub by_prepare_refused_so : (k : Refusal) → (shows ≡ true → Does {X = ℕ} old new s.at.repo (Err k) (PrepareWork s.at.session s.request (Err k))) → Learns k s.at.repo before after → after.client ≡ before.client → StaysPending a (pending_in q) before after
-          → PreparesInVain item before.links.items before.cache.cache s a → Quiet → KeepsDuties d e → q ≡ Between → TriesSoIf
-      by_prepare_refused_so k call learns client stays vain quiet keeps over = λ none_left w. record { so = record { moves = PrepareRefused s k (call w) of idle learns client; pends = stays; tries = (vain, quiet); hands = keeps }; free = none_left; ends = over }
+          → PreparesInVain item before.links.items before.cache.cache s a → Quiet → KeepsDuties d e → q ≡ Between → NotesAbort a (pending_in q) d e → TriesSoIf
+      by_prepare_refused_so k call learns client stays vain quiet keeps over notes = λ none_left w. record { so = record { moves = PrepareRefused s k (call w) of idle learns client; pends = stays; tries = (vain, quiet); hands = keeps }; free = none_left; ends = over; aborts = notes }
 
       pub by_commit_so : (place : ℕ) → (shows ≡ true → Does {X = ℕ} old new s.at.repo (Ok place) (CommitWork s.at.session s.request (Ok place))) → InSession s.at before → WritesThere s.at.repo s.request.writes before.cache.cache → HoldsWritten s.request before.cache.cache → KeepsTry before after → pending_in q ≡ NonePending
-          → (left : Transaction) → SendsAlone item before.links.items before.cache.cache s left → EndsOwn true s.request.tx left came → KeepsDuties d e → q ≡ Between → TriesSoIf
-      by_commit_so place call joined wrote held keeps none left alone own kept over = λ none_left w. record { so = record { moves = Committed s place (call w) of joined wrote held idle keeps; pends = none; tries = (left, alone, own); hands = kept }; free = none_left; ends = over }
+          → (left : Transaction) → SendsAlone item before.links.items before.cache.cache s left → EndsOwn true s.request.tx left came → KeepsDuties d e → q ≡ Between → NotesAbort a (pending_in q) d e → TriesSoIf
+      by_commit_so place call joined wrote held keeps none left alone own kept over notes = λ none_left w. record { so = record { moves = Committed s place (call w) of joined wrote held idle keeps; pends = none; tries = (left, alone, own); hands = kept }; free = none_left; ends = over; aborts = notes }
 
       pub by_transform_so : (place : ℕ) (oref : Oref) (made : Obj) → (shows ≡ true → Does {X = ℕ} old new s.at.repo (Ok place) (CommitWork s.at.session s.request (Ok place)))
           → InSession s.at before → s.request.writes ≡ (oref, made) ∷ [] → oref.repo ≡ s.at.repo → HoldsWritten s.request before.cache.cache → KeepsMade oref made before after → pending_in q ≡ NonePending
-          → SendsTransform before.client before.links.items s → Quiet → KeepsDuties d e → TriesSoIf
-      by_transform_so place oref made call joined writes here held keeps none sends quiet kept = λ none_left w. record { so = record { moves = Transformed s place oref made (call w) of joined writes here held idle keeps; pends = none; tries = (sends, quiet); hands = kept }; free = none_left; ends = tt }
+          → SendsTransform before.client before.links.items s → Quiet → KeepsDuties d e → NotesAbort a (pending_in q) d e → TriesSoIf
+      by_transform_so place oref made call joined writes here held keeps none sends quiet kept notes = λ none_left w. record { so = record { moves = Transformed s place oref made (call w) of joined writes here held idle keeps; pends = none; tries = (sends, quiet); hands = kept }; free = none_left; ends = tt; aborts = notes }
 
       pub by_commit_refused_so : (k : Refusal) → (shows ≡ true → Does {X = ℕ} old new s.at.repo (Err k) (CommitWork s.at.session s.request (Err k))) → Learns k s.at.repo before after → after.client ≡ before.client → AsksBehind s k (pending_in q) after
-          → CommitsInVain item before.client before.links.items before.cache.cache s k (pending_in q) → Quiet → KeepsDuties d e → IsOver q → TriesSoIf
-      by_commit_refused_so k call learns client asks vain quiet keeps over = λ none_left w. record { so = record { moves = CommitRefused s k (call w) of idle learns client; pends = asks; tries = (vain, quiet); hands = keeps }; free = none_left; ends = over }
+          → CommitsInVain item before.client before.links.items before.cache.cache s k (pending_in q) → Quiet → KeepsDuties d e → IsOver q → NotesAbort a (pending_in q) d e → TriesSoIf
+      by_commit_refused_so k call learns client asks vain quiet keeps over notes = λ none_left w. record { so = record { moves = CommitRefused s k (call w) of idle learns client; pends = asks; tries = (vain, quiet); hands = keeps }; free = none_left; ends = over; aborts = notes }
 
   pub by_decide_so : (at : At) (t : Ts) (v : Verdict) → (shows ≡ true → Does {X = Verdict} old new at.repo (Ok v) (DecideWork at.session t true (Ok v))) → NoneAwaits 8 before.links.items → EndsSo v.commit before after → prepared_at a ≡ Some (at, t) → pending_in q ≡ NonePending
-      → (transaction : Transaction) → DecidesAll a at t transaction → EndsOwn v.commit t transaction came → (shows ≡ true → HandsVerdict old new a before.links.items d e) → q ≡ Between → TriesSoIf
-  by_decide_so at t v call idle ends may none transaction all own hands over = λ none_left w. record { so = record { moves = Decided at t v (call w) idle ends; pends = (may, none); tries = (transaction, all, own); hands = hands w }; free = none_left; ends = over }
+      → (transaction : Transaction) → DecidesAll a at t transaction → EndsOwn v.commit t transaction came → (shows ≡ true → HandsVerdict old new a before.links.items d e) → q ≡ Between → e.abort ≡ d.abort → TriesSoIf
+  by_decide_so at t v call idle ends may none transaction all own hands over notes = λ none_left w. record { so = record { moves = Decided at t v (call w) idle ends; pends = (may, none); tries = (transaction, all, own); hands = hands w }; free = none_left; ends = over; aborts = notes }
 
   pub by_decide_refused_so : (at : At) (t : Ts) (k : Refusal) → (shows ≡ true → Does {X = Verdict} old new at.repo (Err k) (DecideWork at.session t true (Err k))) → Loses k at.repo before after → after.client ≡ before.client → RefusesToDecide true at t a (pending_in q) before after
-      → (transaction : Transaction) → DecidesAll a at t transaction → pending_in q ≡ IsAsking (record { ts = t; at = at; meaning = transaction.meaning; participants = transaction.participants }) 0 → Quiet → KeepsDuties d e → TriesSoIf
-  by_decide_refused_so at t k call loses client pends transaction all asks quiet keeps = λ none_left w. record { so = record { moves = DecideRefused at t true k (call w) loses client; pends = pends; tries = (transaction, all, asks, quiet); hands = keeps }; free = none_left; ends = tt }
+      → (transaction : Transaction) → DecidesAll a at t transaction → pending_in q ≡ IsAsking (record { ts = t; at = at; meaning = transaction.meaning; participants = transaction.participants }) 0 → Quiet → KeepsDuties d e → NotesAbort a (pending_in q) d e → TriesSoIf
+  by_decide_refused_so at t k call loses client pends transaction all asks quiet keeps notes = λ none_left w. record { so = record { moves = DecideRefused at t true k (call w) loses client; pends = pends; tries = (transaction, all, asks, quiet); hands = keeps }; free = none_left; ends = tt; aborts = notes }
 
-  pub by_abort_so : (at : At) (t : Ts) (v : Verdict) → (shows ≡ true → Does {X = Verdict} old new at.repo (Ok v) (DecideWork at.session t false (Ok v))) → HoldsLess before after → StaysPending a (pending_in q) before after → AbortsNext at t v d e → Quiet → So
-  by_abort_so at t v call less stays aborts quiet = λ w. record { so = record { moves = Aborted at t v (call w) less; pends = stays; tries = quiet; hands = aborts }; free = tt; ends = tt }
+  pub by_abort_so : (at : At) (t : Ts) (v : Verdict) → (shows ≡ true → Does {X = Verdict} old new at.repo (Ok v) (DecideWork at.session t false (Ok v))) → HoldsLess before after → StaysPending a (pending_in q) before after → AbortsNext at t v d e → Quiet → AbortsNone e → So
+  by_abort_so at t v call less stays aborts quiet notes = λ w. record { so = record { moves = Aborted at t v (call w) less; pends = stays; tries = quiet; hands = aborts }; free = tt; ends = tt; aborts = notes }
 
-  pub by_abort_refused_so : (at : At) (t : Ts) (k : Refusal) → (shows ≡ true → Does {X = Verdict} old new at.repo (Err k) (DecideWork at.session t false (Err k))) → Loses k at.repo before after → after.client ≡ before.client → StaysPending a (pending_in q) before after → AbortsInVain at t d e → Quiet → So
-  by_abort_refused_so at t k call loses client stays aborts quiet = λ w. record { so = record { moves = DecideRefused at t false k (call w) loses client; pends = stays; tries = quiet; hands = aborts }; free = tt; ends = tt }
+  pub by_abort_refused_so : (at : At) (t : Ts) (k : Refusal) → (shows ≡ true → Does {X = Verdict} old new at.repo (Err k) (DecideWork at.session t false (Err k))) → Loses k at.repo before after → after.client ≡ before.client → StaysPending a (pending_in q) before after → AbortsInVain at t d e → Quiet → AbortsNone e → So
+  by_abort_refused_so at t k call loses client stays aborts quiet notes = λ w. record { so = record { moves = DecideRefused at t false k (call w) loses client; pends = stays; tries = quiet; hands = aborts }; free = tt; ends = tt; aborts = notes }
 
-  pub by_finish_so : (r : ℕ) (v : Verdict) (answered : Bool) → (shows ≡ true → IsFinished old new r v answered) → HoldsLess before after → StaysPending a (pending_in q) before after → TellsNext r v.tx v.commit answered d e → Quiet → So
-  by_finish_so r v answered call less stays tells quiet = λ w. record { so = record { moves = Finished r v.tx v.commit (call w).result (call w).call less; pends = stays; tries = quiet; hands = inl (subst (λ (b : Bool). TellsNext r v.tx v.commit b d e) (call w).answered_is tells) }; free = tt; ends = tt }
+  pub by_finish_so : (r : ℕ) (v : Verdict) (answered : Bool) → (shows ≡ true → IsFinished old new r v answered) → HoldsLess before after → StaysPending a (pending_in q) before after → TellsNext r v.tx v.commit answered d e → Quiet → NotesAbort a (pending_in q) d e → So
+  by_finish_so r v answered call less stays tells quiet notes = λ w. record { so = record { moves = Finished r v.tx v.commit (call w).result (call w).call less; pends = stays; tries = quiet; hands = inl (subst (λ (b : Bool). TellsNext r v.tx v.commit b d e) (call w).answered_is tells) }; free = tt; ends = tt; aborts = notes }
 
-  pub by_help_so : (r : ℕ) (v : Verdict) → (shows ≡ true → IsFinishedSo old new r v) → HoldsLess before after → StaysPending a (pending_in q) before after → TellsRefuser r v.tx v.commit d e → Quiet → So
-  by_help_so r v call less stays tells quiet = λ w. record { so = record { moves = Finished r v.tx v.commit (call w).1.result (call w).1.call less; pends = stays; tries = quiet; hands = inr tells }; free = tt; ends = tt }
+  pub by_help_so : (r : ℕ) (v : Verdict) → (shows ≡ true → IsFinishedSo old new r v) → HoldsLess before after → StaysPending a (pending_in q) before after → TellsRefuser r v.tx v.commit d e → Quiet → NotesAbort a (pending_in q) d e → So
+  by_help_so r v call less stays tells quiet notes = λ w. record { so = record { moves = Finished r v.tx v.commit (call w).1.result (call w).1.call less; pends = stays; tries = quiet; hands = inr tells }; free = tt; ends = tt; aborts = notes }
 
-  pub by_forget_so : (t : Ts) → (shows ≡ true → IsForgotten old new t) → HoldsLess before after → StaysPending a (pending_in q) before after → ForgetsNext t.repo t d e → Quiet → So
-  by_forget_so t call less stays forgets quiet = λ w. record { so = record { moves = Forgot t.repo t (call w).result (call w).call less; pends = stays; tries = quiet; hands = forgets }; free = tt; ends = tt }
+  pub by_forget_so : (t : Ts) → (shows ≡ true → IsForgotten old new t) → HoldsLess before after → StaysPending a (pending_in q) before after → ForgetsNext t.repo t d e → Quiet → NotesAbort a (pending_in q) d e → So
+  by_forget_so t call less stays forgets quiet notes = λ w. record { so = record { moves = Forgot t.repo t (call w).result (call w).call less; pends = stays; tries = quiet; hands = forgets }; free = tt; ends = tt; aborts = notes }
 
-  pub by_ask_so : (r : ℕ) (t : Ts) (result : Result answer.Asked Refusal) → (shows ≡ true → Does old new r result (AskWork t result)) → HoldsLess before after → StaysPending a (pending_in q) before after → Quiet → (shows ≡ true → HandsTold old new a before.links.items d e) → So
-  by_ask_so r t result call less stays quiet hands = λ w. record { so = record { moves = Unsent (Asked r t result (call w) less); pends = stays; tries = quiet; hands = hands w }; free = tt; ends = tt }
+  pub by_ask_so : (r : ℕ) (t : Ts) (result : Result answer.Asked Refusal) → (shows ≡ true → Does old new r result (AskWork t result)) → HoldsLess before after → StaysPending a (pending_in q) before after → Quiet → (shows ≡ true → HandsTold old new a before.links.items d e) → NotesAbort a (pending_in q) d e → So
+  by_ask_so r t result call less stays quiet hands notes = λ w. record { so = record { moves = Unsent (Asked r t result (call w) less); pends = stays; tries = quiet; hands = hands w }; free = tt; ends = tt; aborts = notes }
 
   pub by_own_answer_so : (r : ℕ) (t : Ts) (v : Verdict) → (shows ≡ true → Does {X = answer.Asked} old new r (Ok (answers.Settled v)) (AskWork t (Ok (answers.Settled v)))) → EndsSo v.commit before after → (at : At) → asked_at a ≡ Some (at, t) → pending_in q ≡ NonePending
-      → (sent : Sent) (n : ℕ) → AsksOwn a r t sent n → EndsAsked v.commit sent came → (shows ≡ true → HandsVerdict old new a before.links.items d e) → q ≡ Between → So
-  by_own_answer_so r t v call ends at asks none sent n asked own hands over = λ w. record { so = record { moves = AskedOwn r t v (call w) ends; pends = ((at, asks), none); tries = (sent, n, asked, own); hands = hands w }; free = tt; ends = over }
+      → (sent : Sent) (n : ℕ) → AsksOwn a r t sent n → EndsAsked v.commit sent came → (shows ≡ true → HandsVerdict old new a before.links.items d e) → q ≡ Between → NotesAbort a (pending_in q) d e → So
+  by_own_answer_so r t v call ends at asks none sent n asked own hands over notes = λ w. record { so = record { moves = AskedOwn r t v (call w) ends; pends = ((at, asks), none); tries = (sent, n, asked, own); hands = hands w }; free = tt; ends = over; aborts = notes }
 
   pub by_no_answer_so : (r : ℕ) (t : Ts) (result : Result answer.Asked Refusal) → (shows ≡ true → Does old new r result (AskWork t result)) → LeavesLess before after → (at : At) → asked_at a ≡ Some (at, t) → StaysAsked a (pending_in q) before after
-      → (sent : Sent) (n : ℕ) → AsksOwn a r t sent n → AsksInVain item after r sent n (pending_in q) came → KeepsDuties d e → IsOver q → So
-  by_no_answer_so r t result call leaves at asks stays sent n asked vain keeps over = λ w. record { so = record { moves = AskedInVain r t result (call w) leaves.1 leaves.0 leaves.2; pends = ((at, asks), stays); tries = (sent, n, asked, vain); hands = keeps }; free = tt; ends = over }
+      → (sent : Sent) (n : ℕ) → AsksOwn a r t sent n → AsksInVain item after r sent n (pending_in q) came → KeepsDuties d e → IsOver q → NotesAbort a (pending_in q) d e → So
+  by_no_answer_so r t result call leaves at asks stays sent n asked vain keeps over notes = λ w. record { so = record { moves = AskedInVain r t result (call w) leaves.1 leaves.0 leaves.2; pends = ((at, asks), stays); tries = (sent, n, asked, vain); hands = keeps }; free = tt; ends = over; aborts = notes }
 
   -- the verdict on a transaction was told, which may be that of an Unknown item
   pub by_settled_so : (r : ℕ) (t : Ts) (o : answer.Asked) (v : Verdict) → o ≡ answers.Settled v → (shows ≡ true → Does {X = answer.Asked} old new r (Ok o) (AskWork t (Ok o))) → pending_in q ≡ a → after.cache ≡ before.cache → MaySettle r before after
-      → Quiet → (shows ≡ true → HandsTold old new a before.links.items d e) → So
-  by_settled_so r t o v is call same cache may quiet hands = λ w. by (answer_told shows old new r t o v is call w) (hands w) may
+      → Quiet → (shows ≡ true → HandsTold old new a before.links.items d e) → NotesAbort a (pending_in q) d e → So
+  by_settled_so r t o v is call same cache may quiet hands notes = λ w. by (answer_told shows old new r t o v is call w) (hands w) may
     where
       kept_so : WritesStay before.cache.cache after.cache.cache
       kept_so x = ap (λ (k : Copies). changed k.cache x) cache
 
       by : Does {X = answer.Asked} old new r (Ok (answers.Settled v)) (AskWork t (Ok (answers.Settled v))) → HandsTold old new a before.links.items d e → MaySettle r before after → StepsInOrder item old new before after a q d e came
-      by c h (inl f) = record { so = record { moves = Unsent (Asked r t (Ok (answers.Settled v)) c f); pends = inr (same, still_written before after f.1 kept_so); tries = quiet; hands = h }; free = tt; ends = tt }
-      by c h (inr f) = record { so = record { moves = Unsent (Settled r t v f.sent f.index c f.there f.links f.client f.fewer); pends = inr (same, settled_written r f.sent f.index before after f.there f.links kept_so); tries = quiet; hands = h }; free = tt; ends = tt }
+      by c h (inl f) = record { so = record { moves = Unsent (Asked r t (Ok (answers.Settled v)) c f); pends = inr (same, still_written before after f.1 kept_so); tries = quiet; hands = h }; free = tt; ends = tt; aborts = notes }
+      by c h (inr f) = record { so = record { moves = Unsent (Settled r t v f.sent f.index c f.there f.links f.client f.fewer); pends = inr (same, settled_written r f.sent f.index before after f.there f.links kept_so); tries = quiet; hands = h }; free = tt; ends = tt; aborts = notes }
 
   -- a call that sends nothing, behind which nothing is undecided
-  pub by_sends_so : SendsNothingIf shows old new before after → pending_in q ≡ NonePending → Quiet → HandsIf shows old new a before.links.items d e → TriesSoIf
-  by_sends_so sends none quiet hands = λ none_left w. record { so = record { moves = Unsent (sends w); pends = sends_free old new before after a (pending_in q) (sends w) none; tries = quiet; hands = hands w }; free = sends_freely old new before after d none_left (sends w); ends = tt }
+  pub by_sends_so : SendsNothingIf shows old new before after → pending_in q ≡ NonePending → Quiet → HandsIf shows old new a before.links.items d e → NotesAbort a (pending_in q) d e → TriesSoIf
+  by_sends_so sends none quiet hands notes = λ none_left w. record { so = record { moves = Unsent (sends w); pends = sends_free old new before after a (pending_in q) (sends w) none; tries = quiet; hands = hands w }; free = sends_freely old new before after d none_left (sends w); ends = tt; aborts = notes }
 
   pub moves_of : So → MovesSoIf shows old new before after a (pending_in q)
   moves_of f = λ w. record { moves = (f w).so.moves; pends = (f w).so.pends }
@@ -261,48 +329,48 @@ asks_on q sent n asks none = absurd (let no : IsAsking sent n ≡ NonePending = 
 
 -- nothing was called
 module _ (shows : Bool) (item : Present) (view : View) (before after : Held) (a : Pending) (q : Phase) (d e : Duties) (came : News) where
-  pub by_rest : HoldsLess before after → StaysPending a (pending_in q) before after → is_ended came ≡ false → (shows ≡ true → HandsTold view view a before.links.items d e) → StepsInOrderIf shows item view view before after a q d e came
-  by_rest less stays quiet hands = λ w. record { so = record { moves = Unsent (Rested refl less); pends = stays; tries = quiet; hands = hands w }; free = tt; ends = tt }
+  pub by_rest : HoldsLess before after → StaysPending a (pending_in q) before after → is_ended came ≡ false → (shows ≡ true → HandsTold view view a before.links.items d e) → NotesAbort a (pending_in q) d e → StepsInOrderIf shows item view view before after a q d e came
+  by_rest less stays quiet hands notes = λ w. record { so = record { moves = Unsent (Rested refl less); pends = stays; tries = quiet; hands = hands w }; free = tt; ends = tt; aborts = notes }
 
-  pub by_rest_kept : HoldsLess before after → StaysPending a (pending_in q) before after → is_ended came ≡ false → e.verdicts ≡ d.verdicts → e.helping ≡ d.helping → StepsInOrderIf shows item view view before after a q d e came
-  by_rest_kept less stays quiet v h = by_rest less stays quiet (λ w. told_nothing view view a before.links.items d e v h)
+  pub by_rest_kept : HoldsLess before after → StaysPending a (pending_in q) before after → is_ended came ≡ false → e.verdicts ≡ d.verdicts → e.helping ≡ d.helping → NotesAbort a (pending_in q) d e → StepsInOrderIf shows item view view before after a q d e came
+  by_rest_kept less stays quiet v h notes = by_rest less stays quiet (λ w. told_nothing view view a before.links.items d e v h) notes
 
   -- the same of a try that would go on
-  pub by_rest_free : HoldsLess before after → StaysPending a (pending_in q) before after → is_ended came ≡ false → e.verdicts ≡ d.verdicts → e.helping ≡ d.helping → OwesNone d → StepsInOrderIf shows item view view before after a q d e came
-  by_rest_free less stays quiet v h none = by_rest_kept less stays quiet v h
+  pub by_rest_free : HoldsLess before after → StaysPending a (pending_in q) before after → is_ended came ≡ false → e.verdicts ≡ d.verdicts → e.helping ≡ d.helping → NotesAbort a (pending_in q) d e → OwesNone d → StepsInOrderIf shows item view view before after a q d e came
+  by_rest_free less stays quiet v h notes none = by_rest_kept less stays quiet v h notes
 
 -- ---- messages
 
-module _ (item : Present) (old new : View) (at : At) (before mid after : Held) (rest : mid ≡ record before { links = mid.links }) (joined : InSession at before) (shows : Bool) (p : Pending) (q : Phase) (d e : Duties) (came : News) (quiet : is_ended came ≡ false) (keeps : KeepsDuties d e) where
+module _ (item : Present) (old new : View) (at : At) (before mid after : Held) (rest : mid ≡ record before { links = mid.links }) (joined : InSession at before) (shows : Bool) (p : Pending) (q : Phase) (d e : Duties) (came : News) (quiet : is_ended came ≡ false) (keeps : KeepsDuties d e) (notes : NotesAbort p (pending_in q) d e) where
   pub by_message_so : (o : Option Message) (m : Message) → o ≡ Some m → (shows ≡ true → Does {X = Option Message} old new at.repo (Ok o) (ReceiveWork at.session (Ok o)))
       → mid.links.items ≡ links_behind (Ok o) at.repo before.links.items → TakesCopies at.repo m mid after → StaysPending p (pending_in q) mid after → StepsInOrderIf shows item old new before after p q d e came
   unfolding receiving.by_message receiving.taken
   by_message_so o m is call links t stays = λ w.
       let k : MovesSo old new before after p (pending_in q) = receiving.by_message old new at before mid after rest joined shows o m is call links t p (pending_in q) stays w in
-      record { so = record { moves = k.moves; pends = k.pends; tries = quiet; hands = keeps }; free = tt; ends = tt }
+      record { so = record { moves = k.moves; pends = k.pends; tries = quiet; hands = keeps }; free = tt; ends = tt; aborts = notes }
 
   refused_steps : (k : Refusal) → Does {X = Option Message} old new at.repo (Err k) (ReceiveWork at.session (Err k)) → mid.links.items ≡ before.links.items → EndsReceive k at.repo mid after
       → StaysPending p (pending_in q) before after → StepsInOrder item old new before after p q d e came
   unfolding receiving.refused_so
-  refused_steps k c links (LosesThere l client) stays = record { so = record { moves = receiving.refused_so old new at before mid after rest joined k c links (LosesThere l client); pends = stays; tries = quiet; hands = keeps }; free = tt; ends = tt }
-  refused_steps k c links (StopsThere g s client f) stays = record { so = record { moves = receiving.refused_so old new at before mid after rest joined k c links (StopsThere g s client f); pends = stays; tries = quiet; hands = keeps }; free = tt; ends = tt }
+  refused_steps k c links (LosesThere l client) stays = record { so = record { moves = receiving.refused_so old new at before mid after rest joined k c links (LosesThere l client); pends = stays; tries = quiet; hands = keeps }; free = tt; ends = tt; aborts = notes }
+  refused_steps k c links (StopsThere g s client f) stays = record { so = record { moves = receiving.refused_so old new at before mid after rest joined k c links (StopsThere g s client f); pends = stays; tries = quiet; hands = keeps }; free = tt; ends = tt; aborts = notes }
 
   pub by_refusal_so : (k : Refusal) → (shows ≡ true → Does {X = Option Message} old new at.repo (Err k) (ReceiveWork at.session (Err k))) → mid.links.items ≡ before.links.items
       → EndsReceive k at.repo mid after → StaysPending p (pending_in q) mid after → StepsInOrderIf shows item old new before after p q d e came
   by_refusal_so k call links ends stays = λ w. refused_steps k (call w) links ends (receiving.behind_taken old new at before mid after rest joined p (pending_in q) None links stays)
 
-module _ (item : Present) (shows : Bool) (old new : View) (at : At) (before mid : Held) (k : ReceivesNone shows old new at before mid) (joined : InSession at before) (p : Pending) (q : Phase) (same : pending_in q ≡ p) (d e : Duties) (keeps : KeepsDuties d e) where
+module _ (item : Present) (shows : Bool) (old new : View) (at : At) (before mid : Held) (k : ReceivesNone shows old new at before mid) (joined : InSession at before) (p : Pending) (q : Phase) (same : pending_in q ≡ p) (d e : Duties) (keeps : KeepsDuties d e) (notes : NotesAbort p (pending_in q) d e) where
   pub by_none_so : StepsInOrderIf shows item old new before mid p q d e news.Nothing
   unfolding receiving.by_none
   by_none_so = λ w.
       let m : MovesSo old new before mid p (pending_in q) = receiving.by_none shows old new at before mid k joined p (pending_in q) same w in
-      record { so = record { moves = m.moves; pends = m.pends; tries = refl; hands = keeps }; free = tt; ends = tt }
+      record { so = record { moves = m.moves; pends = m.pends; tries = refl; hands = keeps }; free = tt; ends = tt; aborts = notes }
 
   pub by_none_idle_so : (after : Held) → after ≡ record mid { links = after.links } → after.links.items ≡ at_repo mid.links.items at.repo (waiting Idle) → StepsInOrderIf shows item old new before after p q d e news.Nothing
   unfolding receiving.by_none_idle
   by_none_idle_so after rest links = λ w.
       let m : MovesSo old new before after p (pending_in q) = receiving.by_none_idle shows old new at before mid k joined after rest links p (pending_in q) same w in
-      record { so = record { moves = m.moves; pends = m.pends; tries = refl; hands = keeps }; free = tt; ends = tt }
+      record { so = record { moves = m.moves; pends = m.pends; tries = refl; hands = keeps }; free = tt; ends = tt; aborts = notes }
 
 -- ---- a client of which the names that it may give are others
 
@@ -349,6 +417,27 @@ module _ (item : Present) (old new : View) (a b after : Held) (p z : Pending) (d
   spent_hands (AskedOwn r t v c f) h = h
   spent_hands (AskedInVain r t result c leaves client f) h = h
 
+  spent_aborts : (n : Moves old new (record a { names = b.names }) after) → AbortsSo old new (record a { names = b.names }) after n p z d e → AbortsSo old new a after (spending.other_names old new a b after n) p z d e
+  unfolding spending.other_names
+  spent_aborts (Unsent n) h = h
+  spent_aborts (Received at n c joined t client) h = h
+  spent_aborts (ReceivedNone at c joined links client f) h = h
+  spent_aborts (ReceiveRefused at k c joined l client) h = h
+  spent_aborts (ReceiveStopped at k c joined out s client f) h = h
+  spent_aborts (Prepared s place c of less) h = h
+  spent_aborts (PrepareRefused s k c of idle l client) h = h
+  spent_aborts (Committed s place c of joined wrote held idle keeps) h = h
+  spent_aborts (Transformed s place oref made c of joined writes here held idle keeps) h = h
+  spent_aborts (CommitRefused s k c of idle l client) h = h
+  spent_aborts (Decided at t v c idle f) h = h
+  spent_aborts (Aborted at t v c less) h = h
+  spent_aborts (DecideRefused at t true k c l client) h = h
+  spent_aborts (DecideRefused at t false k c l client) h = h
+  spent_aborts (Finished r t commit result c less) h = h
+  spent_aborts (Forgot r t result c less) h = h
+  spent_aborts (AskedOwn r t v c f) h = h
+  spent_aborts (AskedInVain r t result c leaves client f) h = h
+
   spent_ends : (q : Phase) (n : Moves old new (record a { names = b.names }) after) → EndsTry old new (record a { names = b.names }) after n q → EndsTry old new a after (spending.other_names old new a b after n) q
   unfolding spending.other_names
   spent_ends q (Unsent n) h = h
@@ -378,10 +467,12 @@ module _ (item : Present) (old new : View) (a b after : Held) (p z : Pending) (d
   }
 
 pub spent_steps : (item : Present) (old new : View) (a b after : Held) (p : Pending) (q : Phase) (d e : Duties) (came : News) → OwesNone d → StepsInOrder item old new (record a { names = b.names }) after p q d e came → StepsInOrder item old new a after p q d e came
+unfolding spent_so spending.other_names
 spent_steps item old new a b after p q d e came none m = record {
   so = spent_so item old new a b after p (pending_in q) d e came m.so;
   free = goes_freely old new a after d none (spending.other_names old new a b after m.so.moves);
   ends = spent_ends item old new a b after p (pending_in q) d e came q m.so.moves m.ends;
+  aborts = spent_aborts item old new a b after p (pending_in q) d e came m.so.moves m.aborts;
 }
 
 -- ---- what stands before and behind a call
@@ -402,14 +493,14 @@ module _ (shows : Bool) (item : Present) (old new : View) where
   from_idle k f g q p a rest e result h idle = from_phase k f g q p a rest e result (h (subst (λ (x : Client). NoneAwaits 8 x.held.links.items) (sym rest) idle))
 
   -- a call that sends nothing
-  pub sends_from : (f g : Client) (a : Pending) (result : Result News NoMemory) → OnOk result (SendsNothingIf shows old new f.held g.held) → pending_in g.phase ≡ NonePending → IfOk result (λ n. is_ended n ≡ false) → OnOk result (ClientHands shows old new f g)
+  pub sends_from : (f g : Client) (a : Pending) → pending_in f.phase ≡ NonePending → a ≡ NonePending → (result : Result News NoMemory) → OnOk result (SendsNothingIf shows old new f.held g.held) → pending_in g.phase ≡ NonePending → IfOk result (λ n. is_ended n ≡ false) → OnOk result (ClientHands shows old new f g)
       → IfOk result (TriesFrom shows item old new a f g)
-  sends_from f g a (Ok n) sends none quiet hands = by_sends_so shows item old new f.held g.held a g.phase f.duties g.duties n sends none quiet (hands a)
-  sends_from f g a (Err e) sends none quiet hands = tt
+  sends_from f g a free unsent (Ok n) sends none quiet hands = by_sends_so shows item old new f.held g.held a g.phase f.duties g.duties n sends none quiet (hands.0 a) (free_noted a (pending_in g.phase) f.duties g.duties unsent (hands.1 free))
+  sends_from f g a free unsent (Err e) sends none quiet hands = tt
 
-  pub sends_idle_from : (k f g : Client) (q : Phase) (p : Pending) → f ≡ record k { phase = q } → (result : Result News NoMemory) → (NoneAwaits 8 f.held.links.items → OnOk result (SendsNothingIf shows old new f.held g.held)) → pending_in g.phase ≡ NonePending → IfOk result (λ n. is_ended n ≡ false) → OnOk result (ClientHands shows old new f g)
+  pub sends_idle_from : (k f g : Client) (q : Phase) (p : Pending) → f ≡ record k { phase = q } → pending_in q ≡ NonePending → p ≡ NonePending → (result : Result News NoMemory) → (NoneAwaits 8 f.held.links.items → OnOk result (SendsNothingIf shows old new f.held g.held)) → pending_in g.phase ≡ NonePending → IfOk result (λ n. is_ended n ≡ false) → OnOk result (ClientHands shows old new f g)
       → NoneAwaits 8 k.held.links.items → IfOk result (TriesFrom shows item old new p k g)
-  sends_idle_from k f g q p rest result sends none quiet hands = from_idle k f g q p p rest refl result (λ idle. sends_from f g p result (sends idle) none quiet hands)
+  sends_idle_from k f g q p rest over unsent result sends none quiet hands = from_idle k f g q p p rest refl result (λ idle. sends_from f g p (ap (λ (x : Client). pending_in x.phase) rest ∙ over) unsent result (sends idle) none quiet hands)
 
 -- what is told of a refused call, with what is told of what that came to
 pub both_if : {T : Type 0} {P Q : T → Type 0} {A : Type 0} (r : Result T NoMemory) → ((x : T) → P x → A → Q x) → IfOk r P → OnOk r A → IfOk r Q
@@ -425,6 +516,16 @@ all_if (Err e) f p a b = tt
 pub each_if : {T : Type 0} {P Q : T → Type 0} {A B C : Type 0} (r : Result T NoMemory) → ((x : T) → P x → A → B → C → Q x) → IfOk r P → OnOk r A → OnOk r B → OnOk r C → IfOk r Q
 each_if (Ok x) f p a b c = f x p a b c
 each_if (Err e) f p a b c = tt
+
+-- and of five
+pub every_if : {T : Type 0} {P Q : T → Type 0} {A B C D : Type 0} (r : Result T NoMemory) → ((x : T) → P x → A → B → C → D → Q x) → IfOk r P → OnOk r A → OnOk r B → OnOk r C → OnOk r D → IfOk r Q
+every_if (Ok x) f p a b c d = f x p a b c d
+every_if (Err e) f p a b c d = tt
+
+-- a client that asks has something to ask for
+pub never_none : (o : Option (Sent × ℕ)) → IsSome o → o ≡ None → ⊥
+never_none None some none = cc
+never_none (Some x) some none = cc
 
 -- no more calls are left than before
 pub owes_no_more : {X : Type 0} (result : Result X NoMemory) (f g : Client) (n : ℕ) → ((tries : ℕ) → uncounted tries g ≤ uncounted tries f) → OnOk result ((tries : ℕ) → uncounted tries g ≤ uncounted tries f + n)
@@ -506,6 +607,14 @@ module _ (item : Present) (f : Client) (s : Sending) (a z : Pending) (h : IsSent
   pub more_prepared : z ≡ noted s.at.repo (pending_in f.phase) → HoldsThere s f.held.links.items f.held.cache.cache → PreparesSo item f.held.links.items f.held.cache.cache s a z
   more_prepared e holds = PreparesNext h.at h.rs h.left h.sends holds (e ∙ ap (noted s.at.repo) h.now)
 
+  -- nothing is to be aborted by that
+  pub more_noted : (d : Duties) → z ≡ noted s.at.repo (pending_in f.phase) → NotesAbort a z d d
+  more_noted d e = sym (ap (λ (p : Pending). abort_behind p z d.abort) h.sends.was ∙ ap (λ (y : Pending). abort_behind (IsPreparing h.at s.request.tx h.rs h.sends.transaction) y d.abort) (e ∙ ap (noted s.at.repo) h.now))
+
+  -- where it is refused, what the coordinator has prepared is to be aborted
+  pub refused_noted : (d e : Duties) → NotesAbort (pending_in f.phase) z d e → NotesAbort a z d e
+  refused_noted d e notes = notes ∙ (ap (λ (p : Pending). abort_behind p z d.abort) h.now ∙ sym (ap (λ (p : Pending). abort_behind p z d.abort) h.sends.was))
+
   pub more_refused : PreparesInVain item f.held.links.items f.held.cache.cache s a
   more_refused = RefusesNext h.at h.rs h.left h.sends
 
@@ -516,8 +625,8 @@ module _ (shows : Bool) (item : Present) (old new : View) (before after : Held) 
   pub decided_so : (a : Pending) (at : At) (sent : Sent) (v : Verdict) → (shows ≡ true → Does {X = Verdict} old new at.repo (Ok v) (DecideWork at.session sent.ts true (Ok v))) → NoneAwaits 8 before.links.items
       → (transaction : Transaction) → DecidesAll a at sent.ts transaction → sent ≡ sent_of sent.ts at transaction
       → (result : Result News NoMemory) → OnOk result (EndsSo v.commit before after) → OnOk result (q ≡ Between) → IfOk result (EndsAsked v.commit sent)
-      → OnOk result (e.verdicts ≡ handed v (others_in sent.participants (first_in sent.participants)) d.verdicts) → OnOk result (e.helping ≡ d.helping) → IfOk result (λ n. OwesNone d → StepsInOrderIf shows item old new before after a q d e n)
-  decided_so a at sent v call idle transaction all is (Ok n) ends over own verdicts helping =
+      → OnOk result (e.verdicts ≡ handed v (others_in sent.participants (first_in sent.participants)) d.verdicts) → OnOk result (e.helping ≡ d.helping) → OnOk result (e.abort ≡ d.abort) → IfOk result (λ n. OwesNone d → StepsInOrderIf shows item old new before after a q d e n)
+  decided_so a at sent v call idle transaction all is (Ok n) ends over own verdicts helping abort =
       by_decide_so shows item old new before after a q d e n at sent.ts v call idle ends (ap prepared_at all.was) (ap pending_in over) transaction all (own_of v.commit own) (λ w. record {
         verdicts = record {
           r = at.repo;
@@ -529,7 +638,7 @@ module _ (shows : Bool) (item : Present) (old new : View) (before after : Held) 
           behind = verdicts;
         };
         helping = helping;
-      }) over
+      }) over abort
     where
       at_is : sent.at ≡ at
       at_is = ap (λ (x : Sent). x.at) is
@@ -537,12 +646,12 @@ module _ (shows : Bool) (item : Present) (old new : View) (before after : Held) 
       own_of : (b : Bool) → EndsAsked b sent n → EndsOwn b sent.ts transaction n
       own_of true h = h ∙ ap (λ (x : Sent). news.Ended (committed_as sent.ts x.meaning)) is
       own_of false h = h
-  decided_so a at sent v call idle transaction all is (Err k) ends over own verdicts helping = tt
+  decided_so a at sent v call idle transaction all is (Err k) ends over own verdicts helping abort = tt
 
   pub answered_so : (r : ℕ) (sent : Sent) (n : ℕ) (o : answer.Asked) (v : Verdict) → o ≡ answers.Settled v → (shows ≡ true → Does {X = answer.Asked} old new r (Ok o) (AskWork sent.ts (Ok o))) → r ≡ first_in sent.participants
       → (result : Result News NoMemory) → OnOk result (EndsSo v.commit before after) → OnOk result (q ≡ Between) → IfOk result (EndsAsked v.commit sent)
-      → OnOk result (e.verdicts ≡ handed v (others_in sent.participants (first_in sent.participants)) d.verdicts) → OnOk result (e.helping ≡ d.helping) → IfOk result (StepsInOrderIf shows item old new before after (IsAsking sent n) q d e)
-  answered_so r sent n o v is call coordinator (Ok x) ends over own verdicts helping =
+      → OnOk result (e.verdicts ≡ handed v (others_in sent.participants (first_in sent.participants)) d.verdicts) → OnOk result (e.helping ≡ d.helping) → OnOk result (e.abort ≡ d.abort) → IfOk result (StepsInOrderIf shows item old new before after (IsAsking sent n) q d e)
+  answered_so r sent n o v is call coordinator (Ok x) ends over own verdicts helping abort =
       by_own_answer_so shows item old new before after (IsAsking sent n) q d e x r sent.ts v (answer_told shows old new r sent.ts o v is call) ends sent.at refl (ap pending_in over) sent n (record { was = refl; tx = refl; coordinator = coordinator }) own (λ w. record {
         verdicts = record {
           r = r;
@@ -554,8 +663,8 @@ module _ (shows : Bool) (item : Present) (old new : View) (before after : Held) 
           behind = verdicts;
         };
         helping = helping;
-      }) over
-  answered_so r sent n o v is call coordinator (Err k) ends over own verdicts helping = tt
+      }) over abort
+  answered_so r sent n o v is call coordinator (Err k) ends over own verdicts helping abort = tt
 
 -- the verdict on an Unknown item was told, and is handed on
 pub tells_late : (old new : View) (a : Pending) (links : List Link) (r : ℕ) (sent : Sent) (index : ℕ) (v : Verdict) (before after : List Duty) → slice_get links r ≡ Some (UnsettledLink sent index) → v.tx ≡ sent.ts → IsToldBy old new r v.tx v.commit

@@ -9,10 +9,11 @@ use Rattle.client_port.specs.Works.{Does, FinishWork, ForgetWork}
 use Rattle.client_state.specs.Handing.{HandsIf, is_answered}
 use Rattle.base_reasons.specs.declared.reason.Reason.TheVariants as reasons
 use Rattle.client_state.specs.Moving.{Aborted, Asked, AskedInVain, AskedOwn, CommitRefused, Committed, Connected, DecideRefused, Decided, Drawn, Fetched, Finished, Forgot, Granted, Moves, MovesIf, PrepareRefused, Prepared, ReceiveRefused, ReceiveStopped, Received, ReceivedNone, Rested, SendsNothing, Settled, Transformed, Unsent}
-use Rattle.client_state.specs.Pending.{IsPreparing, NonePending, Pending, pending_in}
+use Rattle.client_state.specs.Pending.{IsAsking, IsPreparing, NonePending, Pending, pending_in}
 use Rattle.client_state.specs.Reading.{phase_reads}
 use Rattle.client_state.specs.Settling.{NewsAsSent}
 use Rattle.client_state.specs.Stepping.{Present, SendsMore, StepsSo}
+use Rattle.client_state.specs.declared.duties.Abort.{Abort}
 use Rattle.client_state.specs.declared.duties.Duties.{Duties}
 use Rattle.client_state.specs.declared.duties.Helping.{Helping}
 use Rattle.client_state.specs.declared.held.Held.{Held}
@@ -98,12 +99,57 @@ EndsTry old new before after (Forgot r t result does less) q = Unit {0}
 EndsTry old new before after (AskedOwn r t v does ends) q = q ≡ Between
 EndsTry old new before after (AskedInVain r t result does leaves same fewer) q = IsOver q
 
+-- ---- what is to be aborted
+
+-- what is to be aborted behind a step where its coordinator had prepared this before: that, where nothing is undecided any more
+abbrev pub abort_left : At → Ts → List ℕ → Pending → Option Abort → Option Abort
+abort_left at t rs NonePending b = Some (record { coordinator = at; ts = t; prepared = rs })
+abort_left at t rs (IsPreparing coordinator u prepared transaction) b = b
+abort_left at t rs (IsAsking sent n) b = b
+
+-- what is to be aborted behind a step by which this became of what was undecided, where this was to be aborted before: what its
+-- coordinator has prepared of a try that has ended, else what was so before
+abbrev pub abort_behind : Pending → Pending → Option Abort → Option Abort
+abort_behind NonePending z b = b
+abort_behind (IsPreparing at t rs transaction) z b = abort_left at t rs z b
+abort_behind (IsAsking sent n) z b = b
+
+abbrev pub NotesAbort : Pending → Pending → Duties → Duties → Type 0
+NotesAbort a z d e = e.abort ≡ abort_behind a z d.abort
+
+-- Nothing is to be aborted any more: the coordinator was to abort it.
+abbrev pub AbortsNone : Duties → Type 0
+AbortsNone e = e.abort ≡ None
+
+-- The same by the call: what was decided isn't to be aborted.
+abbrev pub AbortsSo : (old new : View) (before after : Held) → Moves old new before after → Pending → Pending → Duties → Duties → Type 0
+AbortsSo old new before after (Unsent sends) a z d e = NotesAbort a z d e
+AbortsSo old new before after (Received at m does there takes same) a z d e = NotesAbort a z d e
+AbortsSo old new before after (ReceivedNone at does there waits same fewer) a z d e = NotesAbort a z d e
+AbortsSo old new before after (ReceiveRefused at k does there loses same) a z d e = NotesAbort a z d e
+AbortsSo old new before after (ReceiveStopped at k does there outage stops same fewer) a z d e = NotesAbort a z d e
+AbortsSo old new before after (Prepared s place does of less) a z d e = NotesAbort a z d e
+AbortsSo old new before after (PrepareRefused s k does of idle learns same) a z d e = NotesAbort a z d e
+AbortsSo old new before after (Committed s place does of session wrote held idle keeps) a z d e = NotesAbort a z d e
+AbortsSo old new before after (Transformed s place oref made does of session writes here held idle keeps) a z d e = NotesAbort a z d e
+AbortsSo old new before after (CommitRefused s k does of idle learns same) a z d e = NotesAbort a z d e
+AbortsSo old new before after (Decided at t v does idle ends) a z d e = e.abort ≡ d.abort
+AbortsSo old new before after (Aborted at t v does less) a z d e = AbortsNone e
+AbortsSo old new before after (DecideRefused at t true k does loses same) a z d e = NotesAbort a z d e
+AbortsSo old new before after (DecideRefused at t false k does loses same) a z d e = AbortsNone e
+AbortsSo old new before after (Finished r t commit result does less) a z d e = NotesAbort a z d e
+AbortsSo old new before after (Forgot r t result does less) a z d e = NotesAbort a z d e
+AbortsSo old new before after (AskedOwn r t v does ends) a z d e = NotesAbort a z d e
+AbortsSo old new before after (AskedInVain r t result does leaves same fewer) a z d e = NotesAbort a z d e
+
 -- The client has made a step, which came to this: it keeps to two-phase commit, the try's own calls come only where no verdict is to be
--- handed on, and a try whose transaction was refused, committed or decided has ended.
+-- handed on, a try whose transaction was refused, committed or decided has ended, and of one that ends undecided is to be aborted what its
+-- coordinator has prepared.
 pub record StepsInOrder (item : Present) (old new : View) (before after : Held) (a : Pending) (q : Phase) (d e : Duties) (came : News) : Type 0 where
   pub so : StepsSo item old new before after a (pending_in q) d e came
   pub free : GoesFreely old new before after so.moves d
   pub ends : EndsTry old new before after so.moves q
+  pub aborts : AbortsSo old new before after so.moves a (pending_in q) d e
 
 -- the same of a port that may show nothing
 abbrev pub StepsInOrderIf : Bool → Present → View → View → Held → Held → Pending → Phase → Duties → Duties → News → Type 0
@@ -132,13 +178,21 @@ abbrev pub news_in : Option News → News
 news_in None = news.Nothing
 news_in (Some n) = n
 
+-- What is to be aborted stays, where nothing was undecided.
+abbrev pub KeepsAbort : Client → Client → Type 0
+KeepsAbort f g = pending_in f.phase ≡ NonePending → g.duties.abort ≡ f.duties.abort
+
+-- What its coordinator has prepared of a try that has ended is to be aborted, else what was so before.
+abbrev pub ClientNotes : Client → Client → Type 0
+ClientNotes f g = NotesAbort (pending_in f.phase) (pending_in g.phase) f.duties g.duties
+
 -- What comes to a client's duties by a call that sends nothing of its transaction, where its links stood so before.
 abbrev pub ClientHands : Bool → View → View → Client → Client → Type 0
-ClientHands shows old new f g = (a : Pending) → HandsIf shows old new a f.held.links.items f.duties g.duties
+ClientHands shows old new f g = ((a : Pending) → HandsIf shows old new a f.held.links.items f.duties g.duties) × KeepsAbort f g
 
--- The verdicts of a client's duties stay, and so does how it helps.
+-- The verdicts of a client's duties stay, and so does how it helps, and what is to be aborted where nothing was undecided.
 abbrev pub SameVerdicts : Client → Client → Type 0
-SameVerdicts f g = (g.duties.verdicts ≡ f.duties.verdicts) × (g.duties.helping ≡ f.duties.helping)
+SameVerdicts f g = (g.duties.verdicts ≡ f.duties.verdicts) × (g.duties.helping ≡ f.duties.helping) × KeepsAbort f g
 
 -- A try ends since objects were written by others only where it had read one of them.
 abbrev pub IsStaleBy : Phase → List Oref → ℕ → News → Type 0

@@ -4,7 +4,7 @@
 ghost use Rattle.client_state.specs.Pending.{StaysPending, pending_in};
 ghost use Rattle.client_state.specs.Stepping.{Present};
 ghost use Rattle.client_state.specs.declared.duties.Duties.{Duties};
-ghost use Rattle.front_end.specs.Stepping.{StepsOwing};
+ghost use Rattle.front_end.specs.Stepping.{AbortsNone, StepsOwing};
 ghost use Rattle.front_end.specs.Writing.{ClientWrites};
 ghost use Rattle.client_state.specs.Learning.{Rises};
 ghost use Rattle.client_state.specs.Moving.{Loses};
@@ -25,7 +25,7 @@ impl Client {
     pub fn abort<Q: Port>(&mut self, port: &mut Q, abort: Abort) -> Result<(), NoMemory>
         ensures owed { OnOk result ((tries : ℕ) → uncounted tries self.new ≤ uncounted tries self.old + (count_of abort.prepared + 1)) }
         ensures acts { ActsIf Q.shows (Q.view port.old) (Q.view port.new) }
-        ensures moves { (item : Present) (d : Duties) → d.abort ≡ Some abort → self.old.duties.verdicts ≡ d.verdicts → self.old.duties.helping ≡ d.helping → OnOk result (StepsOwing Q.shows item (Q.view port.old) (Q.view port.new) d self.old self.new) }
+        ensures moves { (item : Present) (d : Duties) → d.abort ≡ Some abort → self.old.duties.verdicts ≡ d.verdicts → self.old.duties.helping ≡ d.helping → AbortsNone self.old.duties → OnOk result (StepsOwing Q.shows item (Q.view port.old) (Q.view port.new) d self.old self.new) }
         ensures writes { ClientWrites self.old → ClientWrites self.new }
         ensures rises { Rises self.old.held self.new.held }
     {

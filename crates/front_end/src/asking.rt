@@ -7,7 +7,7 @@ ghost use Rattle.client_state.specs.Handing.{handed};
 ghost use Rattle.client_state.specs.Participants.{first_in, others_in};
 ghost use Rattle.client_state.specs.Pending.{IsAsking, NonePending, StaysAsked, pending_in};
 ghost use Rattle.client_state.specs.Stepping.{AsksInVain, EndsAsked, KeepsSent, one_more};
-ghost use Rattle.front_end.specs.Stepping.{ClientSteps, IsOver, StepsFrom};
+ghost use Rattle.front_end.specs.Stepping.{ClientSteps, IsOver, KeepsAbort, StepsFrom};
 ghost use Rattle.serial_model.specs.declared.outcomes.ItemOutcome.TheVariants as outcomes;
 ghost use Rattle.client_state.specs.Writing.{unsent};
 ghost use Rattle.front_end.specs.Writing.{ClientWrites};
@@ -42,7 +42,7 @@ impl Client {
         ensures owed { IsSome (asking_in self.old.phase) → OnOk result (uncounted task.entry.tries self.new < uncounted task.entry.tries self.old) }
         ensures acts { ActsIf Q.shows (Q.view port.old) (Q.view port.new) }
         ensures shown { ShownIf Q.shows (Q.view port.old) (Q.view port.new) opened.now.repos result }
-        ensures moves { IfOk result (ClientSteps Q.shows (record { who = task.entry.who; tries = task.entry.tries }) (Q.view port.old) (Q.view port.new) self.old self.new) }
+        ensures moves { IsSome (asking_in self.old.phase) → IfOk result (ClientSteps Q.shows (record { who = task.entry.who; tries = task.entry.tries }) (Q.view port.old) (Q.view port.new) self.old self.new) }
         ensures as_sent { (links : List Link) → IfOk result (NewsAsSent links) }
         ensures writes { ClientWrites self.new }
         ensures rises { Rises self.old.held self.new.held }
@@ -92,6 +92,7 @@ impl Client {
         ensures ends { OnOk result (EndsSo verdict.commit self.old.held self.new.held) }
         ensures free { pending_in self.old.phase ≡ NonePending → OnOk result (pending_in self.new.phase ≡ NonePending) }
         ensures over { self.old.phase ≡ phase.Between → OnOk result (self.new.phase ≡ phase.Between) }
+        ensures abort { OnOk result (KeepsAbort self.old self.new) }
         ensures own { IfOk result (EndsAsked verdict.commit sent) }
         ensures hands { OnOk result (self.new.duties.verdicts ≡ handed verdict (others_in sent.participants (first_in sent.participants)) self.old.duties.verdicts) }
         ensures helping { OnOk result (self.new.duties.helping ≡ self.old.duties.helping) }

@@ -11,7 +11,7 @@ ghost use Rattle.client_state.specs.Pending.{HasStopped, IsAsking, IsPreparing, 
 ghost use Rattle.client_state.specs.Stepping.{AsksWhereStopped, DecidesAll, HoldsThere, Present, SendsAlone, SendsDrawn};
 ghost use Rattle.client_state.specs.declared.phase.Phase.TheVariants as phase;
 ghost use Rattle.client_state.specs.declared.transaction.Transaction.{Transaction};
-ghost use Rattle.front_end.specs.Stepping.{ClientHands, IsOver, IsSentMore, SameVerdicts, TriesFrom};
+ghost use Rattle.front_end.specs.Stepping.{ClientHands, IsOver, IsSentMore, KeepsAbort, SameVerdicts, TriesFrom};
 ghost use Rattle.client_state.specs.Writing.{HoldsWritten, WritesShares, WritesThere, unsent};
 ghost use Rattle.front_end.specs.Writing.{ClientWrites};
 ghost use Rattle.client_state.specs.Learning.{Rises};
@@ -243,6 +243,7 @@ impl Client {
         ensures client { self.new.held.client ≡ self.old.held.client }
         ensures asks { OnOk result (AsksWhereStopped refusal sent (pending_in self.new.phase)) }
         ensures over { OnOk result (IsOver self.new.phase) }
+        ensures abort { OnOk result (KeepsAbort self.old self.new) }
         ensures written { (at : At) → IsWrittenIn at self.old.held → HasStopped refusal → IsWrittenIn at self.new.held }
         ensures ends { IfOk result (λ news. is_ended news ≡ false) }
         ensures duties { OnOk result (KeepsDuties self.old.duties self.new.duties) }

@@ -218,7 +218,7 @@ impl FrontEnd {
         ensures falls { IsSome (asking_in self.old.client.phase) → OnOk result (Falls (left_of self.old) (left_of self.new)) }
         ensures acts { ActsIf Q.shows (Q.view port.old) (Q.view port.new) }
         ensures shown { ItemsShown Q.shows (Q.view port.old) (Q.view port.new) opened.now.repos self.old self.new }
-        ensures moves { OnOk result (TakesStep Q.shows (Q.view port.old) (Q.view port.new) self.old self.new) }
+        ensures moves { IsSome (asking_in self.old.client.phase) → OnOk result (TakesStep Q.shows (Q.view port.old) (Q.view port.new) self.old self.new) }
         ensures rises { Rises (held_of self.old) (held_of self.new) }
     {
         let task = self.progress.task(opened, self.attempts.each);

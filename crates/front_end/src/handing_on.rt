@@ -37,7 +37,7 @@ impl Client {
     fn do_next<Q: Port>(&mut self, port: &mut Q, duty: Duty) -> Result<(), NoMemory>
         ensures owed { OnOk result ((tries : ℕ) → uncounted tries self.new < uncounted tries self.old + calls_of duty) }
         ensures acts { ActsIf Q.shows (Q.view port.old) (Q.view port.new) }
-        ensures moves { (item : Present) (d : Duties) → d.verdicts ≡ duty ∷ self.old.duties.verdicts → self.old.duties.helping ≡ d.helping → OnOk result (StepsOwing Q.shows item (Q.view port.old) (Q.view port.new) d self.old self.new) }
+        ensures moves { (item : Present) (d : Duties) → d.verdicts ≡ duty ∷ self.old.duties.verdicts → self.old.duties.helping ≡ d.helping → self.old.duties.abort ≡ d.abort → OnOk result (StepsOwing Q.shows item (Q.view port.old) (Q.view port.new) d self.old self.new) }
         ensures writes { ClientWrites self.old → ClientWrites self.new }
         ensures rises { Rises self.old.held self.new.held }
     {
@@ -61,7 +61,7 @@ impl Client {
     ) -> Result<(), NoMemory>
         ensures owed { OnOk result ((tries : ℕ) → uncounted tries self.new < uncounted tries self.old + (count_of to + 1)) }
         ensures acts { ActsIf Q.shows (Q.view port.old) (Q.view port.new) }
-        ensures moves { (item : Present) (d : Duties) → d.verdicts ≡ duties.Finish verdict to forgets ∷ self.old.duties.verdicts → self.old.duties.helping ≡ d.helping → OnOk result (StepsOwing Q.shows item (Q.view port.old) (Q.view port.new) d self.old self.new) }
+        ensures moves { (item : Present) (d : Duties) → d.verdicts ≡ duties.Finish verdict to forgets ∷ self.old.duties.verdicts → self.old.duties.helping ≡ d.helping → self.old.duties.abort ≡ d.abort → OnOk result (StepsOwing Q.shows item (Q.view port.old) (Q.view port.new) d self.old self.new) }
         ensures writes { ClientWrites self.old → ClientWrites self.new }
         ensures rises { Rises self.old.held self.new.held }
     {

@@ -55,7 +55,7 @@ impl Client {
     ) -> Result<News, NoMemory>
         ensures acts { ActsIf Q.shows (Q.view port.old) (Q.view port.new) }
         ensures shown { ShownIf Q.shows (Q.view port.old) (Q.view port.new) opened.now.repos result }
-        ensures moves { (item : Present) (d : Duties) → self.old.duties.verdicts ≡ d.verdicts → self.old.duties.helping ≡ None → IfOk result (StepsInOrderIf Q.shows item (Q.view port.old) (Q.view port.new) self.old.held self.new.held (pending_in self.old.phase) self.new.phase d self.new.duties) }
+        ensures moves { (item : Present) (d : Duties) → self.old.duties.verdicts ≡ d.verdicts → self.old.duties.helping ≡ None → self.old.duties.abort ≡ d.abort → IfOk result (StepsInOrderIf Q.shows item (Q.view port.old) (Q.view port.new) self.old.held self.new.held (pending_in self.old.phase) self.new.phase d self.new.duties) }
         ensures as_sent { IfOk result (NewsAsSent self.old.held.links.items) }
         ensures writes { ClientWrites self.old → ClientWrites self.new }
         ensures rises { Rises self.old.held self.new.held }

@@ -7,7 +7,7 @@ ghost use Rattle.client_state.specs.Handing.{KeepsDuties};
 ghost use Rattle.client_state.specs.Pending.{NonePending, StaysPending, pending_in};
 ghost use Rattle.client_state.specs.Reading.{ReadsNone};
 ghost use Rattle.client_state.specs.Stepping.{Present};
-ghost use Rattle.front_end.specs.Stepping.{ClientSteps, IsStaleBy, SameVerdicts, news_in};
+ghost use Rattle.front_end.specs.Stepping.{ClientNotes, ClientSteps, IsStaleBy, SameVerdicts, news_in};
 ghost use Rattle.front_end.specs.Writing.{ClientWrites};
 ghost use Rattle.client_cache.specs.Copies.{changed};
 ghost use Rattle.client_state.specs.Learning.{KeepsBounds, Rises};
@@ -59,6 +59,7 @@ impl Client {
         ensures duties { OnOk result (KeepsDuties self.old.duties self.new.duties) }
         ensures none { IfOk result (λ some. some ≡ None → ReceivesNone Q.shows (Q.view port.old) (Q.view port.new) at self.old.held self.new.held) }
         ensures still { IfOk result (λ some. some ≡ None → self.new.phase ≡ self.old.phase) }
+        ensures owes { IfOk result (λ some. some ≡ None → self.new.duties ≡ self.old.duties) }
         ensures gives_up { OnOk result (GaveUpIf Q.shows (Q.view port.old) (Q.view port.new) at.repo self.old.phase self.new.held.cache.cache) }
         ensures as_sent { (links : List Link) → IfOk result (λ some. NewsAsSent links (news_in some)) }
         ensures writes { ClientWrites self.old → ClientWrites self.new }
@@ -77,6 +78,7 @@ impl Client {
         ensures ends { OnOk result (EndsReceive refusal repo self.old.held self.new.held) }
         ensures news { IfOk result (λ news. is_ended news ≡ false) }
         ensures duties { OnOk result (KeepsDuties self.old.duties self.new.duties) }
+        ensures notes { OnOk result (ClientNotes self.old self.new) }
         ensures stays { OnOk result (StaysPending (pending_in self.old.phase) (pending_in self.new.phase) self.old.held self.new.held) }
         ensures as_sent { (links : List Link) → IfOk result (NewsAsSent links) }
         ensures writes { ClientWrites self.old → ClientWrites self.new }
@@ -95,6 +97,7 @@ impl Client {
         ensures ends { (refusal : Refusal) → IsNotGone refusal → EndsReceive refusal repo self.old.held self.new.held }
         ensures free { pending_in self.new.phase ≡ NonePending }
         ensures duties { KeepsDuties self.old.duties self.new.duties }
+        ensures notes { ClientNotes self.old self.new }
         ensures as_sent { (links : List Link) → NewsAsSent links result }
         ensures writes { ClientWrites self.new }
         ensures rises { Rises self.old.held self.new.held }
@@ -135,6 +138,7 @@ impl Client {
         ensures owed { (tries : ℕ) → uncounted tries self.new ≤ uncounted tries self.old }
         ensures news { IfOk result (λ n. n ≡ news.Nothing) }
         ensures duties { self.new.duties ≡ self.old.duties }
+        ensures notes { ClientNotes self.old self.new }
         ensures loses { Loses refusal repo self.old.held self.new.held }
         ensures client { self.new.held.client ≡ self.old.held.client }
         ensures stays { StaysPending (pending_in self.old.phase) (pending_in self.new.phase) self.old.held self.new.held }
@@ -159,7 +163,9 @@ impl Client {
         ensures client { self.new.held.client ≡ self.old.held.client }
         ensures stays { StaysPending (pending_in self.old.phase) (pending_in self.new.phase) self.old.held self.new.held }
         ensures rest { IsTrue (not result) → self.new.held ≡ self.old.held }
+        ensures phase { IsTrue (not result) → self.new.phase ≡ self.old.phase }
         ensures duties { self.new.duties ≡ self.old.duties }
+        ensures notes { ClientNotes self.old self.new }
         ensures gone { IsTrue (not result) → IsNotGone refusal }
         ensures writes { ClientWrites self.old → ClientWrites self.new }
         ensures rises { Rises self.old.held self.new.held }
@@ -178,6 +184,7 @@ impl Client {
         ensures shown { IfOk result (λ news. (old new : View) (repos : ℕ) → IsTaken old new repo message → NewsShown old new repos news) }
         ensures ends { IfOk result (λ news. is_ended news ≡ false) }
         ensures duties { OnOk result (KeepsDuties self.old.duties self.new.duties) }
+        ensures notes { OnOk result (ClientNotes self.old self.new) }
         ensures takes { OnOk result (TakesCopies repo message self.old.held self.new.held) }
         ensures gives_up { OnOk result (GivesUp repo message self.old.phase self.new.held.cache.cache) }
         ensures stays { OnOk result (StaysPending (pending_in self.old.phase) (pending_in self.new.phase) self.old.held self.new.held) }
@@ -199,6 +206,7 @@ impl Client {
         ensures shown { IfOk result (λ news. (old new : View) (repos : ℕ) → (place : ℕ) → IsTaken old new repo (message.Page page bytes.now place) → NewsShown old new repos news) }
         ensures ends { IfOk result (λ news. is_ended news ≡ false) }
         ensures verdicts { SameVerdicts self.old self.new }
+        ensures notes { OnOk result (ClientNotes self.old self.new) }
         ensures takes { (place : ℕ) → OnOk result (TakesCopies repo (message.Page page bytes.now place) self.old.held self.new.held) }
         ensures stays { OnOk result (StaysPending (pending_in self.old.phase) (pending_in self.new.phase) self.old.held self.new.held) }
         ensures as_sent { (links : List Link) → IfOk result (NewsAsSent links) }
@@ -220,6 +228,7 @@ impl Client {
         ensures shown { IfOk result (λ news. (old new : View) (repos : ℕ) → NewsShown old new repos news) }
         ensures ends { IfOk result (λ news. is_ended news ≡ false) }
         ensures verdicts { SameVerdicts self.old self.new }
+        ensures notes { OnOk result (ClientNotes self.old self.new) }
         ensures takes { (place : ℕ) → OnOk result (TakesCopies repo (message.Grant page place) self.old.held self.new.held) }
         ensures stays { OnOk result (StaysPending (pending_in self.old.phase) (pending_in self.new.phase) self.old.held self.new.held) }
         ensures as_sent { (links : List Link) → IfOk result (NewsAsSent links) }
@@ -241,6 +250,7 @@ impl Client {
         ensures shown { (old new : View) (repos : ℕ) → (repo : ℕ) → IsTaken old new repo (message.Invalid orefs.now place) → NewsShown old new repos result }
         ensures ends { is_ended result ≡ false }
         ensures verdicts { SameVerdicts self.old self.new }
+        ensures notes { ClientNotes self.old self.new }
         ensures unread { ReadsNone self.new.phase orefs.now }
         ensures read { IsStaleBy self.old.phase orefs.now place result }
         ensures takes { (repo : ℕ) → TakesCopies repo (message.Invalid orefs.now place) self.old.held self.new.held }
@@ -281,6 +291,7 @@ impl Client {
         ensures shown { (old new : View) (repos : ℕ) → (repo place : ℕ) (text : List ℕ) → IsTaken old new repo (message.Upgrade number text place) → NewsShown old new repos result }
         ensures ends { is_ended result ≡ false }
         ensures verdicts { SameVerdicts self.old self.new }
+        ensures notes { ClientNotes self.old self.new }
         ensures takes { (repo place : ℕ) (text : List ℕ) → TakesCopies repo (message.Upgrade number text place) self.old.held self.new.held }
         ensures stays { StaysPending (pending_in self.old.phase) (pending_in self.new.phase) self.old.held self.new.held }
         ensures as_sent { (links : List Link) → NewsAsSent links result }

@@ -71,6 +71,7 @@ impl Client {
         ensures settles { OnOk result (MaySettle repo self.old.held self.new.held) }
         ensures hands { (a : Pending) (old new : View) → IsToldBy old new repo verdict.tx verdict.commit → OnOk result (MayTell old new a self.old.held.links.items self.old.duties.verdicts self.new.duties.verdicts) }
         ensures helping { self.new.duties.helping ≡ self.old.duties.helping }
+        ensures abort { self.new.duties.abort ≡ self.old.duties.abort }
         ensures phase { self.new.phase ≡ self.old.phase }
         ensures cache { self.new.held.cache ≡ self.old.held.cache }
         ensures as_sent { IfOk result (λ learnt. IfSome learnt (λ l. SettlesAsSent self.old.held.links.items l.settled)) }
@@ -116,6 +117,7 @@ impl Client {
         ensures settles { (before : Held) → TakesUnsettled repo sent index before self.old.held → OnOk result (MaySettle repo before self.new.held) }
         ensures hands { (before : Held) → TakesUnsettled repo sent index before self.old.held → (a : Pending) (old new : View) → IsToldBy old new repo verdict.tx verdict.commit → OnOk result (MayTell old new a before.links.items self.old.duties.verdicts self.new.duties.verdicts) }
         ensures helping { self.new.duties.helping ≡ self.old.duties.helping }
+        ensures abort { self.new.duties.abort ≡ self.old.duties.abort }
         ensures phase { self.new.phase ≡ self.old.phase }
         ensures cache { self.new.held.cache ≡ self.old.held.cache }
         ensures as_sent { (before : Held) → TakesUnsettled repo sent index before self.old.held → IfOk result (λ learnt. IfSome learnt (λ l. SettlesAsSent before.links.items l.settled)) }

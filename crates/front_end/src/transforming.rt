@@ -9,7 +9,7 @@ ghost use Rattle.client_state.specs.Handing.{KeepsDuties};
 ghost use Rattle.client_state.specs.Pending.{NonePending, pending_in};
 ghost use Rattle.client_state.specs.Stepping.{Present, SendsTransform};
 ghost use Rattle.client_state.specs.declared.phase.Phase.TheVariants as phase;
-ghost use Rattle.front_end.specs.Stepping.{ClientHands, SameVerdicts, TriesFrom};
+ghost use Rattle.front_end.specs.Stepping.{ClientHands, KeepsAbort, SameVerdicts, TriesFrom};
 ghost use Rattle.client_state.specs.Writing.{HoldsWritten, unsent};
 ghost use Rattle.front_end.specs.Writing.{ClientWrites};
 ghost use Rattle.client_state.specs.Learning.{Rises};
@@ -278,6 +278,7 @@ impl Client {
         ensures client { self.new.held.client ≡ self.old.held.client }
         ensures free { pending_in self.old.phase ≡ NonePending → pending_in self.new.phase ≡ NonePending }
         ensures over { OnOk result (self.new.phase ≡ phase.Between) }
+        ensures abort { OnOk result (KeepsAbort self.old self.new) }
         ensures as_sent { (links : List Link) → IfOk result (NewsAsSent links) }
         ensures writes { unsent self.old.phase ≡ None → ClientWrites self.new }
         ensures rises { Rises self.old.held self.new.held }

@@ -5,7 +5,7 @@ ghost use Rattle.client_state.specs.Settling.{CameAsSent, NewsAsSent, SettlesAsS
 ghost use Rattle.client_items.specs.Meanings.{is_ended};
 ghost use Rattle.client_state.specs.Handing.{KeepsDuties, helps_by};
 ghost use Rattle.client_state.specs.Pending.{NonePending, StaysPending, abort_in, pending_in};
-ghost use Rattle.front_end.specs.Stepping.{SameVerdicts};
+ghost use Rattle.front_end.specs.Stepping.{ClientNotes, SameVerdicts};
 ghost use Rattle.client_state.specs.Writing.{CameStays, PhaseWrites};
 ghost use Rattle.client_cache.specs.Copies.{Contents, changed};
 ghost use Rattle.front_end.specs.Writing.{ClientWrites};
@@ -124,6 +124,7 @@ impl Client {
         ensures phase { self.new.phase ≡ phase.Between }
         ensures verdicts { SameVerdicts self.old self.new }
         ensures abort { IsSome (abort_in self.old.phase) → self.new.duties.abort ≡ abort_in self.old.phase }
+        ensures notes { ClientNotes self.old self.new }
         ensures left { (tries : ℕ) → uncounted tries self.new ≤ uncounted tries self.old }
     {
         self.end_phase();
@@ -137,6 +138,7 @@ impl Client {
         ensures phase { self.new.phase ≡ phase.Between }
         ensures verdicts { SameVerdicts self.old self.new }
         ensures abort { IsSome (abort_in self.old.phase) → self.new.duties.abort ≡ abort_in self.old.phase }
+        ensures notes { ClientNotes self.old self.new }
         ensures left { (tries : ℕ) → uncounted tries self.new ≤ uncounted tries self.old }
     {
         match self.take_phase().into_abort() {
@@ -150,6 +152,7 @@ impl Client {
         ensures phase { OnOk result (self.new.phase ≡ phase.Between) }
         ensures ends { IfOk result (λ news. is_ended news ≡ false) }
         ensures duties { OnOk result (KeepsDuties self.old.duties self.new.duties) }
+        ensures notes { OnOk result (ClientNotes self.old self.new) }
         ensures shown { IfOk result (λ news. (old new : View) (repos : ℕ) → Refuses old new repo refusal → NewsShown old new repos news) }
         ensures links { OnOk result (self.new.held.links.items ≡ links_learnt refusal repo self.old.held.links.items) }
         ensures floor { OnOk result (self.new.held.floor ≡ floor_learnt refusal self.old.held.floor) }
@@ -183,6 +186,7 @@ impl Client {
         ensures held { self.new.held ≡ record self.old.held { links = self.new.held.links } }
         ensures phase { self.new.phase ≡ self.old.phase }
         ensures duties { KeepsDuties self.old.duties self.new.duties }
+        ensures abort { self.new.duties.abort ≡ self.old.duties.abort }
         ensures uncounted { (tries : ℕ) → uncounted tries self.new ≡ uncounted tries self.old }
         ensures writes { ClientWrites self.old → ClientWrites self.new }
         ensures rises { Rises self.old.held self.new.held }

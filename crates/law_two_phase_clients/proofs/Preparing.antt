@@ -231,7 +231,7 @@ module _ (S : Several) (r : ℕ) (q : Request) (sd : AreSound S) (go : Continues
   new_there : (item : Who) (transaction : Transaction) → IsRequestOf item q.tx transaction r q → HasPrepared (grown S r (entries.Prepared q)) item q.tx transaction r
   new_there item transaction of = record { o = stands.0; there = stands.1; of = subst (IsRequestOf item q.tx transaction r) (sym stands.2) of }
 
-pub prepares : (S : Several) (item : Present) (links : List Link) (c : Contents) (s : Sending) (a z : Pending) → PreparesSo item links c s a z → AreSound S → Continues S s.at.repo (entries.Prepared s.request) → TryPrepared S item.who a → TryPrepared (grown S s.at.repo (entries.Prepared s.request)) item.who z
+pub prepares : (S : Several) (item : Present) (links : List Link) (c : Contents) (s : Sending) (a z : Pending) (so : PreparesSo item links c s a z) → AreSound S → Continues S s.at.repo (entries.Prepared s.request) → TryPrepared S item.who a → TryPrepared (grown S s.at.repo (entries.Prepared s.request)) item.who z
 prepares S item links c s a z (PreparesFirst left sends holds now) sd go tried = subst (TryPrepared (grown S s.at.repo (entries.Prepared s.request)) item.who) (sym now) (record {
   coordinator = starts_there item links c s left sends;
   first = new_there S s.at.repo s.request sd go item.who left (same_requests links item.who s.request.tx sends.drawn left s sends.sends s.at.repo s.request (request_is links item.who s.request.tx sends.drawn left s sends.sends sends.starts.shares));

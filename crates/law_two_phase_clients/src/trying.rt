@@ -23,7 +23,7 @@ ghost use Rattle.thor_value.specs.declared.values.Who.{Who};
 pub fn tries_keep_to_two_phase_commit()
     ensures sends { (S : Several) (item : Present) (old new : View) (before after : Held) (a z : Pending) (d e : Duties) (came : News) → (step : StepsSo item old new before after a z d e came) →
         TryPrepared S item.who a → OwnMayCome S old new before after step.moves }
-    ensures prepares { (S : Several) (item : Present) (links : List Link) (c : Contents) (s : Sending) (a z : Pending) → PreparesSo item links c s a z →
+    ensures prepares { (S : Several) (item : Present) (links : List Link) (c : Contents) (s : Sending) (a z : Pending) → (so : PreparesSo item links c s a z) →
         AreSound S → Continues S s.at.repo (entries.Prepared s.request) → TryPrepared S item.who a → TryPrepared (grown S s.at.repo (entries.Prepared s.request)) item.who z }
     ensures stays { (S : Several) (r : ℕ) (e : Entry) (item : Who) (a : Pending) → AreSound S → Continues S r e → TryPrepared S item a → TryPrepared (grown S r e) item a }
 {}

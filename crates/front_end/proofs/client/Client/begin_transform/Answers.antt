@@ -10,7 +10,7 @@ pub returns-clause-moves : goal.returns-clause-moves
 returns-clause-moves g c = same_sends_idle _ _ _ c.args.self.now.held (record c.undo.new.self { cache = c.bring_forward.new.self }) (c.undo.ensures.less.0, c.undo.ensures.less.1, λ x. c.bring_forward.ensures.kept x ∙ c.undo.ensures.copies x) _ c.collect.result c.collect.ensures.moves
 
 pub returns-clause-hands : goal.returns-clause-hands
-returns-clause-hands g c = hands_same _ _ _ c.args.self.now (record c.args.self.now { held = record c.undo.new.self { cache = c.bring_forward.new.self } }) c.collect.new.self c.undo.ensures.less.1 refl c.collect.result c.collect.ensures.hands
+returns-clause-hands g c = hands_same _ _ _ c.args.self.now (record c.args.self.now { held = record c.undo.new.self { cache = c.bring_forward.new.self } }) c.collect.new.self c.undo.ensures.less.1 refl (λ none. none) c.collect.result c.collect.ensures.hands
 
 pub returns-clause-as_sent : goal.returns-clause-as_sent
 returns-clause-as_sent g c = subst (λ (ls : List Link). IfOk c.collect.result (NewsAsSent ls)) (c.undo.ensures.less.1) c.collect.ensures.as_sent

@@ -25,10 +25,10 @@ pub returns-in-Part-clause-free : goal.returns-in-Part-clause-free
 returns-in-Part-clause-free g c = λ none. c.fetch_needed.ensures.free (c.go_on_with.ensures.pending ∙ none)
 
 pub returns-in-All-clause-hands : goal.returns-in-All-clause-hands
-returns-in-All-clause-hands g c = hands_same _ _ _ c.args.self.now (record c.args.self.now { held = c.collect.new.self }) c.draw_transform.new.self c.collect.ensures.same.1 refl c.draw_transform.result c.draw_transform.ensures.hands
+returns-in-All-clause-hands g c = hands_same _ _ _ c.args.self.now (record c.args.self.now { held = c.collect.new.self }) c.draw_transform.new.self c.collect.ensures.same.1 refl (λ none. none) c.draw_transform.result c.draw_transform.ensures.hands
 
 pub returns-in-Part-clause-hands : goal.returns-in-Part-clause-hands
-returns-in-Part-clause-hands g c = hands_same _ _ _ c.args.self.now c.go_on_with.new.self c.fetch_needed.new.self (ap (λ (h : Held). h.links.items) c.go_on_with.ensures.held ∙ c.collect.ensures.same.1) c.go_on_with.ensures.duties c.fetch_needed.result c.fetch_needed.ensures.hands
+returns-in-Part-clause-hands g c = hands_same _ _ _ c.args.self.now c.go_on_with.new.self c.fetch_needed.new.self (ap (λ (h : Held). h.links.items) c.go_on_with.ensures.held ∙ c.collect.ensures.same.1) c.go_on_with.ensures.duties (λ none. c.go_on_with.ensures.pending ∙ none) c.fetch_needed.result c.fetch_needed.ensures.hands
 
 pub returns-in-All-clause-as_sent : goal.returns-in-All-clause-as_sent
 returns-in-All-clause-as_sent g c = subst (λ (ls : List Link). IfOk c.draw_transform.result (NewsAsSent ls)) (c.collect.ensures.same.1) c.draw_transform.ensures.as_sent

@@ -46,3 +46,6 @@ returns-in_err-ts-clause-free g c = λ none. none
 
 pub returns-in-Refused-clause-as_sent : goal.returns-in-Refused-clause-as_sent
 returns-in-Refused-clause-as_sent g c = c.go_behind.ensures.as_sent _ (subst (DrewAsSent c.args.self.now.held.links.items) c.in-Refused.is c.in_ok-ts.ensures.as_sent)
+
+pub returns-in-Ts-clause-verdicts : goal.returns-in-Ts-clause-verdicts
+returns-in-Ts-clause-verdicts g c = rw (c.set_phase.ensures, c.take_phase.ensures.rest) (refl, refl, λ none. refl)

@@ -1,3 +1,4 @@
+use Rattle.front_end.proofs.Stepping.{notes_behind}
 use Rattle.client_state.specs.Pending.{pending_in}
 use Rattle.client_state.specs.Receiving.{LosesThere}
 use Rattle.front_end.proofs.Receiving.{lost_nothing, stops_behind}
@@ -15,3 +16,6 @@ returns-then-left-clause-free c = ap pending_in c.end_try.ensures.phase
 
 pub returns-clause-free : goal.returns-clause-free
 returns-clause-free c = ap pending_in (c.stop_waiting.ensures.phase ∙ c.end_try-news.ensures.phase)
+
+pub returns-clause-notes : goal.returns-clause-notes
+returns-clause-notes c = notes_behind c.args.self.now c.end_try-news.new.self c.stop_waiting.new.self (ap pending_in c.stop_waiting.ensures.phase) c.stop_waiting.ensures.abort c.end_try-news.ensures.notes

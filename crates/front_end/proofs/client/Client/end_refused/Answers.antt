@@ -1,3 +1,5 @@
+use Rattle.front_end.specs.declared.client.Client.{Client}
+use Rattle.front_end.proofs.Stepping.{notes_from}
 use Rattle.client_state.proofs.Pending.{stays_itself}
 use Rattle.client_state.specs.Pending.{pending_in}
 use Rattle.front_end.proofs.Requesting.{no_cause_learns}
@@ -17,3 +19,6 @@ returns-in_err-cause-clause-stays c = stays_itself (pending_in c.args.self.now.p
 
 pub returns-clause-stays : goal.returns-clause-stays
 returns-clause-stays c = inl (ap pending_in c.end_try.ensures.phase)
+
+pub returns-clause-notes : goal.returns-clause-notes
+returns-clause-notes c = notes_from c.args.self.now c.note_helping.new.self c.end_try.new.self (ap (λ (k : Client). pending_in k.phase) c.note_helping.ensures.rest) (ap (λ (k : Client). k.duties.abort) c.note_helping.ensures.rest) c.end_try.ensures.notes

@@ -27,7 +27,7 @@ pub returns-clause-free : goal.returns-clause-free
 returns-clause-free g c = c.go_behind_run.ensures.free (ap (λ (k : Client). pending_in k.phase) c.set_phase.ensures)
 
 pub returns-clause-hands : goal.returns-clause-hands
-returns-clause-hands g c = hands_same _ _ _ c.args.self.now c.set_phase.new.self c.go_behind_run.new.self (ap (λ (k : Client). k.held.links.items) c.set_phase.ensures ∙ c.in_ok-ran.ensures.same.1) (ap (λ (k : Client). k.duties) c.set_phase.ensures) c.go_behind_run.result c.go_behind_run.ensures.hands
+returns-clause-hands g c = hands_same _ _ _ c.args.self.now c.set_phase.new.self c.go_behind_run.new.self (ap (λ (k : Client). k.held.links.items) c.set_phase.ensures ∙ c.in_ok-ran.ensures.same.1) (ap (λ (k : Client). k.duties) c.set_phase.ensures) (λ none. ap (λ (k : Client). pending_in k.phase) c.set_phase.ensures) c.go_behind_run.result c.go_behind_run.ensures.hands
 
 pub returns-clause-as_sent : goal.returns-clause-as_sent
 returns-clause-as_sent g c = subst (λ (ls : List Link). IfOk c.go_behind_run.result (NewsAsSent ls)) (ap (λ (k : Client). k.held.links.items) c.set_phase.ensures ∙ c.in_ok-ran.ensures.same.1) c.go_behind_run.ensures.as_sent

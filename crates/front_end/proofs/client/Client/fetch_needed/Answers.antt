@@ -5,11 +5,11 @@ use Rattle.client_state.specs.Moving.{Rested}
 use Rattle.client_state.specs.Pending.{pending_in}
 use Rattle.client_state.specs.Writing.{unsent}
 use Rattle.front_end.proofs.Showing.{try_shown}
-use Rattle.front_end.proofs.Stepping.{hands_nothing, hands_then}
+use Rattle.front_end.proofs.Stepping.{hands_nothing, hands_same, hands_then}
 use Rattle.front_end.proofs.client.Client.fetch_needed.Goals as goal
 use Rattle.front_end.specs.Showing.{ByNoRepository}
 use Rattle.std.proofs.Common.{ap, arith, refl, ◌∙◌}
-use Rattle.std.specs.Prelude.{◌≤◌}
+use Rattle.std.specs.Prelude.{◌≤◌, Ok}
 
 pub returns-then-oref-opened-clause-shown : goal.returns-then-oref-opened-clause-shown
 returns-then-oref-opened-clause-shown g c = λ s. let far : c.args.opened.now.repos ≤ c.args.oref.repo = omega (arith, c.if-oref-opened.true) in try_shown _ _ _ _ _ c.end_try.ensures.news (ByNoRepository c.args.oref far refl)
@@ -45,7 +45,7 @@ pub returns-then-oref-opened-clause-ends : goal.returns-then-oref-opened-clause-
 returns-then-oref-opened-clause-ends g c = ap is_ended c.end_try.ensures.news
 
 pub returns-clause-hands : goal.returns-clause-hands
-returns-clause-hands g c = hands_then _ _ _ c.args.self.now c.fetch.new.self c.go_behind.new.self c.in_ok-came.ensures.hands c.go_behind.ensures.verdicts
+returns-clause-hands g c = hands_same _ _ _ c.args.self.now (record c.args.self.now { phase = c.await_page.new.self }) c.go_behind.new.self refl refl (λ none. c.await_page.ensures.pending ∙ none) (Ok c.go_behind.result) (hands_then _ _ _ (record c.args.self.now { phase = c.await_page.new.self }) c.fetch.new.self c.go_behind.new.self c.in_ok-came.ensures.hands (λ none. ap pending_in c.fetch.ensures.phase ∙ none) c.go_behind.ensures.verdicts)
 
 pub returns-clause-as_sent : goal.returns-clause-as_sent
 returns-clause-as_sent g c = c.go_behind.ensures.as_sent _ c.in_ok-came.ensures.as_sent

@@ -1,3 +1,4 @@
+use Rattle.front_end.proofs.Stepping.{same_verdicts}
 use Rattle.client_state.specs.Settling.{CameAsSent}
 use Rattle.client_state.proofs.Writing.{came_learnt, came_well, still_writes}
 use Rattle.client_state.specs.Pending.{pending_in}
@@ -22,3 +23,9 @@ returns-in-Refused-clause-free c = λ none. ap pending_in c.end_try.ensures.phas
 
 pub returns-in-Learnt-clause-as_sent : goal.returns-in-Learnt-clause-as_sent
 returns-in-Learnt-clause-as_sent c = λ links h. c.take_learnt.ensures.as_sent links (subst (CameAsSent links) c.in-Learnt.is h)
+
+pub returns-in-Anew-clause-verdicts : goal.returns-in-Anew-clause-verdicts
+returns-in-Anew-clause-verdicts c = same_verdicts c.args.self.now c.begin_anew.new.self c.begin_anew.ensures.duties
+
+pub returns-in-Learnt-clause-verdicts : goal.returns-in-Learnt-clause-verdicts
+returns-in-Learnt-clause-verdicts c = same_verdicts c.args.self.now c.take_learnt.new.self c.take_learnt.ensures.duties

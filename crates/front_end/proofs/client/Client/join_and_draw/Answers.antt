@@ -4,7 +4,7 @@ use Rattle.client_state.specs.Settling.{NewsAsSent}
 use Rattle.client_state.proofs.Writing.{is_evaluated}
 use Rattle.client_state.specs.Pending.{pending_in}
 use Rattle.front_end.proofs.Calling.{on_any}
-use Rattle.front_end.proofs.Stepping.{hands_nothing, hands_same}
+use Rattle.front_end.proofs.Stepping.{hands_none, hands_same, hands_then}
 use Rattle.front_end.proofs.client.Client.join_and_draw.Goals as goal
 use Rattle.front_end.specs.declared.client.Client.{Client}
 use Rattle.std.proofs.Common.{ap, ◌∙◌, subst, List}
@@ -22,10 +22,10 @@ pub returns-in-None-clause-free : goal.returns-in-None-clause-free
 returns-in-None-clause-free g c = c.draw.ensures.free (ap (λ (k : Client). pending_in k.phase) c.set_phase.ensures)
 
 pub returns-in-Some-clause-hands : goal.returns-in-Some-clause-hands
-returns-in-Some-clause-hands g c = hands_same _ _ _ c.args.self.now c.set_phase.new.self c.join_behind.new.self (ap (λ (k : Client). k.held.links.items) c.set_phase.ensures) (ap (λ (k : Client). k.duties) c.set_phase.ensures) c.join_behind.result c.join_behind.ensures.hands
+returns-in-Some-clause-hands g c = hands_same _ _ _ c.args.self.now c.set_phase.new.self c.join_behind.new.self (ap (λ (k : Client). k.held.links.items) c.set_phase.ensures) (ap (λ (k : Client). k.duties) c.set_phase.ensures) (λ none. ap (λ (k : Client). pending_in k.phase) c.set_phase.ensures) c.join_behind.result c.join_behind.ensures.hands
 
 pub returns-in-None-clause-hands : goal.returns-in-None-clause-hands
-returns-in-None-clause-hands g c = on_any c.draw.result _ (hands_nothing _ _ _ c.args.self.now c.draw.new.self (c.draw.ensures.verdicts.0 ∙ ap (λ (k : Client). k.duties.verdicts) c.set_phase.ensures, c.draw.ensures.verdicts.1 ∙ ap (λ (k : Client). k.duties.helping) c.set_phase.ensures))
+returns-in-None-clause-hands g c = on_any c.draw.result _ (hands_then _ _ _ c.args.self.now c.set_phase.new.self c.draw.new.self (hands_none _ _ _ c.args.self.now c.set_phase.new.self (ap (λ (k : Client). k.duties) c.set_phase.ensures)) (λ none. ap (λ (k : Client). pending_in k.phase) c.set_phase.ensures) c.draw.ensures.verdicts)
 
 pub returns-in-Some-clause-as_sent : goal.returns-in-Some-clause-as_sent
 returns-in-Some-clause-as_sent g c = subst (λ (ls : List Link). IfOk c.join_behind.result (NewsAsSent ls)) (ap (λ (k : Client). k.held.links.items) c.set_phase.ensures) c.join_behind.ensures.as_sent

@@ -25,7 +25,7 @@ pub returns-clause-free : goal.returns-clause-free
 returns-clause-free g c = λ none. c.go_behind.ensures.free (ap pending_in c.join.ensures.phase ∙ none)
 
 pub returns-clause-hands : goal.returns-clause-hands
-returns-clause-hands g c = hands_then _ _ _ c.args.self.now c.join.new.self c.go_behind.new.self c.in_ok-came.ensures.hands c.go_behind.ensures.verdicts
+returns-clause-hands g c = hands_then _ _ _ c.args.self.now c.join.new.self c.go_behind.new.self c.in_ok-came.ensures.hands (λ none. ap pending_in c.join.ensures.phase ∙ none) c.go_behind.ensures.verdicts
 
 pub returns-clause-as_sent : goal.returns-clause-as_sent
 returns-clause-as_sent g c = c.go_behind.ensures.as_sent _ c.in_ok-came.ensures.as_sent

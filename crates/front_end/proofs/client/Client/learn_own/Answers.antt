@@ -61,3 +61,9 @@ returns-then-commit-clause-helping c = ap (λ (k : Client). k.duties.helping) c.
 
 pub returns-clause-helping : goal.returns-clause-helping
 returns-clause-helping c = c.end_try.ensures.verdicts.1 ∙ ap (λ (x : Duties). x.helping) c.hand_on.ensures.rest
+
+pub returns-then-commit-clause-abort : goal.returns-then-commit-clause-abort
+returns-then-commit-clause-abort c = λ none. ap (λ (k : Client). k.duties.abort) c.end_committed.ensures.rest ∙ ap (λ (x : Duties). x.abort) c.hand_on.ensures.rest
+
+pub returns-clause-abort : goal.returns-clause-abort
+returns-clause-abort c = λ none. c.end_try.ensures.verdicts.2 none ∙ ap (λ (x : Duties). x.abort) c.hand_on.ensures.rest

@@ -46,7 +46,7 @@ pub returns-then-repo-opened-clause-ends : goal.returns-then-repo-opened-clause-
 returns-then-repo-opened-clause-ends g c = ap is_ended c.end_try.ensures.news
 
 pub returns-clause-hands : goal.returns-clause-hands
-returns-clause-hands g c = hands_then _ _ _ c.args.self.now c.ask_for_names.new.self c.go_behind.new.self c.in_ok-came.ensures.hands c.go_behind.ensures.verdicts
+returns-clause-hands g c = hands_then _ _ _ c.args.self.now c.ask_for_names.new.self c.go_behind.new.self c.in_ok-came.ensures.hands (λ none. ap pending_in c.ask_for_names.ensures.phase ∙ none) c.go_behind.ensures.verdicts
 
 pub returns-clause-as_sent : goal.returns-clause-as_sent
 returns-clause-as_sent g c = c.go_behind.ensures.as_sent _ c.in_ok-came.ensures.as_sent

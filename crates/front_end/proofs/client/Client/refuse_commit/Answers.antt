@@ -1,9 +1,10 @@
+use Rattle.client_state.specs.declared.duties.Duties.{Duties}
 use Rattle.client_state.proofs.Writing.{nothing_unsent}
 use Rattle.client_state.specs.Moving.{Learns}
 use Rattle.client_state.specs.Pending.{pending_in}
 use Rattle.client_state.specs.declared.held.Held.{Held}
 use Rattle.front_end.proofs.Requesting.{has_stopped_learns, other_where, stopped_where}
-use Rattle.front_end.proofs.Stepping.{asks_on, same_duties}
+use Rattle.front_end.proofs.Stepping.{asks_on, same_duties, keeps_noted}
 use Rattle.front_end.proofs.client.Client.refuse_commit.Goals as goal
 use Rattle.std.proofs.Common.{ap, refl, subst, sym}
 use Rattle.std.proofs.lemmas.Result.{on_ok_weaker}
@@ -37,3 +38,9 @@ returns-clause-written c = λ at written stopped. absurd (c.if-has_stopped.ensur
 
 pub returns-clause-writes : goal.returns-clause-writes
 returns-clause-writes c = λ none. c.end_refused.ensures.writes (nothing_unsent _ _ none)
+
+pub returns-then-has_stopped-clause-abort : goal.returns-then-has_stopped-clause-abort
+returns-then-has_stopped-clause-abort c = λ none. ap (λ (x : Duties). x.abort) c.begin_asking.ensures.duties
+
+pub returns-clause-abort : goal.returns-clause-abort
+returns-clause-abort c = on_ok_weaker c.end_refused.result (keeps_noted c.args.self.now c.end_refused.new.self) c.end_refused.ensures.notes

@@ -18,4 +18,4 @@ pub returns-in-None-clause-writes : goal.returns-in-None-clause-writes
 returns-in-None-clause-writes g c = λ none. nothing_unsent _ _ none
 
 pub returns-in-None-clause-moves : goal.returns-in-None-clause-moves
-returns-in-None-clause-moves g c = λ item who none wrote idle. by_rest_free _ item _ c.args.self.now.held _ _ _ _ _ _ (refl, refl, λ x. inl refl) (inl (ap pending_in none)) refl refl refl
+returns-in-None-clause-moves g c = λ item who none wrote idle. by_rest_free _ item _ c.args.self.now.held _ _ _ _ _ _ (refl, refl, λ x. inl refl) (inl (ap pending_in none)) refl refl refl refl

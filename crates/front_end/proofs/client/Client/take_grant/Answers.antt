@@ -1,3 +1,4 @@
+use Rattle.front_end.proofs.Stepping.{notes_same}
 use Rattle.client_state.proofs.Pending.{still_written}
 use Rattle.client_state.specs.declared.held.Held.{Held}
 use Rattle.front_end.proofs.Receiving.{grants_none, takes_so}
@@ -10,3 +11,6 @@ returns-clause-takes c = elim c.if-has_none_of.branch [ then-has_none_of+in_ok-g
 
 pub returns-clause-stays : goal.returns-clause-stays
 returns-clause-stays c = elim c.if-has_none_of.branch [ then-has_none_of+in_ok-grant w ↦ rw (w.self-is) (inr (refl, still_written c.args.self.now.held c.place.new.self (ap (λ (h : Held). h.links.items) c.place.ensures.rest) c.place.ensures.writes)) | else-has_none_of w ↦ rw (w.self-is) (inr (refl, still_written c.args.self.now.held c.place.new.self (ap (λ (h : Held). h.links.items) c.place.ensures.rest) c.place.ensures.writes)) ]
+
+pub returns-clause-notes : goal.returns-clause-notes
+returns-clause-notes c = elim c.if-has_none_of.branch [ then-has_none_of+in_ok-grant w ↦ rw (w.self-is) (notes_same c.args.self.now c.args.self.now refl refl) | else-has_none_of w ↦ rw (w.self-is) (notes_same c.args.self.now c.args.self.now refl refl) ]

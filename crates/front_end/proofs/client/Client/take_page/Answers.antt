@@ -1,3 +1,4 @@
+use Rattle.front_end.proofs.Stepping.{notes_same}
 use Rattle.client_state.proofs.Pending.{still_written}
 use Rattle.client_state.proofs.Writing.{still_writes}
 use Rattle.client_state.specs.Pending.{pending_in}
@@ -28,3 +29,6 @@ returns-in-Some-clause-stays c = inl (ap pending_in c.end_try.ensures.phase)
 
 pub returns-in-Some-2-clause-stays : goal.returns-in-Some-2-clause-stays
 returns-in-Some-2-clause-stays c = inr (refl, still_written c.args.self.now.held c.place.new.self (ap (λ (h : Held). h.links.items) c.place.ensures.rest) c.place.ensures.writes)
+
+pub returns-in-Some-2-clause-notes : goal.returns-in-Some-2-clause-notes
+returns-in-Some-2-clause-notes c = notes_same c.args.self.now (record c.args.self.now { held = c.place.new.self }) refl refl

@@ -1,3 +1,4 @@
+use Rattle.front_end.proofs.Stepping.{notes_same}
 use Rattle.client_cache.specs.Copies.{changed, kept}
 use Rattle.client_state.proofs.Pending.{still_written}
 use Rattle.client_state.specs.Pending.{pending_in}
@@ -22,3 +23,6 @@ returns-then-runs-clause-stays c = inl (ap pending_in c.end_try.ensures.phase)
 
 pub returns-clause-stays : goal.returns-clause-stays
 returns-clause-stays c = inr (refl, still_written c.args.self.now.held c.learn_next_epoch.new.self (ap (λ (h : Held). h.links.items) c.learn_next_epoch.ensures.rest) (λ x. ap (λ (h : Held). changed h.cache.cache x) c.learn_next_epoch.ensures.rest))
+
+pub returns-clause-notes : goal.returns-clause-notes
+returns-clause-notes c = notes_same c.args.self.now (record c.args.self.now { held = c.learn_next_epoch.new.self }) refl refl

@@ -12,7 +12,7 @@ pub returns-in-Ok-clause-moves : goal.returns-in-Ok-clause-moves
 returns-in-Ok-clause-moves g c = λ item. from_idle _ _ _ _ c.args.self.now _ _ _ _ _ c.set_phase.ensures refl c.commit_transform.result (c.commit_transform.ensures.moves item (ap (λ (k : Client). pending_in k.phase) c.set_phase.ensures))
 
 pub returns-in-Err-clause-moves : goal.returns-in-Err-clause-moves
-returns-in-Err-clause-moves g c = λ item. sends_idle_from _ _ _ _ c.args.self.now _ _ _ _ c.set_phase.ensures c.collect.result c.collect.ensures.moves (c.collect.ensures.free (ap (λ (k : Client). pending_in k.phase) c.set_phase.ensures)) c.collect.ensures.ends c.collect.ensures.hands
+returns-in-Err-clause-moves g c = λ item. sends_idle_from _ _ _ _ c.args.self.now _ _ _ _ c.set_phase.ensures refl refl c.collect.result c.collect.ensures.moves (c.collect.ensures.free (ap (λ (k : Client). pending_in k.phase) c.set_phase.ensures)) c.collect.ensures.ends c.collect.ensures.hands
 
 pub returns-in-Ok-clause-writes : goal.returns-in-Ok-clause-writes
 returns-in-Ok-clause-writes g c = c.commit_transform.ensures.writes (ap (λ (k : Client). unsent k.phase) c.set_phase.ensures)

@@ -7,7 +7,7 @@ use Rattle.std.proofs.lemmas.Result.{on_ok_weaker}
 use Rattle.std.specs.Prelude.{Option}
 
 pub returns-in-Some-clause-moves : goal.returns-in-Some-clause-moves
-returns-in-Some-clause-moves g c = on_ok_weaker c.abort.result (λ steps. takes_none _ _ _ c.args.self.now _ steps refl) (c.abort.ensures.moves (present_of c.args.self.now) c.args.self.now.client.duties (search rules) refl refl)
+returns-in-Some-clause-moves g c = on_ok_weaker c.abort.result (λ steps. takes_none _ _ _ c.args.self.now _ steps refl) (c.abort.ensures.moves (present_of c.args.self.now) c.args.self.now.client.duties (search rules) refl refl c.take.ensures.after)
 
 -- nothing was to be aborted, so nothing has changed before the rule
 pub returns-in-None-clause-moves : goal.returns-in-None-clause-moves
