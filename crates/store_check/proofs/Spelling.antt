@@ -19,17 +19,17 @@ use Rattle.script_text.specs.declared.syntax.Syntax.{Syntax}
 use Rattle.script_text.specs.declared.syntax.SyntaxError.TheVariants.{Fault}
 use Rattle.script_text.specs.declared.syntax.SyntaxError.{SyntaxError}
 use Rattle.script_text.specs.declared.token.Token.{Token}
-use Rattle.std.proofs.Common.{Err, IfOk, IfSome, List, None, Ok, Option, Result, Some, [], ap, ap₂, append_assoc, arith, drop, false, get_or, length, refl, subst, suc, sym, true, add-one, ℕ, ◌++◌, ◌+◌, ◌<◌, ◌∙◌, ◌≡◌, ◌≤◌, ◌∷◌}
+use Rattle.std.proofs.Common.{Err, IfOk, IfSome, List, None, Ok, Option, Result, Some, [], ap, ap₂, append_assoc, arith, drop, false, get_or, length, option_map, refl, subst, suc, sym, true, add-one, ℕ, ◌++◌, ◌+◌, ◌<◌, ◌∙◌, ◌≡◌, ◌≤◌, ◌∷◌}
 use Rattle.std.proofs.Math.Seq.{drop-cons}
 use Rattle.std.proofs.lemmas.List.{append-nil, drop_all}
 use Rattle.store_check.specs.Spelled.{AreClasses, BeginWith, FindsOnly, IsEpochOf, IsLawful, SpellEpochs, SpellSchemas, SpellsEpoch, SpellsFirst, are_named, bare_schema, declared_roots, with_roots}
 
 -- ---- one reading
 
-given : {X : Type 0} → X → Result X SyntaxError
+abbrev pub given : {X : Type 0} → X → Result X SyntaxError
 given x = Ok x
 
-read_as : {X : Type 0} → X → Result X Syntax
+abbrev pub read_as : {X : Type 0} → X → Result X Syntax
 read_as x = Ok x
 
 -- what a reader gives is all that its bytes spell
@@ -53,9 +53,19 @@ pub ok_map : {A E : Type 0} (r : Result A E) (P Q : A → Type 0) → ((a : A) �
 ok_map (Ok a) P Q f p = f a p
 ok_map (Err e) P Q f p = tt
 
+-- what is found through a part of what is made
+pub some_at : {A X : Type 0} (f : A → X) (P : X → Type 0) (found : Option A) (a : A) → found ≡ Some a → FindsOnly P (option_map f found) → FindsOnly P (Some (f a))
+some_at f P found a is h = subst (λ o. FindsOnly P (option_map f o)) is h
+
+pub none_at : {A X : Type 0} (f : A → X) (P : X → Type 0) (found : Option A) → found ≡ None → FindsOnly P (option_map f found) → FindsOnly P None
+none_at f P found is h = subst (λ o. FindsOnly P (option_map f o)) is h
+
+pub if_some_at : {A : Type 0} (P : A → Type 0) (found : Option A) (a : A) → found ≡ Some a → IfSome found P → P a
+if_some_at P found a is h = subst (λ o. IfSome o P) is h
+
 -- ---- classes
 
-abbrev alone : List Class → Declarations
+abbrev pub alone : List Class → Declarations
 alone classes = record { classes = classes; roots = [] }
 
 pub classes_found : (tokens : List Token) (setup : Declarations) (r : Option (List Class)) → FindsOnly (SpellsSetup tokens) (Some setup) → IfSome r (λ cs. setup ≡ alone cs) → IfSome r (λ cs. length cs ≤ 65536)
@@ -65,6 +75,9 @@ classes_found tokens setup (Some cs) found is few none =
 classes_found tokens setup None found is few none = λ ds are.
     let same : alone ds ≡ setup = found.1 (alone ds) are.spelled in
     none refl (sym (ap (λ (d : Declarations). d.roots) same)) (subst (λ (d : Declarations). length d.classes ≤ 65536) same are.few)
+
+pub classes_none : (tokens : List Token) → FindsOnly (SpellsSetup tokens) None → FindsOnly (AreClasses tokens) None
+classes_none tokens none = λ ds are. none (alone ds) are.spelled
 
 pub lawful_found : (repos : ℕ) (classes : List Class) (bare schema : Schema) → bare ≡ bare_schema classes → schema ≡ bare → schema_rules bare repos ≡ [] → FindsOnly (IsLawful repos classes) (Some schema)
 lawful_found repos classes bare schema is same keeps =
@@ -127,10 +140,13 @@ module _ (repos : ℕ) (roots : List RootDeclaration) (first : Schema) (texts : 
     stuck [] none spelled = absurd spelled
     stuck (e ∷ rest) none spelled = none e spelled.0
 
-    pub walk_stops : FindsOnly (SpellsEpoch repos roots standing.schema text) None → FindsOnly (SpellEpochs repos roots first texts) None
-    walk_stops none = λ all spelled. let b = so_far.back all spelled in stuck b.0 none (subst (λ ts. SpellEpochs repos roots standing.schema ts b.0) parts b.1.1)
+    pub walk_stops : FindsOnly (SpellsEpoch standing.repos roots standing.schema text) None → FindsOnly (SpellEpochs repos roots first texts) None
+    walk_stops none = λ all spelled. let b = so_far.back all spelled in stuck b.0 (subst (λ n. FindsOnly (SpellsEpoch n roots standing.schema text) None) so_far.repos_are none) (subst (λ ts. SpellEpochs repos roots standing.schema ts b.0) parts b.1.1)
 
-    module _ (epoch : UpgradedSchema) (now : List UpgradedSchema) (behind : Checked) (found : FindsOnly (SpellsEpoch repos roots standing.schema text) (Some epoch)) (more : now ≡ epochs ++ epoch ∷ []) (schema : behind.schema ≡ applied standing.schema epoch.upgrade) where
+    module _ (epoch : UpgradedSchema) (now : List UpgradedSchema) (behind : Checked) (found_here : FindsOnly (SpellsEpoch standing.repos roots standing.schema text) (Some epoch)) (more : now ≡ epochs ++ epoch ∷ []) (schema : behind.schema ≡ applied standing.schema epoch.upgrade) where
+      found : FindsOnly (SpellsEpoch repos roots standing.schema text) (Some epoch)
+      found = subst (λ n. FindsOnly (SpellsEpoch n roots standing.schema text) (Some epoch)) so_far.repos_are found_here
+
       moved : (rest : List UpgradedSchema) → now ++ rest ≡ epochs ++ epoch ∷ rest
       moved rest = ap (λ es. es ++ rest) more ∙ append_assoc epochs (epoch ∷ []) rest
 
@@ -186,4 +202,4 @@ named_found classes roots upgrades repos (Some s) named found = (record { named 
 named_found classes roots upgrades repos None named found = λ y spell. found y spell.spelled
 
 pub unnamed : (classes : List ℕ) (roots : List Root) (upgrades : List (List ℕ)) (repos : ℕ) → are_named roots ≡ false → FindsOnly (SpellSchemas classes roots upgrades repos) None
-unnamed classes roots upgrades repos no = λ y spell. let bad : true ≡ false = sym spell.named ∙ no in cc
+unnamed classes roots upgrades repos not = λ y spell. let bad : true ≡ false = sym spell.named ∙ not in cc
