@@ -4,6 +4,7 @@ pub mod Fields
 pub mod Least
 pub mod Noting
 pub mod Numbered
+pub mod Spelling
 pub mod Summing
 pub mod Tested
 pub mod Verdict

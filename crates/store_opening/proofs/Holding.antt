@@ -25,7 +25,10 @@ use Rattle.repo_opening.specs.declared.repository.Read.{Read}
 use Rattle.store_opening.proofs.Bringing.{none_sorted}
 use Rattle.store_opening.specs.Joined.{read_states, state_of}
 use Rattle.store_opening.specs.OpenedStore.{Holds, Repository, committing, joined, objects_of, roots_of, states_of, with_repository}
-use Rattle.store_opening.specs.Reading.{IsOpened, IsPagedBy, IsStored, PutsAll, ReadAll, StandFor}
+use Rattle.store_opening.specs.Fitting.{FitTogether, IsMisfit}
+use Rattle.store_opening.specs.Unsound.{DontFit}
+use Rattle.class_defs.specs.declared.store.Schemas.{Schemas}
+use Rattle.store_opening.specs.Reading.{Fit, IsOpened, IsPagedBy, IsStored, PutsAll, ReadAll, StandFor}
 use Rattle.store_opening.specs.declared.found.OpenStore.{OpenStore}
 use Rattle.thor_value.proofs.FiniteMap.{IsSorted-insert}
 use Rattle.thor_value.proofs.NameOrders.{oref_total}
@@ -164,6 +167,23 @@ pairs (i ∷ images) (s ∷ states) (ws ∷ pages) stand paged =
       pages_are = ap (λ vs. ws ++ vs) rest.pages_are;
     }
 
+-- repositories of which disks hold these states, and of whose pages these are the objects
+pub record Whole (images : List (ℕ → List ℕ)) (states : List State) (paged : Objects) : Type 0 where
+  pub repositories : List Repository
+  pub each : AllZip Holds images repositories
+  pub states_are : states_of repositories ≡ states
+  pub paged_are : paged_of repositories ≡ paged
+
+pub whole_of : (images : List (ℕ → List ℕ)) (states : List State) (paged : Objects) → StandFor images states → PutsAll images empty paged → Whole images states paged
+whole_of images states paged stand puts =
+    let held = pairs images states puts.pages stand puts.each in
+    record {
+      repositories = held.repositories;
+      each = held.each;
+      states_are = held.states_are;
+      paged_are = ap (λ ws. overwrite empty ws) held.pages_are ∙ sym puts.put;
+    }
+
 sorted_over : (ws : List (Oref × Obj)) (m : Objects) → IsSorted m → IsSorted (overwrite m ws)
 sorted_over [] m sorted = sorted
 sorted_over (w ∷ ws) m sorted = sorted_over ws (insert m w.0 w.1) (IsSorted-insert oref_total m w.0 w.1 sorted)
@@ -204,3 +224,21 @@ opened_is images store opened stored is = record {
 pub on_ok_opened : {E : Type 0} (images : List (ℕ → List ℕ)) (store : OpenStore) (r : Result Plain E) → IsStored images store → IfOk r (λ opened. opened ≡ eager store.schemas (record { objects = store.stored.objects; epoch = store.stored.epoch; roots = store.roots })) → IfOk r (IsOpened images store.schemas)
 on_ok_opened images store (Ok opened) stored is = opened_is images store opened stored is
 on_ok_opened images store (Err e) stored is = tt
+
+-- ---- what it keeps to
+
+-- its repositories fit together
+pub fit_is : (images : List (ℕ → List ℕ)) (states : List State) (paged : Objects) (schemas : Schemas) → Whole images states paged → FitTogether states paged schemas → Fit images schemas
+fit_is images states paged schemas w together = record {
+  repositories = w.repositories;
+  each = w.each;
+  together = subst (λ ss. FitTogether ss (paged_of w.repositories) schemas) (sym w.states_are) (subst (λ m. FitTogether states m schemas) (sym w.paged_are) together);
+}
+
+-- or they don't, and this is the first that doesn't
+pub dont_fit : (images : List (ℕ → List ℕ)) (states : List State) (paged : Objects) (r : ℕ) → Whole images states paged → IsMisfit states paged r → DontFit images r
+dont_fit images states paged r w misfit = record {
+  repositories = w.repositories;
+  each = w.each;
+  misfit = subst (λ ss. IsMisfit ss (paged_of w.repositories) r) (sym w.states_are) (subst (λ m. IsMisfit states m r) (sym w.paged_are) misfit);
+}

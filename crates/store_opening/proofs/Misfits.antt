@@ -14,11 +14,14 @@ use Rattle.repo_opening.specs.declared.repository.Read.{Read}
 use Rattle.std.proofs.Common.{IfOk, IfSome, List, None, Ok, OnOk, Option, Result, Some, [], ap, arith, inl, inr, length, refl, slice_get, subst, suc, sym, take, zero, ℕ, ◌++◌, ◌+◌, ◌∙◌, ◌≡◌, ◌∷◌, ◌⊎◌}
 use Rattle.std.proofs.lemmas.Slice.Zip.{AllZip-long, all_zipped_more}
 use Rattle.std.specs.List.{AllZip}
-use Rattle.store_opening.proofs.Holding.{ok_at}
+use Rattle.store_opening.proofs.Holding.{dont_fit, ok_at, whole_of}
+use Rattle.store_opening.specs.Fitting.{IsMisfit}
+use Rattle.class_defs.specs.Stored.{Objects}
+use Rattle.thor_value.specs.FiniteMap.{empty}
 use Rattle.store_opening.specs.Joined.{read_states}
-use Rattle.store_opening.specs.Reading.{ReadAll, StandFor}
+use Rattle.store_opening.specs.Reading.{PutsAll, ReadAll, StandFor}
 use Rattle.store_opening.specs.Seated.{AreSeated, IsSeated}
-use Rattle.store_opening.specs.Unsound.{BeginsOpen, BehindOpen, HasLogOn, HaveLogs, IsCheckpoint, IsLogOn, IsNoRepository, IsNoStore, NotOpen, OfFit, OfFresh, OfName, OfRepository, Represents, Unsound}
+use Rattle.store_opening.specs.Unsound.{BeginsOpen, BehindOpen, DontFit, HasLogOn, HaveLogs, IsCheckpoint, IsLogOn, IsNoRepository, IsNoStore, NotOpen, OfFit, OfFresh, OfName, OfRepository, Represents, Unsound}
 use Rattle.store_opening.specs.declared.closed.Closed.{Closed}
 
 -- ---- one repository
@@ -137,10 +140,11 @@ which (image ∷ images) [] r d logs on = absurd logs
 which (image ∷ images) (read ∷ reads) zero d logs on = One image refl (subst (λ (n : ℕ). IsLogOn image n) (sym on) logs.0)
 which (image ∷ images) (read ∷ reads) (suc r) d logs on = behind_first image images r d (which images reads r d logs.1 on)
 
-unfit : (images : List (ℕ → List ℕ)) (states : List State) (r d place : ℕ) → StandFor images states → place ≡ 0 → Which images r d → IsNoStore images r d place
-unfit images states r d place stand at (One image is log) = OfFit image is log (record { states = states; each = stand }) at
-unfit images states r d place stand at (Nobody is disk) = OfName is (record { states = states; each = stand }) disk at
+unfit : (images : List (ℕ → List ℕ)) (r d place : ℕ) → DontFit images r → place ≡ 0 → Which images r d → IsNoStore images r d place
+unfit images r d place none at (One image is log) = OfFit image is log none at
+unfit images r d place none at (Nobody is disk) = OfName is none disk at
 
 -- what is told of repositories that don't fit together is wrong of the store
-pub misfit : (images : List (ℕ → List ℕ)) (reads : List Read) (r d place : ℕ) → StandFor images (read_states reads) → HaveLogs images reads → IsCheckpoint reads r d place → IsNoStore images r d place
-misfit images reads r d place stand logs told = unfit images (read_states reads) r d place stand told.1 (which images reads r d logs told.0)
+pub misfit : (images : List (ℕ → List ℕ)) (reads : List Read) (paged : Objects) (r d place : ℕ) → StandFor images (read_states reads) → PutsAll images empty paged → HaveLogs images reads → IsCheckpoint reads r d place × IsMisfit (read_states reads) paged r → IsNoStore images r d place
+misfit images reads paged r d place stand puts logs told =
+    unfit images r d place (dont_fit images (read_states reads) paged r (whole_of images (read_states reads) paged stand puts) told.1) told.0.1 (which images reads r d logs told.0.0)

@@ -1,9 +1,11 @@
 pub mod Bringing
 pub mod Counts
 pub mod Examples
+pub mod Fitting
 pub mod Joined
 pub mod Limits
 pub mod OpenedStore
 pub mod Reading
 pub mod Seated
+pub mod Standing
 pub mod Unsound

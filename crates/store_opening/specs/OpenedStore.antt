@@ -61,9 +61,13 @@ pub record Holds (images : ℕ → List ℕ) (r : Repository) : Type 0 where
 abbrev pub states_of : List Repository → List State
 states_of store = map (λ r. r.state) store
 
+-- the objects of the pages of all repositories as one map
+abbrev pub paged_of : List Repository → Objects
+paged_of store = overwrite empty (flat_map (λ r. r.paged) store)
+
 -- the objects of all repositories as one map
 abbrev pub objects_of : List Repository → Objects
-objects_of store = joined (states_of store) (overwrite empty (flat_map (λ r. r.paged) store))
+objects_of store = joined (states_of store) (paged_of store)
 
 -- the roots are those of repository 0
 abbrev pub roots_of : List State → List Root

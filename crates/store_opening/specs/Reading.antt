@@ -10,7 +10,8 @@ use Rattle.std.specs.List.{AllZip, flat_map}
 use Rattle.class_defs.specs.declared.store.Plain.{Plain}
 use Rattle.class_defs.specs.declared.store.Schemas.{Schemas}
 use Rattle.std.specs.Prelude.{List, None, Option, Some, [], length, ℕ, ◌≡◌, ◌∷◌}
-use Rattle.store_opening.specs.OpenedStore.{Holds, Repository, objects_of, opened_store, roots_of, states_of}
+use Rattle.store_opening.specs.Fitting.{AreSchemasOf, FitTogether}
+use Rattle.store_opening.specs.OpenedStore.{Holds, Repository, objects_of, opened_store, paged_of, roots_of, states_of}
 use Rattle.store_opening.specs.declared.found.OpenStore.{OpenStore}
 use Rattle.store_opening.specs.declared.found.Store.TheVariants.{Fresh, Open}
 use Rattle.store_opening.specs.declared.found.Store.{Store}
@@ -81,3 +82,25 @@ schemas_in (Open store) = Some store.schemas
 abbrev pub epochs_in : Store → ℕ
 epochs_in Fresh = 0
 epochs_in (Open store) = length store.schemas.upgraded
+
+-- ---- what a store that was found keeps to
+
+-- these are the schemas that the texts on the disks of repository 0 spell
+pub record AreSpelledOn (images : List (ℕ → List ℕ)) (schemas : Schemas) : Type 0 where
+  pub states : List State
+  pub each : StandFor images states
+  pub spelled : AreSchemasOf states schemas
+
+abbrev pub AreSpelledIn : List (ℕ → List ℕ) → Store → Type 0
+AreSpelledIn images Fresh = Unit {0}
+AreSpelledIn images (Open store) = AreSpelledOn images store.schemas
+
+-- the repositories of a store that is open fit together
+pub record Fit (images : List (ℕ → List ℕ)) (schemas : Schemas) : Type 0 where
+  pub repositories : List Repository
+  pub each : AllZip Holds images repositories
+  pub together : FitTogether (states_of repositories) (paged_of repositories) schemas
+
+abbrev pub FitIn : List (ℕ → List ℕ) → Store → Type 0
+FitIn images Fresh = Unit {0}
+FitIn images (Open store) = Fit images store.schemas

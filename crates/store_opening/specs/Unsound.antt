@@ -8,7 +8,9 @@ use Rattle.repo_opening.specs.Unsound.{IsUnsound}
 use Rattle.repo_opening.specs.declared.repository.Read.{Read}
 use Rattle.std.specs.List.{AllZip}
 use Rattle.std.specs.Prelude.{List, None, Option, Some, [], length, slice_get, ℕ, ◌≡◌, ◌∷◌}
-use Rattle.store_opening.specs.Reading.{ReadAll, StandFor}
+use Rattle.store_opening.specs.Fitting.{IsMisfit}
+use Rattle.store_opening.specs.OpenedStore.{Holds, Repository, paged_of, states_of}
+use Rattle.store_opening.specs.Reading.{ReadAll}
 use Rattle.store_opening.specs.Seated.{AreSeated}
 use Rattle.store_opening.specs.declared.closed.Closed.{Closed}
 
@@ -27,10 +29,11 @@ abbrev pub BeginsOpen : List (ℕ → List ℕ) → Type 0
 BeginsOpen [] = ⊥
 BeginsOpen (image ∷ images) = Represents image
 
--- each repository represents a state
-pub record AllRepresent (images : List (ℕ → List ℕ)) : Type 0 where
-  pub states : List State
-  pub each : StandFor images states
+-- Each repository is whole by itself, and they don't fit together: this one is the first that doesn't.
+pub record DontFit (images : List (ℕ → List ℕ)) (r : ℕ) : Type 0 where
+  pub repositories : List Repository
+  pub each : AllZip Holds images repositories
+  pub misfit : IsMisfit (states_of repositories) (paged_of repositories) r
 
 -- What is wrong at a place of a disk of this repository of a store.
 pub data IsNoStore (images : List (ℕ → List ℕ)) (r d place : ℕ) : Type 0 where
@@ -38,10 +41,10 @@ pub data IsNoStore (images : List (ℕ → List ℕ)) (r d place : ℕ) : Type 0
   OfRepository : (image : ℕ → List ℕ) → slice_get images r ≡ Some image → IsUnsound r (length images) image d place → IsNoStore images r d place
   -- it has no open log, and repository 0 has one
   OfFresh : (image : ℕ → List ℕ) → slice_get images r ≡ Some image → IsFresh image → BeginsOpen images → d ≡ 0 → place ≡ 0 → IsNoStore images r d place
-  -- each repository is whole by itself, and they don't fit together: the checkpoint of one is told
-  OfFit : (image : ℕ → List ℕ) → slice_get images r ≡ Some image → IsLogOn image d → AllRepresent images → place ≡ 0 → IsNoStore images r d place
+  -- each repository is whole by itself, and this one doesn't fit: its checkpoint is told
+  OfFit : (image : ℕ → List ℕ) → slice_get images r ≡ Some image → IsLogOn image d → DontFit images r → place ≡ 0 → IsNoStore images r d place
   -- the same, by a name of no repository
-  OfName : slice_get images r ≡ None → AllRepresent images → d ≡ 0 → place ≡ 0 → IsNoStore images r d place
+  OfName : slice_get images r ≡ None → DontFit images r → d ≡ 0 → place ≡ 0 → IsNoStore images r d place
 
 -- ---- what was read
 

@@ -1,39 +1,26 @@
 //! Whether the repositories of an open store fit together.
 
-ghost use Rattle.std.specs.Prelude.{IfOk, ◌≡◌};
-ghost use Rattle.store_opening.specs.Joined.{AreKept, read_states};
-ghost use Rattle.store_opening.specs.OpenedStore.{joined};
+ghost use Rattle.class_defs.specs.SchemaRules.{schema_rules};
+ghost use Rattle.std.specs.List.{AllByRecursion};
+ghost use Rattle.std.specs.Prelude.{IfOk, IsErrOf, OnOk, [], length, ◌≡◌, ◌≤◌, ⊥, ℕ};
+ghost use Rattle.store_check.specs.Fits.{TellsFit, stored_under};
+ghost use Rattle.store_check.specs.declared.fitting.Fitting.TheVariants.{Fits};
+ghost use Rattle.store_opening.specs.Fitting.{ArePassed, AreSchemasOf, FailsFrom, FailsIn, FitTogether, HasCoordinators, HasOwnNames, IsBelow, IsFirstNot, IsMisfit, IsUnfit, IsUnfitIn, PassFrom, stored_of};
+ghost use Rattle.store_opening.specs.Joined.{AreKept, read_states, state_of};
+ghost use Rattle.store_opening.specs.OpenedStore.{joined, roots_of};
+ghost use Rattle.store_opening.specs.Standing.{IsStanding, members_of};
+ghost use Rattle.store_opening.specs.declared.misfit.Misfit.TheVariants.{Of};
 
-use crate::joined::{Settled, joined, settle_repository};
+use crate::alike::{check_alike, check_read, read_schemas};
+use crate::joined::joined;
+use crate::misfit::Misfit;
 use crate::separate::{has_coordinators, has_own_names, is_below};
-use class_defs::{Root, Roots, Schemas};
+use crate::standing::{Stands, standing_of};
+use class_defs::Schemas;
 use repo_opening::{Read, number_at};
 use std::alloc::Global;
-use store_check::{Fitting, Texts, fits, is_lawful, schemas_of};
-use thor_value::{NoMemory, Obj, OrefMap, Text, both};
-
-/// Why the repositories of a store weren't found to fit together.
-#[derive(Clone, Copy)]
-pub(crate) enum Misfit {
-    /// They don't: by the checkpoint of this one, or by a name of this one.
-    Of { repo: u8 },
-    /// Memory was not there.
-    NoMemory,
-}
-
-impl From<NoMemory> for Misfit {
-    fn from(_refused: NoMemory) -> Misfit {
-        Misfit::NoMemory
-    }
-}
-
-/// A repository with its prepared transactions taken.
-#[derive(Clone, Copy)]
-struct Stands<'a> {
-    repo: u8,
-    read: &'a Read<'a>,
-    settled: &'a Settled,
-}
+use store_check::{Fitting, fits, is_lawful};
+use thor_value::{NoMemory, Obj, Oref, OrefMap, both};
 
 /// Checks that the repositories of a store fit together, and gives the schemas of its epochs and the objects of
 /// all repositories, over those of their pages.
@@ -46,207 +33,163 @@ pub(crate) fn check_store(
     paged: OrefMap<Obj>,
 ) -> Result<(Schemas, OrefMap<Obj>), Misfit>
     requires { AreKept store.now }
-    ensures { IfOk result (λ checked. checked.1 ≡ joined (read_states store.now) paged) }
+    ensures objects { IfOk result (λ checked. checked.1 ≡ joined (read_states store.now) paged) }
+    ensures fits { IfOk result (λ checked. FitTogether (read_states store.now) paged checked.0) }
+    ensures misfit { (r : ℕ) → IsErrOf result (Of r) → IsMisfit (read_states store.now) paged r }
 {
-    let (paged, settled) = both(paged, settle_all(alloc, store))?;
-    let standing = standing_of(alloc, store, settled.as_slice());
-    let (paged, standing) = both(paged, standing)?;
-    check_standing(alloc, store, standing.as_slice(), paged)
+    let names = paged.names(alloc);
+    let (paged, names) = both(paged, names)?;
+    let separate = check_separate(alloc, store, names.as_slice());
+    let (paged, schemas) = both(paged, separate)?;
+    check_together(alloc, store, schemas, paged)
 }
 
-fn check_standing(
+/// The schemas of a store whose repositories pass each check by themselves. The names are those of the objects of all pages.
+fn check_separate(alloc: Global, store: &[Read<'_>], names: &[Oref]) -> Result<Schemas, Misfit>
+    requires { AreKept store.now }
+    ensures schemas { IfOk result (AreSchemasOf (read_states store.now)) }
+    ensures passed { OnOk result (PassFrom (read_states store.now) names.now (read_states store.now)) }
+    ensures misfit { (r : ℕ) → IsErrOf result (Of r) → FailsFrom (read_states store.now) names.now (read_states store.now) r (λ _. ⊥) }
+{
+    let standing = standing_of(alloc, store)?;
+    let Some((first, others)) = standing.as_slice().split_first() else {
+        return Err(Misfit::NoMemory);
+    };
+    let repos = number_at(store.len())?;
+    let schemas = read_schemas(alloc, store, first, repos)?;
+    let checked = check_each(alloc, store, first, others, standing.as_slice(), names);
+    let (schemas, _) = both(schemas, checked)?;
+    Ok(schemas)
+}
+
+/// What is checked of each repository by itself.
+fn check_each(
+    alloc: Global,
+    store: &[Read<'_>],
+    first: &Stands,
+    others: &[Stands],
+    all: &[Stands],
+    names: &[Oref],
+) -> Result<(), Misfit>
+    requires kept { AreKept store.now }
+    requires first { IsStanding store.now first.now }
+    requires others { AllByRecursion (IsStanding store.now) others.now }
+    requires all { AllByRecursion (IsStanding store.now) all.now }
+    ensures passed { OnOk result (ArePassed (read_states store.now) names.now (state_of first.now.read.now) (members_of others.now) (members_of all.now)) }
+    ensures misfit { (r : ℕ) → IsErrOf result (Of r) → FailsIn (read_states store.now) names.now (state_of first.now.read.now) (members_of others.now) (members_of all.now) r ⊥ }
+{
+    check_read(alloc, store, first, others)?;
+    check_alike(store, first, others)?;
+    check_coordinators(store, all)?;
+    check_below(store, all)?;
+    check_names(alloc, store, all, names)
+}
+
+/// Each prepared request of each repository has a coordinator.
+fn check_coordinators(store: &[Read<'_>], standing: &[Stands]) -> Result<(), Misfit>
+    requires kept { AreKept store.now }
+    requires standing { AllByRecursion (IsStanding store.now) standing.now }
+    ensures passed { OnOk result (AllByRecursion (HasCoordinators (read_states store.now)) (members_of standing.now)) }
+    ensures misfit { (r : ℕ) → IsErrOf result (Of r) → IsFirstNot (HasCoordinators (read_states store.now)) (members_of standing.now) r }
+{
+    for one in standing {
+        let has = has_coordinators(store, one)?;
+        if !has {
+            return Err(Misfit::Of { repo: one.repo });
+        }
+    }
+    Ok(())
+}
+
+/// No decision and no last transaction of each repository is above its threshold.
+fn check_below(store: &[Read<'_>], standing: &[Stands]) -> Result<(), Misfit>
+    requires standing { AllByRecursion (IsStanding store.now) standing.now }
+    ensures passed { OnOk result (AllByRecursion (IsBelow (read_states store.now)) (members_of standing.now)) }
+    ensures misfit { (r : ℕ) → IsErrOf result (Of r) → IsFirstNot (IsBelow (read_states store.now)) (members_of standing.now) r }
+{
+    for one in standing {
+        let below = is_below(store, one)?;
+        if !below {
+            return Err(Misfit::Of { repo: one.repo });
+        }
+    }
+    Ok(())
+}
+
+/// The names of the objects of each repository are its own.
+fn check_names(
     alloc: Global,
     store: &[Read<'_>],
     standing: &[Stands],
+    names: &[Oref],
+) -> Result<(), Misfit>
+    requires kept { AreKept store.now }
+    requires standing { AllByRecursion (IsStanding store.now) standing.now }
+    ensures passed { OnOk result (AllByRecursion (HasOwnNames (read_states store.now) names.now) (members_of standing.now)) }
+    ensures misfit { (r : ℕ) → IsErrOf result (Of r) → IsFirstNot (HasOwnNames (read_states store.now) names.now) (members_of standing.now) r }
+{
+    for one in standing {
+        let own = has_own_names(alloc, store, one, names)?;
+        if !own {
+            return Err(Misfit::Of { repo: one.repo });
+        }
+    }
+    Ok(())
+}
+
+/// The schemas and the objects of all repositories, where the objects fit, and the schemas break no rule.
+fn check_together(
+    alloc: Global,
+    store: &[Read<'_>],
+    schemas: Schemas,
     paged: OrefMap<Obj>,
 ) -> Result<(Schemas, OrefMap<Obj>), Misfit>
-    requires { AreKept store.now }
-    ensures { IfOk result (λ checked. checked.1 ≡ joined (read_states store.now) paged) }
+    requires kept { AreKept store.now }
+    requires few { length schemas.first.classes ≤ 65536 }
+    ensures schemas { IfOk result (λ checked. checked.0 ≡ schemas) }
+    ensures objects { IfOk result (λ checked. checked.1 ≡ joined (read_states store.now) paged) }
+    ensures fits { OnOk result (TellsFit schemas (stored_of (read_states store.now) paged schemas) Fits) }
+    ensures keeps { OnOk result (schema_rules schemas.first (length (read_states store.now)) ≡ []) }
+    ensures misfit { (r : ℕ) → IsErrOf result (Of r) → IsUnfit (read_states store.now) paged schemas r }
 {
-    let (paged, repos) = both(paged, number_at(store.len()))?;
-    let Some((first, others)) = standing.split_first() else {
-        drop(paged);
-        return Err(Misfit::NoMemory);
-    };
-    let (paged, schemas) = both(paged, checked_schemas(alloc, first, others, repos))?;
-    let (held, _) = both((schemas, paged), check_each(store, standing))?;
-    let (schemas, paged) = held;
-    let (schemas, objects) = both(schemas, joined(alloc, store, paged))?;
-    let checked = check_joined(alloc, first, store, &objects, &schemas);
+    let joined = joined(alloc, store, paged);
+    let (schemas, objects) = both(schemas, joined)?;
+    let checked = check_objects(alloc, store, &objects, &schemas);
     let (held, _) = both((schemas, objects), checked)?;
     Ok(held)
 }
 
-/// The schemas of the first repository, where the texts of the others are the same.
-fn checked_schemas(
-    alloc: Global,
-    first: &Stands,
-    others: &[Stands],
-    repos: u8,
-) -> Result<Schemas, Misfit> {
-    let schemas = read_schemas(alloc, first, repos)?;
-    let (schemas, _) = both(schemas, check_others(alloc, first, others, repos))?;
-    Ok(schemas)
-}
-
-/// The other repositories have the texts, classes, roots and upgrades of the first one.
-fn check_others(alloc: Global, first: &Stands, others: &[Stands], repos: u8) -> Result<(), Misfit> {
-    for other in others {
-        check_texts(alloc, first, other, repos)?;
-    }
-    for other in others {
-        check_alike(first, other)?;
-    }
-    Ok(())
-}
-
 /// The objects of all repositories fit, and the schemas break no rule.
-fn check_joined(
+fn check_objects(
     alloc: Global,
-    first: &Stands,
     store: &[Read<'_>],
     objects: &OrefMap<Obj>,
     schemas: &Schemas,
-) -> Result<(), Misfit> {
-    check_objects(alloc, first, objects, schemas)?;
-    if !is_lawful(alloc, schemas, number_at(store.len())?)? {
-        return Err(Misfit::Of { repo: first.repo });
-    }
-    Ok(())
-}
-
-fn settle_all(alloc: Global, store: &[Read<'_>]) -> Result<Vec<Settled>, NoMemory>
-    requires { AreKept store.now }
+) -> Result<(), Misfit>
+    requires few { length schemas.now.first.classes ≤ 65536 }
+    ensures fits { OnOk result (TellsFit schemas.now (stored_under schemas.now objects.now (roots_of (read_states store.now))) Fits) }
+    ensures keeps { OnOk result (schema_rules schemas.now.first (length (read_states store.now)) ≡ []) }
+    ensures misfit { (r : ℕ) → IsErrOf result (Of r) → IsUnfitIn (read_states store.now) (stored_under schemas.now objects.now (roots_of (read_states store.now))) schemas.now r }
 {
-    let mut all = Vec::new(alloc);
-    for read in store {
-        all.push(settle_repository(alloc, store, read)?)?;
-    }
-    Ok(all)
-}
-
-fn standing_of<'a>(
-    alloc: Global,
-    store: &'a [Read<'a>],
-    settled: &'a [Settled],
-) -> Result<Vec<Stands<'a>>, NoMemory> {
-    let mut standing = Vec::new(alloc);
-    for (place, (read, settled)) in store.iter().zip(settled.iter()).enumerate() {
-        let repo = number_at(place)?;
-        standing.push(Stands {
-            repo,
-            read,
-            settled,
-        })?;
-    }
-    Ok(standing)
-}
-
-/// The schemas that the texts of a repository spell.
-fn read_schemas(alloc: Global, stands: &Stands, repos: u8) -> Result<Schemas, Misfit> {
-    let state = &stands.read.recovered.state;
-    let texts = Texts {
-        classes: state.classes(),
-        roots: state.roots(),
-        upgrades: stands.settled.upgrades.as_slice(),
+    let Some(first) = store.first() else {
+        return Err(Misfit::NoMemory);
     };
-    match schemas_of(alloc, texts, repos)? {
-        Some(schemas) => Ok(schemas),
-        None => Err(Misfit::Of { repo: stands.repo }),
-    }
-}
-
-/// The texts of another repository than the first parse and break no rule. Those of the first do.
-fn check_texts(alloc: Global, first: &Stands, other: &Stands, repos: u8) -> Result<(), Misfit> {
-    if !has_texts_of(first, other) {
-        read_schemas(alloc, other, repos)?;
-    }
-    Ok(())
-}
-
-/// Whether a repository has the texts of the first one, roots aside.
-fn has_texts_of(first: &Stands, other: &Stands) -> bool {
-    let texts = first.read.recovered.state.classes();
-    let others = other.read.recovered.state.classes();
-    texts.as_slice() == others.as_slice()
-        && are_same_texts(
-            first.settled.upgrades.as_slice(),
-            other.settled.upgrades.as_slice(),
-        )
-}
-
-fn are_same_texts(some: &[Text], others: &[Text]) -> bool {
-    if some.len() != others.len() {
-        return false;
-    }
-    for (text, other) in some.iter().zip(others.iter()) {
-        if text.as_slice() != other.as_slice() {
-            return false;
-        }
-    }
-    true
-}
-
-fn is_same_root(some: &Root, other: &Root) -> bool {
-    some.class == other.class
-        && some.oref == other.oref
-        && some.name.as_slice() == other.name.as_slice()
-}
-
-fn are_same_roots(some: &Roots, others: &Roots) -> bool {
-    if some.len() != others.len() {
-        return false;
-    }
-    for (root, other) in some.as_slice().iter().zip(others.as_slice().iter()) {
-        if !is_same_root(root, other) {
-            return false;
-        }
-    }
-    true
-}
-
-/// A repository has the classes, roots and upgrades of the first one.
-fn check_alike(first: &Stands, other: &Stands) -> Result<(), Misfit> {
-    let roots = first.read.recovered.state.roots();
-    let others = other.read.recovered.state.roots();
-    if !has_texts_of(first, other) || !are_same_roots(roots, others) {
-        return Err(Misfit::Of { repo: other.repo });
-    }
-    Ok(())
-}
-
-/// What is checked of each repository by itself.
-fn check_each(store: &[Read<'_>], standing: &[Stands]) -> Result<(), Misfit>
-    requires { AreKept store.now }
-{
-    for one in standing {
-        if !has_coordinators(store, one.repo, one.read) {
-            return Err(Misfit::Of { repo: one.repo });
-        }
-    }
-    for one in standing {
-        if !is_below(one.read, one.settled.threshold) {
-            return Err(Misfit::Of { repo: one.repo });
-        }
-    }
-    for one in standing {
-        if !has_own_names(store, one.repo, one.read) {
-            return Err(Misfit::Of { repo: one.repo });
-        }
-    }
-    Ok(())
-}
-
-/// The objects of all repositories are of their classes and well owned.
-fn check_objects(
-    alloc: Global,
-    first: &Stands,
-    objects: &OrefMap<Obj>,
-    schemas: &Schemas,
-) -> Result<(), Misfit> {
-    let roots = first.read.recovered.state.roots();
-    match fits(alloc, objects, roots, schemas)? {
-        Fitting::Fits => Ok(()),
+    match fits(alloc, objects, first.recovered.state.roots(), schemas)? {
+        Fitting::Fits => check_rules(alloc, store, schemas),
         Fitting::Unfit { oref } => Err(Misfit::Of { repo: oref.repo }),
     }
+}
+
+/// The first schema of a store breaks no rule with its roots.
+fn check_rules(alloc: Global, store: &[Read<'_>], schemas: &Schemas) -> Result<(), Misfit>
+    requires few { length schemas.now.first.classes ≤ 65536 }
+    ensures keeps { OnOk result (schema_rules schemas.now.first (length (read_states store.now)) ≡ []) }
+    ensures misfit { (r : ℕ) → IsErrOf result (Of r) → (r ≡ 0) × (schema_rules schemas.now.first (length (read_states store.now)) ≡ [] → ⊥) }
+{
+    let repos = number_at(store.len())?;
+    let lawful = is_lawful(alloc, schemas, repos)?;
+    if !lawful {
+        return Err(Misfit::Of { repo: 0 });
+    }
+    Ok(())
 }

@@ -13,14 +13,17 @@ ghost use Rattle.store_opening.specs.Unsound.{BehindOpen, HaveLogs, IsCheckpoint
 ghost use Rattle.store_opening.specs.Joined.{AreKept, read_states};
 ghost use Rattle.store_opening.specs.Limits.{AnyHas, HasCountAbove, HasLifeAbove, PlaceHas};
 ghost use Rattle.store_opening.specs.OpenedStore.{roots_of};
-ghost use Rattle.store_opening.specs.Reading.{IsFreshIn, IsOpened, IsOpenedIn, IsStored, IsStoredIn, PutsAll, ReadAll, StandFor, epochs_in, schemas_in};
+ghost use Rattle.store_opening.specs.Fitting.{IsMisfit};
+ghost use Rattle.store_opening.specs.declared.misfit.Misfit.TheVariants.{Of};
+ghost use Rattle.store_opening.specs.Reading.{AreSpelledIn, FitIn, IsFreshIn, IsOpened, IsOpenedIn, IsStored, IsStoredIn, PutsAll, ReadAll, StandFor, epochs_in, schemas_in};
 ghost use Rattle.std.specs.Option.{option_copied};
 ghost use Rattle.thor_value.specs.FiniteMap.{IsSorted, empty};
 
 use crate::closed::{Closed, give_back};
 use crate::eager::eager;
 use crate::fault::ClusterFault;
-use crate::fit::{Misfit, check_store};
+use crate::fit::check_store;
+use crate::misfit::Misfit;
 use class_defs::{Plain, Roots, Schemas};
 use disk_trait::Parts;
 use method_eval::{Names, View};
@@ -77,6 +80,8 @@ impl<P: Parts> Found<P> {
         ensures found { IfOk result (HasParts P.disks parts.items) }
         ensures unread { IfErr result (λ fault. AreSame P.disks parts.items fault.parts.items) }
         ensures stored { (images : List (ℕ → List ℕ)) → ReadAll P.disks parts.items images → IfOk result (λ found. IsStoredIn images found.store) }
+        ensures spelled { (images : List (ℕ → List ℕ)) → ReadAll P.disks parts.items images → IfOk result (λ found. AreSpelledIn images found.store) }
+        ensures fit { (images : List (ℕ → List ℕ)) → ReadAll P.disks parts.items images → IfOk result (λ found. FitIn images found.store) }
         ensures damaged { (images : List (ℕ → List ℕ)) (r d place : ℕ) → ReadAll P.disks parts.items images → IfErr result (λ fault. fault.why ≡ Damaged r d place → IsNoStore images r d place) }
     {
         let Ok(spare) = Vec::with_capacity(alloc, parts.len()) else {
@@ -426,7 +431,9 @@ fn store_of<P: Parts>(
     read: Result<(), Unopened>,
 ) -> Result<Store, Unopened>
     ensures stored { (parts : List P) (images : List (ℕ → List ℕ)) → AreSeated P.disks parts places.now → ReadAll P.disks parts images → OnOk read (PutsAll images empty objects) → IfOk result (IsStoredIn images) }
-    ensures damaged { (parts : List P) (images : List (ℕ → List ℕ)) (r d place : ℕ) → AreSeated P.disks parts places.now → ReadAll P.disks parts images → (IsErrOf read (Damaged r d place) → IsNoStore images r d place) → IsErrOf result (Damaged r d place) → IsNoStore images r d place }
+    ensures spelled { (parts : List P) (images : List (ℕ → List ℕ)) → AreSeated P.disks parts places.now → ReadAll P.disks parts images → IfOk result (AreSpelledIn images) }
+    ensures fit { (parts : List P) (images : List (ℕ → List ℕ)) → AreSeated P.disks parts places.now → ReadAll P.disks parts images → OnOk read (PutsAll images empty objects) → IfOk result (FitIn images) }
+    ensures damaged { (parts : List P) (images : List (ℕ → List ℕ)) (r d place : ℕ) → AreSeated P.disks parts places.now → ReadAll P.disks parts images → OnOk read (PutsAll images empty objects) → (IsErrOf read (Damaged r d place) → IsNoStore images r d place) → IsErrOf result (Damaged r d place) → IsNoStore images r d place }
 {
     let (objects, _) = both(objects, read)?;
     if begins_fresh(places) {
@@ -466,7 +473,9 @@ fn reads_of<P: Parts>(
 fn open_store(alloc: Global, reads: &[Read<'_>], paged: OrefMap<Obj>) -> Result<Store, Unopened>
     requires { AreKept reads.now }
     ensures stored { (images : List (ℕ → List ℕ)) → StandFor images (read_states reads.now) → PutsAll images empty paged → IfOk result (IsStoredIn images) }
-    ensures damaged { (r d place : ℕ) → IsErrOf result (Damaged r d place) → IsCheckpoint reads.now r d place }
+    ensures spelled { (images : List (ℕ → List ℕ)) → StandFor images (read_states reads.now) → IfOk result (AreSpelledIn images) }
+    ensures fit { (images : List (ℕ → List ℕ)) → StandFor images (read_states reads.now) → PutsAll images empty paged → IfOk result (FitIn images) }
+    ensures damaged { (r d place : ℕ) → IsErrOf result (Damaged r d place) → IsCheckpoint reads.now r d place × IsMisfit (read_states reads.now) paged r }
 {
     let (paged, roots) = both(paged, roots_of(reads))?;
     let fit = fitted(reads, check_store(alloc, reads, paged));
@@ -493,7 +502,7 @@ fn open_store(alloc: Global, reads: &[Read<'_>], paged: OrefMap<Obj>) -> Result<
 /// What was checked of a store, or which place is told where its repositories don't fit together.
 fn fitted<T: Drop>(reads: &[Read<'_>], checked: Result<T, Misfit>) -> Result<T, Unopened>
     ensures ok { IfOk result (λ found. checked ≡ Ok found) }
-    ensures damaged { (r d place : ℕ) → IsErrOf result (Damaged r d place) → IsCheckpoint reads.now r d place }
+    ensures damaged { (r d place : ℕ) → IsErrOf result (Damaged r d place) → IsCheckpoint reads.now r d place × IsErrOf checked (Of r) }
 {
     match checked {
         Ok(found) => Ok(found),
@@ -504,7 +513,7 @@ fn fitted<T: Drop>(reads: &[Read<'_>], checked: Result<T, Misfit>) -> Result<T, 
 
 /// What is told where a repository doesn't fit: the place of its checkpoint. Of one that the store hasn't, it is byte 0 of disk 0.
 fn misfit_at(reads: &[Read<'_>], repo: u8) -> Unopened
-    ensures { (r d place : ℕ) → result ≡ Damaged r d place → IsCheckpoint reads.now r d place }
+    ensures { (r d place : ℕ) → result ≡ Damaged r d place → IsCheckpoint reads.now r d place × (r ≡ repo) }
 {
     match reads.get(usize::from(repo)) {
         Some(read) => read.damaged(repo),

@@ -4,12 +4,14 @@ ghost use Rattle.std.specs.List.{filter, fold};
 ghost use Rattle.std.specs.Prelude.{IfOk, OnOk, Some, [], map, slice_get, ◌++◌, ◌∷◌, ◌≡◌};
 ghost use Rattle.store_opening.specs.Joined.{AreKept, IsKept, read_states, state_of};
 ghost use Rattle.store_opening.specs.OpenedStore.{committing, is_committed, keeps_decision, joined, upgrades_of, with_repository};
-ghost use Rattle.commit_log.specs.Recovered.{texts_after};
+ghost use Rattle.store_opening.specs.Fitting.{threshold_of};
+ghost use Rattle.commit_log.specs.Recovered.{texts_after, threshold_after};
 ghost use Rattle.thor_value.specs.FiniteMap.{overwrite};
 
 use log_entries::{Kind, Request};
 use mob_buffer::Mob;
 use repo_opening::Read;
+use repo_state::later_of;
 use std::alloc::Global;
 use thor_value::{NoMemory, Obj, OrefMap, Text, Texts, TryCopy, Ts, both};
 
@@ -23,7 +25,7 @@ pub(crate) struct Settled {
 }
 
 /// Whether a repository keeps the decision to commit a transaction.
-fn keeps(read: &Read<'_>, tx: Ts) -> bool
+pub(crate) fn keeps(read: &Read<'_>, tx: Ts) -> bool
     requires { IsKept read.now }
     ensures { result ≡ keeps_decision (Some (state_of read.now)) tx }
 {
@@ -42,7 +44,7 @@ pub(crate) fn is_committed(store: &[Read<'_>], tx: Ts) -> bool
 }
 
 /// The prepared requests of a repository that commit, by rising timestamp.
-fn committing<'a>(
+pub(crate) fn committing<'a>(
     alloc: Global,
     store: &[Read<'_>],
     read: &Read<'a>,
@@ -86,7 +88,8 @@ pub(crate) fn settle_repository(
 ) -> Result<Settled, NoMemory>
     requires store { AreKept store.now }
     requires read { IsKept read.now }
-    ensures { IfOk result (λ settled. settled.upgrades ≡ upgrades_of (read_states store.now) (state_of read.now)) }
+    ensures upgrades { IfOk result (λ settled. settled.upgrades ≡ upgrades_of (read_states store.now) (state_of read.now)) }
+    ensures threshold { IfOk result (λ settled. settled.threshold ≡ threshold_of (read_states store.now) (state_of read.now)) }
 {
     let state = &read.recovered.state;
     let mut settled = Settled {
@@ -99,7 +102,8 @@ pub(crate) fn settle_repository(
 }
 
 fn commit_all(settled: &mut Settled, requests: &[&Request]) -> Result<(), NoMemory>
-    ensures { OnOk result (settled.new.upgrades ≡ fold (λ texts q. texts_after texts q.kind) settled.old.upgrades (map (λ q. q.now) requests.now)) }
+    ensures threshold { OnOk result (settled.new.threshold ≡ fold (λ threshold q. threshold_after threshold q.kind q.tx) settled.old.threshold (map (λ q. q.now) requests.now)) }
+    ensures upgrades { OnOk result (settled.new.upgrades ≡ fold (λ texts q. texts_after texts q.kind) settled.old.upgrades (map (λ q. q.now) requests.now)) }
 {
     for request in requests {
         commit(settled, request)?;
@@ -108,11 +112,12 @@ fn commit_all(settled: &mut Settled, requests: &[&Request]) -> Result<(), NoMemo
 }
 
 fn commit(settled: &mut Settled, request: &Request) -> Result<(), NoMemory>
-    ensures { OnOk result (settled.new.upgrades ≡ texts_after settled.old.upgrades request.now.kind) }
+    ensures threshold { OnOk result (settled.new.threshold ≡ threshold_after settled.old.threshold request.now.kind request.now.tx) }
+    ensures upgrades { OnOk result (settled.new.upgrades ≡ texts_after settled.old.upgrades request.now.kind) }
 {
     match &request.kind {
         Kind::App | Kind::Transform => {
-            settled.threshold = settled.threshold.max(request.tx);
+            settled.threshold = later_of(settled.threshold, request.tx);
             Ok(())
         }
         Kind::Upgrade { text } => {

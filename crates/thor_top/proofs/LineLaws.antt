@@ -48,7 +48,7 @@ module _ (lines : List Line) (D : DiskBytes) (plan : Plan) (script : Script) (e 
       let second : IsRunWith lines (running_of plan.command) e.form schemas e.opened.store e.script finished text = subst (λ (s : Schemas). IsRunWith lines (running_of plan.command) e.form s e.opened.store e.script finished text) x.schemas first in
       let third : IsRunWith lines (running_of plan.command) e.form schemas e.opened.store script finished text = subst (λ (s : Script). IsRunWith lines (running_of plan.command) e.form schemas e.opened.store s finished text) x.same second in
       record {
-        told = (tells, (a.within, (a.fits, record { base = x.base; store = e.opened.store; accepted = x.accepted; store_is = x.store_is; of_disks = x.of_disks; run = third.run })));
+        told = (tells, (a.within, (a.fits, record { base = x.base; store = e.opened.store; accepted = x.accepted; spelled = x.spelled; store_is = x.store_is; of_disks = x.of_disks; run = third.run })));
         has = third.has;
       }
 

@@ -23,7 +23,7 @@ use Rattle.top_reply.specs.declared.reply.Reply.{Reply}
 use Rattle.top_reply.specs.declared.running.Running.{Running}
 use Rattle.top_reply.specs.declared.untold.Untold.{Untold}
 use Rattle.top_statement.specs.Kept.{Refuses, RefusesBy, WritesNothing}
-use Rattle.top_statement.specs.Opening.{DiskBytes, FitsDisks, IsAccepted, IsOfDisks, IsStore, IsStoredBy}
+use Rattle.top_statement.specs.Opening.{AreSpelledBy, DiskBytes, FitsDisks, IsAccepted, IsOfDisks, IsStore, IsStoredBy}
 use Rattle.top_statement.specs.Top.{IsWithinLimits, RepliesTo, Told, form_of, origin_of, running_of}
 use Rattle.top_words.specs.declared.command.Command.{Command}
 use Rattle.top_words.specs.declared.command.Command.TheVariants.{Audit, Check, Gen, Play, Run}
@@ -94,17 +94,17 @@ pub of_disks : (D : DiskBytes) (setup : Option Declarations) (base : Schemas) (s
 of_disks D (Some setup) base store opened stored is = tt
 of_disks D None base store opened stored is = λ images reads. is images (stored.each images reads)
 
-reported_run : (D : DiskBytes) (running : Running) (f : Form) (repos : ℕ) (script : Script) (base : Schemas) (store : Plain) → IsAccepted repos script base → IsStore script.setup base store → IsOfDisks D script.setup base store
+reported_run : (D : DiskBytes) (running : Running) (f : Form) (repos : ℕ) (script : Script) (base : Schemas) (store : Plain) → IsAccepted repos script base → AreSpelledBy D script.setup base → IsStore script.setup base store → IsOfDisks D script.setup base store
     → (r : Reply) → IsReported running f (extended base (upgrades_of script.clients)) store script r → RepliesRun D running f repos script r
-reported_run D running f repos script base store accepted is disks r told =
-    (told.0, (told.1.0, (told.1.1.0, record { base = base; store = store; accepted = accepted; store_is = is; of_disks = disks; run = told.1.1.1 })))
+reported_run D running f repos script base store accepted spelled is disks r told =
+    (told.0, (told.1.0, (told.1.1.0, record { base = base; store = store; accepted = accepted; spelled = spelled; store_is = is; of_disks = disks; run = told.1.1.1 })))
 
 -- what is expected of a run on the opened store foretells what is replied of it
-pub foretells_run : (D : DiskBytes) (repos : ℕ) (base : Schemas) (e : Expected) → IsAccepted repos e.script base → e.opened.schemas ≡ extended base (upgrades_of e.script.clients)
+pub foretells_run : (D : DiskBytes) (repos : ℕ) (base : Schemas) (e : Expected) → IsAccepted repos e.script base → AreSpelledBy D e.script.setup base → e.opened.schemas ≡ extended base (upgrades_of e.script.clients)
     → IsStore e.script.setup base e.opened.store → IsOfDisks D e.script.setup base e.opened.store → IsSorted e.opened.store.objects → Foretells (RepliesRun D e.running e.form repos e.script) e
-foretells_run D repos base e accepted schemas is disks sorted = record {
+foretells_run D repos base e accepted spelled schemas is disks sorted = record {
   sorted = sorted;
-  says = λ r reported. reported_run D e.running e.form repos e.script base e.opened.store accepted is disks r
+  says = λ r reported. reported_run D e.running e.form repos e.script base e.opened.store accepted spelled is disks r
       (subst (λ (w : Schemas). IsReported e.running e.form w e.opened.store e.script r) schemas reported);
 }
 

@@ -15,7 +15,7 @@ use Rattle.top_reply.specs.declared.Line.{Line}
 use Rattle.top_reply.specs.declared.form.Form.{Form}
 use Rattle.top_reply.specs.declared.reply.Reply.{Reply}
 use Rattle.top_reply.specs.declared.running.Running.{Running}
-use Rattle.top_statement.specs.Opening.{DiskBytes, FitsDisks, IsAccepted, IsOfDisks, IsStore}
+use Rattle.top_statement.specs.Opening.{AreSpelledBy, DiskBytes, FitsDisks, IsAccepted, IsOfDisks, IsStore}
 use Rattle.top_statement.specs.Reports.{IsReport}
 use Rattle.top_statement.specs.Top.{ByPlan, IsWithinLimits, OfScript, Told, form_of, running_of}
 use Rattle.top_words.specs.declared.command.Command.{Command}
@@ -43,6 +43,7 @@ pub record Awaits (DiskReads : DiskBytes) (plan : Plan) (f : Form) (script : Scr
   pub same : e.script ≡ script
   pub schemas : e.opened.schemas ≡ extended base (upgrades_of script.clients)
   pub accepted : IsAccepted plan.repos script base
+  pub spelled : AreSpelledBy DiskReads script.setup base
   pub store_is : IsStore script.setup base e.opened.store
   pub of_disks : IsOfDisks DiskReads script.setup base e.opened.store
 

@@ -6,7 +6,7 @@ use Rattle.script_parse.specs.declared.refusal.Refusal.TheVariants as refusal
 use Rattle.script_parse.specs.declared.script.Script.{Script}
 use Rattle.std.proofs.Common.{◌≡◌, ◌∙◌, ◌<◌, ◌≤◌, arith, List, Option, Some, None, inl, inr, length, refl, subst, sym, ℕ}
 use Rattle.store_opening.specs.declared.found.Store.TheVariants.{Fresh}
-use Rattle.top_judging.specs.Stages.{FitsStore, MisfitsStore, RepliesRule}
+use Rattle.top_judging.specs.Stages.{FitsStore, HasSchemas, MisfitsStore, RepliesRule}
 use Rattle.top_judging.specs.Audits.{RepliesAudit, RepliesAudited, RepliesParts, RepliesReport, RepliesSource}
 use Rattle.top_reply.specs.declared.reply.Reply.{Reply}
 use Rattle.top_reply.specs.declared.reply.Reply.TheVariants as reply
@@ -26,8 +26,9 @@ module _ (plan : Plan) where
       inl (inr (inl (refl, (record { clients = clients; events = events; upgrades = upgrades }, subst (λ (s : Option Declarations). MisfitsStore s Fresh) (sym none) refl))))
 
   -- one that breaks a rule
-  pub rule_audit : (script : Script) (part : Option (List ℕ)) (setup : Declarations) → script.setup ≡ Some setup → (r : Reply) → RepliesRule plan script r → RepliesAudit plan script part r
-  rule_audit script part setup has r broken = inl (inr (inr (subst (λ (s : Option Declarations). FitsStore s Fresh) (sym has) refl, broken)))
+  pub rule_audit : (script : Script) (part : Option (List ℕ)) (setup : Declarations) (base : Schemas) → script.setup ≡ Some setup → (r : Reply) → RepliesRule plan script base r → RepliesAudit plan script part r
+  rule_audit script part setup base has r broken =
+      inl (inr (inr (subst (λ (s : Option Declarations). FitsStore s Fresh) (sym has) refl, (base, (subst (λ (s : Option Declarations). HasSchemas s Fresh base) (sym has) tt, broken)))))
 
   -- one that breaks no rule
   pub accepted_audit : (script : Script) (part : Option (List ℕ)) (setup : Declarations) (base judged : Schemas) → length script.clients ≤ 64 → length script.events ≤ 1000000 → length (upgrades_of script.clients) ≤ 1000 → script.setup ≡ Some setup

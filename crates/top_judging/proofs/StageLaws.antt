@@ -11,19 +11,19 @@ use Rattle.std.specs.Prelude.{IfErr, IfSome}
 use Rattle.outside.specs.Faults.{Rose}
 use Rattle.outside.specs.Streams.{IsMoreThan}
 use Rattle.script_bank.specs.Bank.{script_text}
-use Rattle.store_opening.specs.Reading.{IsOpened, IsOpenedIn, IsStoredIn, schemas_in}
+use Rattle.store_opening.specs.Reading.{AreSpelledOn, IsOpened, IsOpenedIn, IsStoredIn, schemas_in}
 use Rattle.store_opening.specs.declared.found.Store.TheVariants.{Fresh, Open}
 use Rattle.store_opening.specs.declared.found.Store.{Store}
 use Rattle.thor_value.specs.declared.memory.NoMemory.{NoMemory}
 use Rattle.top_judging.specs.Audits.{RepliesAccepted, RepliesAudit, RepliesAudited, RepliesParts, RepliesReport, RepliesSource}
 use Rattle.top_judging.specs.Origins.{IsScriptFor, RepliesUnreadFor}
-use Rattle.top_judging.specs.Stages.{FitsStore, IsOpenedAs, IsRead, IsReadFrom, MisfitsStore, RepliesOver, RepliesRefused, RepliesRule, RepliesText, RepliesUnjudged, RepliesUnread, RepliesUnsettled, RepliesWhy}
+use Rattle.top_judging.specs.Stages.{FitsStore, HasSchemas, IsOpenedAs, IsRead, IsReadFrom, MisfitsStore, RepliesOver, RepliesRefused, RepliesRule, RepliesText, RepliesUnjudged, RepliesUnread, RepliesUnsettled, RepliesWhy}
 use Rattle.repo_opening.specs.declared.unopened.Unopened.TheVariants as why
 use Rattle.repo_opening.specs.declared.unopened.Unopened.{Unopened}
 use Rattle.top_reply.specs.declared.reply.Reply.{Reply}
 use Rattle.top_reply.specs.declared.reply.Reply.TheVariants as reply
 use Rattle.top_statement.specs.Audits.{audited_of, report_part, script_part}
-use Rattle.top_statement.specs.Opening.{DiskBytes, FitsDisks, FreshBytes, GoesWith, IsAgainst, IsStoredBy, MisfitsDisks}
+use Rattle.top_statement.specs.Opening.{AreSpelledBy, DiskBytes, FitsDisks, FreshBytes, GoesWith, IsAgainst, IsStoredBy, MisfitsDisks}
 use Rattle.top_statement.specs.Top.{Front, Generated, HasBytes, HoldNoStore, IsFromSource, IsOverLimit, IsRefusalOf, Origin, Reads, RepliesTo, Says, Told, WasRead, Whole, disks_for, origin_of}
 use Rattle.top_words.specs.declared.command.Command.{Command}
 use Rattle.top_words.specs.declared.command.Command.TheVariants.{Audit, Check, Gen, Play, Run}
@@ -109,9 +109,15 @@ fits_disks D setup store stored fits = record { each = λ images reads. goes_wit
 misfits_disks : (D : DiskBytes) (setup : Option Declarations) (store : Store) → IsStoredBy D store → MisfitsStore setup store → MisfitsDisks D setup
 misfits_disks D setup store stored misfits = record { each = λ images reads. is_against setup store images (stored.each images reads) misfits }
 
+-- the schemas of a store that was found are those that its texts spell
+pub spelled_by : (D : DiskBytes) (setup : Option Declarations) (store : Store) (base : Schemas) → IsStoredBy D store → HasSchemas setup store base → AreSpelledBy D setup base
+spelled_by D (Some s) store base stored has = tt
+spelled_by D None Fresh base stored has = absurd (let no : None ≡ Some base = has in cc)
+spelled_by D None (Open s) base stored has = record { each = λ images reads. subst (λ (b : Schemas). AreSpelledOn images b) (same_Some s.schemas base has) (stored.spelled images reads) }
+
 -- what is replied by a rule, where the script goes with the store
-pub rule_refused : (plan : Plan) (script : Script) (store : Store) → FitsStore script.setup store → (r : Reply) → RepliesRule plan script r → RepliesRefused plan script store r
-rule_refused plan script store fits r broken = inr (fits, broken)
+pub rule_refused : (plan : Plan) (script : Script) (store : Store) (base : Schemas) → FitsStore script.setup store → HasSchemas script.setup store base → (r : Reply) → RepliesRule plan script base r → RepliesRefused plan script store r
+rule_refused plan script store base fits has r broken = inr (fits, (base, (has, broken)))
 
 pub refused_unjudged : (D : DiskBytes) (plan : Plan) (script : Script) (store : Store) (r : Reply) → RepliesRefused plan script store r → RepliesUnjudged D plan script store r
 refused_unjudged D plan script store r refused = inr refused
@@ -127,8 +133,11 @@ module _ (D : DiskBytes) (plan : Plan) (script : Script) where
       (inr (record { clients = clients; events = events; store = store; stored = stored; over = over.1.1 }))
   unjudged_replies store stored clients events r (inr (inl setup)) = subst (λ (w : Reply). RepliesTo D plan script w) (sym setup.0)
       (setup.1.0, inl (refl, misfits_disks D script.setup store stored setup.1.1))
-  unjudged_replies store stored clients events r (inr (inr rule)) = subst (λ (w : Reply). RepliesTo D plan script w) (sym rule.1.1.0)
-      (rule.1.1.1.0, inr (fits_disks D script.setup store stored rule.0, rule.1.1.1.1))
+  unjudged_replies store stored clients events r (inr (inr rule)) =
+      let has = rule.1.1.0 in
+      let broken = rule.1.1.1 in
+      subst (λ (w : Reply). RepliesTo D plan script w) (sym broken.1.0)
+      (broken.1.1.0, inr (fits_disks D script.setup store stored rule.0, (rule.1.0, (spelled_by D script.setup store rule.1.0 stored has, broken.1.1.1))))
 
   pub unopened_replies : (cause : Unopened) → ((repo disk place : ℕ) → cause ≡ why.Damaged repo disk place → HoldNoStore D repo disk place) → (r : Reply) → RepliesWhy cause r → RepliesTo D plan script r
   unopened_replies (why.Failed repo) none r is = subst (λ (w : Reply). RepliesTo D plan script w) (sym is) tt
@@ -211,7 +220,7 @@ module _ (D : DiskBytes) (Like : Plan → Type 0) (NoPlan : Type 0) (plan : Plan
         by_reply (inr (inr none)) = subst (λ (w : Reply). Says D Like NoPlan before after w) (sym none.1.0) (record { plan = plan; is = is; says = record { audits = is_audit plan.command front; bytes = bytes; was = was; script = script; written = written; within = accepted.within; setup = accepted.setup; has_setup = accepted.has_setup; accepted = accepted.accepted; says = none.1.1 } })
 
     fresh : IsStoredBy FreshBytes Fresh
-    fresh = record { each = λ images reads. reads }
+    fresh = record { each = λ images reads. reads; spelled = λ images reads. tt }
 
     unjudged_says : (bytes : List ℕ) → HasBytes (origin_of plan.command) plan.repos before after bytes → (script : Script) → IsRead bytes script → (r : Reply) → RepliesUnjudged FreshBytes plan script Fresh r → Says D Like NoPlan before after r
     unjudged_says bytes has script read r (inl over) = subst (λ (w : Reply). Says D Like NoPlan before after w) (sym over.1.0)
@@ -240,7 +249,9 @@ module _ (D : DiskBytes) (Like : Plan → Type 0) (NoPlan : Type 0) (plan : Plan
                 (unjudged_replies FreshBytes plan script Fresh fresh read.clients read.events (reply.Refused refusals.Setup) (inr (inl (refl, setup.1))));
           });
         })
-    unjudged_says bytes has script read r (inr (inr rule)) = subst (λ (w : Reply). Says D Like NoPlan before after w) (sym rule.1.1.0)
+    unjudged_says bytes has script read r (inr (inr rule)) =
+        let broken = rule.1.1.1 in
+        subst (λ (w : Reply). Says D Like NoPlan before after w) (sym broken.1.0)
         (record {
           plan = plan;
           is = is;
@@ -249,8 +260,8 @@ module _ (D : DiskBytes) (Like : Plan → Type 0) (NoPlan : Type 0) (plan : Plan
             bytes = bytes;
             has = has;
             written = read.written;
-            says = subst (λ (c : Command). IsRefusalOf (disks_for c D) plan script rule.1.0) (sym (is_audit plan.command front))
-                (unjudged_replies FreshBytes plan script Fresh fresh read.clients read.events (reply.Refused rule.1.0) (inr (inr (rule.0, (rule.1.0, (refl, rule.1.1.1))))));
+            says = subst (λ (c : Command). IsRefusalOf (disks_for c D) plan script broken.0) (sym (is_audit plan.command front))
+                (unjudged_replies FreshBytes plan script Fresh fresh read.clients read.events (reply.Refused broken.0) (inr (inr (rule.0, (rule.1.0, (rule.1.1.0, (broken.0, (refl, broken.1.1)))))));
           });
         })
 

@@ -31,7 +31,7 @@ unsettled_tells r failed tells = subst TellsRun failed.1 tells
 pub unjudged_tells : (D : DiskBytes) (plan : Plan) (script : Script) (store : Store) (r : Reply) → RepliesUnjudged D plan script store r → TellsRun r → ⊥
 unjudged_tells D plan script store r (inl over) tells = subst TellsRun over.1.0 tells
 unjudged_tells D plan script store r (inr (inl setup)) tells = subst TellsRun setup.0 tells
-unjudged_tells D plan script store r (inr (inr rule)) tells = subst TellsRun rule.1.1.0 tells
+unjudged_tells D plan script store r (inr (inr rule)) tells = subst TellsRun rule.1.1.1.1.0 tells
 
 -- ---- the script
 

@@ -18,7 +18,7 @@ use Rattle.store_opening.specs.declared.found.Store.{Store}
 use Rattle.top_reply.specs.declared.reply.Reply.{Reply}
 use Rattle.top_reply.specs.declared.reply.Reply.TheVariants as reply
 use Rattle.top_statement.specs.Opening.{DiskBytes, IsAccepted}
-use Rattle.top_statement.specs.Top.{BreaksOn, IsOverFound, IsOverScript, IsWithinLimits, Told, WasRead}
+use Rattle.top_statement.specs.Top.{BreaksUnder, IsOverFound, IsOverScript, IsWithinLimits, Told, WasRead}
 use Rattle.top_words.specs.declared.command.Plan.{Plan}
 
 -- ---- the script
@@ -77,15 +77,15 @@ pub record IsJudged (plan : Plan) (script : Script) (store : Store) (base : Sche
   pub fits : FitsStore script.setup store
   pub schemas : HasSchemas script.setup store base
 
--- what is replied to a script that breaks a rule
-abbrev pub RepliesRule : Plan → Script → Reply → Type 0
-RepliesRule plan script r = (refusal : Refusal) × ((r ≡ reply.Refused refusal) × (IsWithinLimits script × BreaksOn plan.repos script refusal))
+-- what is replied to a script that breaks a rule on a store with these schemas
+abbrev pub RepliesRule : Plan → Script → Schemas → Reply → Type 0
+RepliesRule plan script base r = (refusal : Refusal) × ((r ≡ reply.Refused refusal) × (IsWithinLimits script × BreaksUnder base plan.repos script refusal))
 
 -- what is replied to a script that doesn't go with the store, or breaks a rule on it
 abbrev pub RepliesRefused : Plan → Script → Store → Reply → Type 0
 RepliesRefused plan script store r =
     ((r ≡ reply.Refused refusals.Setup) × (IsWithinLimits script × MisfitsStore script.setup store))
-    ⊎ (FitsStore script.setup store × RepliesRule plan script r)
+    ⊎ (FitsStore script.setup store × ((base : Schemas) × (HasSchemas script.setup store base × RepliesRule plan script base r)))
 
 -- and to one that passes a limit with the store
 abbrev pub RepliesUnjudged : DiskBytes → Plan → Script → Store → Reply → Type 0

@@ -7,7 +7,7 @@ ghost use Rattle.store_opening.specs.Counts.{HasParts};
 ghost use Rattle.store_opening.specs.Reading.{ReadAll};
 ghost use Rattle.top_judging.specs.Stages.{IsJudged, RepliesRefused, RepliesRule, RepliesUnjudged};
 ghost use Rattle.top_statement.specs.Opening.{IsAccepted, IsBase};
-ghost use Rattle.top_statement.specs.Top.{BreaksOn, IsOverFound, IsWithinLimits};
+ghost use Rattle.top_statement.specs.Top.{BreaksUnder, IsOverFound, IsWithinLimits};
 
 use crate::starting::base_of;
 use class_defs::Schemas;
@@ -51,11 +51,17 @@ fn passed_limit<P: Parts>(script: &Script, found: &Found<P>) -> Option<u64>
 }
 
 /// The reply to a script that breaks a rule.
-fn refused(plan: &Plan, script: &Script, refusal: Refusal) -> Result<Reply, NoMemory>
+fn refused(
+    plan: &Plan,
+    script: &Script,
+    base: Schemas,
+    refusal: Refusal,
+) -> Result<Reply, NoMemory>
     requires within { IsWithinLimits script.now }
-    requires breaks { BreaksOn plan.now.repos script.now refusal }
-    ensures { IfOk result (RepliesRule plan.now script.now) }
+    requires breaks { BreaksUnder base plan.now.repos script.now refusal }
+    ensures { IfOk result (RepliesRule plan.now script.now base) }
 {
+    drop(base);
     Ok(Reply::Refused { refusal })
 }
 
@@ -73,13 +79,10 @@ fn judged_on(
     ensures base { IfOk result (λ judged. judged ≡ base) }
     ensures made { IfOk result AreMade }
     ensures accepted { IfOk result (λ judged. IsAccepted plan.now.repos script.now judged) }
-    ensures reply { IfErr result (λ reply. IfOk reply (RepliesRule plan.now script.now)) }
+    ensures reply { IfErr result (λ reply. IfOk reply (RepliesRule plan.now script.now base)) }
 {
     match judge(alloc, last_schema(&base), script, plan.repos) {
-        Ok(Some(broken)) => {
-            drop(base);
-            Err(refused(plan, script, broken))
-        }
+        Ok(Some(broken)) => Err(refused(plan, script, base, broken)),
         Ok(None) => Ok(base),
         Err(NoMemory) => {
             drop(base);
@@ -100,7 +103,7 @@ pub(crate) fn judged(
     ensures base { IfOk result (λ judged. judged ≡ base) }
     ensures made { IfOk result AreMade }
     ensures accepted { IfOk result (λ judged. IsAccepted plan.now.repos script.now judged) }
-    ensures reply { IfErr result (λ reply. IfOk reply (RepliesRule plan.now script.now)) }
+    ensures reply { IfErr result (λ reply. IfOk reply (RepliesRule plan.now script.now base)) }
 {
     if UPGRADE_LIMIT < base.upgraded.len() || !are_made(&base) {
         drop(base);

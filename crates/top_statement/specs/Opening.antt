@@ -9,7 +9,7 @@ use Rattle.script_check.specs.Opened.{opened, schema_of}
 use Rattle.script_check.specs.Upgrading.{last_schema}
 use Rattle.script_parse.specs.declared.script.Script.{Script}
 use Rattle.store_opening.specs.Limits.{AnyHas}
-use Rattle.store_opening.specs.Reading.{AreOpen, IsFreshIn, IsOpened, IsStoredIn}
+use Rattle.store_opening.specs.Reading.{AreOpen, AreSpelledIn, AreSpelledOn, IsFreshIn, IsOpened, IsStoredIn}
 use Rattle.store_opening.specs.declared.found.Store.{Store}
 
 -- the schemas of the store that a setup opens
@@ -34,9 +34,19 @@ DiskBytes = List (ℕ → List ℕ) → Type 0
 abbrev pub FreshBytes : DiskBytes
 FreshBytes images = IsFreshIn images
 
--- what was found of a store is what the disks hold
+-- what was found of a store is what the disks hold, with the schemas that its texts spell
 pub record IsStoredBy (DiskReads : DiskBytes) (store : Store) : Type 0 where
   pub each : (images : List (ℕ → List ℕ)) → DiskReads images → IsStoredIn images store
+  pub spelled : (images : List (ℕ → List ℕ)) → DiskReads images → AreSpelledIn images store
+
+-- these are the schemas that the texts on the disks of repository 0 spell
+pub record SpelledBy (DiskReads : DiskBytes) (base : Schemas) : Type 0 where
+  pub each : (images : List (ℕ → List ℕ)) → DiskReads images → AreSpelledOn images base
+
+-- the schemas of a store that was there are those
+abbrev pub AreSpelledBy : DiskBytes → Option Declarations → Schemas → Type 0
+AreSpelledBy DiskReads (Some setup) base = Unit {0}
+AreSpelledBy DiskReads None base = SpelledBy DiskReads base
 
 -- of the repositories' disks those of one are so
 pub record OneOfDisks (DiskReads : DiskBytes) (Is : (ℕ → List ℕ) → Type 0) : Type 0 where

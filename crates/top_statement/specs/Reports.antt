@@ -5,7 +5,7 @@ use Rattle.top_reply.specs.declared.form.Form.{Form}
 use Rattle.top_reply.specs.declared.running.Running.{Running}
 use Rattle.class_defs.specs.declared.store.Plain.{Plain}
 use Rattle.class_defs.specs.declared.store.Schemas.{Schemas}
-use Rattle.top_statement.specs.Opening.{DiskBytes, IsAccepted, IsOfDisks, IsStore}
+use Rattle.top_statement.specs.Opening.{AreSpelledBy, DiskBytes, IsAccepted, IsOfDisks, IsStore}
 use Rattle.script_check.specs.Upgrading.{extended, upgrades_of}
 use Rattle.script_parse.specs.declared.script.Script.{Script}
 
@@ -14,6 +14,7 @@ pub record IsReport (DiskReads : DiskBytes) (running : Running) (form : Form) (r
   pub base : Schemas
   pub store : Plain
   pub accepted : IsAccepted repos script base
+  pub spelled : AreSpelledBy DiskReads script.setup base
   pub store_is : IsStore script.setup base store
   pub of_disks : IsOfDisks DiskReads script.setup base store
   pub run : IsRun running form (extended base (upgrades_of script.clients)) store script finished text

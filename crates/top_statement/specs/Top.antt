@@ -18,7 +18,7 @@ use Rattle.store_opening.specs.Reading.{epochs_in}
 use Rattle.store_opening.specs.Unsound.{IsNoStore}
 use Rattle.store_opening.specs.declared.found.Store.{Store}
 use Rattle.top_statement.specs.Audits.{DisagreesAt, IsNoReport, IsTrueReport, audited_of, report_part, script_part}
-use Rattle.top_statement.specs.Opening.{DiskBytes, FitsDisks, FreshBytes, IsAccepted, IsBase, IsStoredBy, MisfitsDisks, OneOfDisks, first_schemas}
+use Rattle.top_statement.specs.Opening.{AreSpelledBy, DiskBytes, FitsDisks, FreshBytes, IsAccepted, IsBase, IsStoredBy, MisfitsDisks, OneOfDisks, first_schemas}
 use Rattle.top_statement.specs.Reports.{IsReport}
 use Rattle.top_statement.specs.Telling.{TellsRun}
 use Rattle.top_words.specs.Words.{plan_of}
@@ -208,16 +208,20 @@ IsRunOf DiskReads f plan script finished text = (form_of plan.command ≡ Some f
 
 -- the command is `check`, and the script breaks no rule on the store that was found
 abbrev pub IsCheckOf : DiskBytes → Plan → Script → Type 0
-IsCheckOf DiskReads plan script = (plan.command ≡ Check) × (IsWithinLimits script × (FitsDisks DiskReads script.setup × ((base : Schemas) × IsAccepted plan.repos script base)))
+IsCheckOf DiskReads plan script = (plan.command ≡ Check) × (IsWithinLimits script × (FitsDisks DiskReads script.setup × ((base : Schemas) × (IsAccepted plan.repos script base × AreSpelledBy DiskReads script.setup base))))
 
 -- it breaks a rule on a store with these schemas
-abbrev pub BreaksOn : ℕ → Script → Refusal → Type 0
-BreaksOn repos script r = (base : Schemas) × (IsBase script.setup base × BreaksRule (last_schema base) repos script r)
+abbrev pub BreaksUnder : Schemas → ℕ → Script → Refusal → Type 0
+BreaksUnder base repos script r = IsBase script.setup base × BreaksRule (last_schema base) repos script r
+
+-- it breaks a rule on the store
+abbrev pub BreaksOn : DiskBytes → ℕ → Script → Refusal → Type 0
+BreaksOn DiskReads repos script r = (base : Schemas) × (AreSpelledBy DiskReads script.setup base × BreaksUnder base repos script r)
 
 -- A script is refused where it has no setup and the store is fresh, or has one and the store isn't; else where it breaks a rule
 -- on the store.
 abbrev pub IsRefused : DiskBytes → ℕ → Script → Refusal → Type 0
-IsRefused DiskReads repos script r = ((r ≡ refusal.Setup) × MisfitsDisks DiskReads script.setup) ⊎ (FitsDisks DiskReads script.setup × BreaksOn repos script r)
+IsRefused DiskReads repos script r = ((r ≡ refusal.Setup) × MisfitsDisks DiskReads script.setup) ⊎ (FitsDisks DiskReads script.setup × BreaksOn DiskReads repos script r)
 
 abbrev pub IsRefusalOf : DiskBytes → Plan → Script → Refusal → Type 0
 IsRefusalOf DiskReads plan script r = IsWithinLimits script × IsRefused DiskReads plan.repos script r

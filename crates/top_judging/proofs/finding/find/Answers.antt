@@ -17,7 +17,7 @@ returns-in-Ok-clause-reply g c =
     let plan = c.args.plan.now in
     let script = c.args.script.now in
     let store = c.in-Ok.found.store in
-    let stored : IsStoredBy D store = record { each = c.in-Ok.ensures.stored } in
+    let stored : IsStoredBy D store = record { each = c.in-Ok.ensures.stored; spelled = c.in-Ok.ensures.spelled } in
     err_map c.judged_on.result (λ a. IfOk a.reply (RepliesUnjudged D plan script store)) (λ a. IfOk a.reply (RepliesTo D plan script))
     (λ a. ok_map a.reply (RepliesUnjudged D plan script store) (RepliesTo D plan script) (unjudged_replies D plan script store stored c.requires.clients c.requires.events))
     (c.judged_on.ensures.reply c.args.parts.items c.in-Ok.ensures.found)
