@@ -1,5 +1,6 @@
 pub mod Begun
 mod Ending
+mod Failing
 mod Recovered
 mod Seating
 mod Stepping
