@@ -1,14 +1,18 @@
--- Shares name their sessions, one after the other.
-use Rattle.client_state.specs.Sending.{CarriesSessions, carried, carried_at, changed_share}
+-- Shares name their sessions, one after the other, and go to participants.
+use Rattle.client_state.specs.Participants.{first_in}
+use Rattle.client_state.specs.Sending.{CarriesSessions, IsDrawnAt, carried, carried_at, changed_share}
+use Rattle.client_state.specs.Writing.{is_of}
 use Rattle.client_state.specs.declared.link.Link.{Link}
 use Rattle.client_state.specs.declared.transaction.Share.{Share}
-use Rattle.std.proofs.Common.{List, [], ap, arith, inl, inr, length, refl, suc, sym, zero, ℕ, ◌+◌, ◌<◌, ◌≡◌, ◌≢◌, ◌≤◌, ◌∙◌, ◌∷◌}
+use Rattle.client_state.specs.declared.transaction.Transaction.{Transaction}
+use Rattle.std.proofs.Common.{List, [], ap, arith, inl, inr, length, nat_eq, refl, suc, sym, true, zero, ℕ, ◌+◌, ◌<◌, ◌≡◌, ◌≢◌, ◌≤◌, ◌∙◌, ◌∷◌}
 use Rattle.std.proofs.Math.Nat.{eq-or-lt_of_le}
-use Rattle.std.proofs.lemmas.Bool.{cases_lt}
+use Rattle.std.proofs.lemmas.Bool.{and_parts, cases_lt}
 use Rattle.std.proofs.lemmas.Option.{same_Some, slice_get_past}
-use Rattle.std.specs.List.{slice_get}
+use Rattle.std.specs.List.{AllByRecursion, list_all, list_any, slice_get}
 use Rattle.std.specs.Option.{option_map}
 use Rattle.std.specs.Prelude.{None, Option, Some, remove, slice_set, ◌⊎◌}
+use Rattle.thor_value.specs.declared.names.Ts.{Ts}
 
 set_here : (xs : List Share) (r : ℕ) (old new : Share) → slice_get xs r ≡ Some old → slice_get (slice_set xs r new) r ≡ Some new
 set_here [] r old new e = cc
@@ -25,6 +29,17 @@ set_other (x ∷ xs) (suc r) (suc n) s other = set_other xs r n s (λ e. other (
 pub first_share : (xs : List Share) (x : Share) → slice_get xs 0 ≡ Some x → xs ≡ x ∷ remove xs 0
 first_share [] x h = cc
 first_share (y ∷ xs) x h = ap (λ (z : Share). z ∷ xs) (same_Some y x h)
+
+-- each share goes to a participant
+each_goes : (participants : List ℕ) (ss : List Share) → list_all (λ (s : Share). list_any (nat_eq s.repo) participants) ss ≡ true → AllByRecursion (λ (s : Share). list_any (nat_eq s.repo) participants ≡ true) ss
+each_goes participants [] all = tt
+each_goes participants (s ∷ ss) all =
+    let parts : (list_any (nat_eq s.repo) participants ≡ true) × (list_all (λ (x : Share). list_any (nat_eq x.repo) participants) ss ≡ true) = and_parts (list_any (nat_eq s.repo) participants) (list_all (λ (x : Share). list_any (nat_eq x.repo) participants) ss) all in
+    (parts.0, each_goes participants ss parts.1)
+
+pub drawn_there : (t : Ts) (transaction : Transaction) → first_in transaction.participants ≡ t.repo → is_of t.repo (slice_get transaction.shares.items 0) ≡ true
+    → list_all (λ (s : Share). list_any (nat_eq s.repo) transaction.participants) transaction.shares.items ≡ true → IsDrawnAt t transaction
+drawn_there t transaction coordinator first each = record { coordinator = coordinator; first = first; shares = each_goes transaction.participants transaction.shares.items each }
 
 module _ (links : List Link) where
   abbrev pub Carried : ℕ → List Share → List Share → Type 0

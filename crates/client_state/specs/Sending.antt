@@ -1,7 +1,8 @@
 -- What a participant is sent, and by which session (this project's).
 use Rattle.client_items.specs.Meanings.{answer_in, kind_of}
 use Rattle.client_state.specs.Calling.{is_session_of, upto_in}
-use Rattle.client_state.specs.Participants.{others_in}
+use Rattle.client_state.specs.Participants.{first_in, others_in}
+use Rattle.client_state.specs.Writing.{is_of}
 use Rattle.client_state.specs.declared.link.Link.{Link}
 use Rattle.client_state.specs.declared.link.Link.TheVariants.{Apart, Joined, Unsettled}
 use Rattle.client_state.specs.declared.phase.Phase.{Phase}
@@ -11,8 +12,9 @@ use Rattle.client_state.specs.declared.transaction.Share.{Share}
 use Rattle.client_state.specs.declared.transaction.Transaction.{Transaction}
 use Rattle.log_entries.specs.declared.request.Kind.TheVariants as kinds
 use Rattle.log_entries.specs.declared.request.Request.{Request}
+use Rattle.std.specs.List.{AllByRecursion, list_any}
 use Rattle.std.specs.Option.{option_map}
-use Rattle.std.specs.Prelude.{List, None, Option, Some, [], cond, slice_get, slice_set, true, ℕ, ◌∷◌, ◌≡◌}
+use Rattle.std.specs.Prelude.{List, None, Option, Some, [], cond, nat_eq, slice_get, slice_set, true, ℕ, ◌∷◌, ◌≡◌}
 use Rattle.thor_value.specs.declared.names.Oref.{Oref}
 use Rattle.thor_value.specs.declared.names.Ts.{Ts}
 use Rattle.thor_value.specs.declared.values.Answer.TheVariants.{Ints}
@@ -66,6 +68,16 @@ pub record SendsShare (links : List Link) (who : Who) (t : Ts) (before left : Tr
   pub taken : before.shares.items ≡ share ∷ left.shares.items
   pub rest : left ≡ record before { shares = left.shares }
   pub sent : s ≡ sending_of links who t left share
+
+-- Each share that is left goes to a participant.
+abbrev pub GoToParticipants : Transaction → Type 0
+GoToParticipants transaction = AllByRecursion (λ (s : Share). list_any (nat_eq s.repo) transaction.participants ≡ true) transaction.shares.items
+
+-- A transaction has its timestamp from the participant that decides, to which its first share goes, and each of its shares goes to a participant.
+pub record IsDrawnAt (t : Ts) (transaction : Transaction) : Type 0 where
+  pub coordinator : first_in transaction.participants ≡ t.repo
+  pub first : is_of t.repo (slice_get transaction.shares.items 0) ≡ true
+  pub shares : GoToParticipants transaction
 
 -- the request of a transform, which brings the object to what it becomes by what it has read
 abbrev pub transform_of : ℕ → ℕ → ℕ → Ts → Oref → Obj → List Oref → Request

@@ -9,7 +9,7 @@ use Rattle.client_state.specs.Handing.{AbortsInVain, AbortsNext, ForgetsNext, Ha
 use Rattle.client_state.specs.Moving.{Aborted, AskedInVain, AskedOwn, CommitRefused, Committed, Decided, DecideRefused, Finished, Forgot, Moves, PrepareRefused, Prepared, ReceiveRefused, ReceiveStopped, Received, ReceivedNone, Transformed, Unsent}
 use Rattle.client_state.specs.Participants.{first_in, sent_of}
 use Rattle.client_state.specs.Pending.{IsAsking, IsPreparing, NonePending, Pending, PendsSo}
-use Rattle.client_state.specs.Sending.{SendsShare, transform_of}
+use Rattle.client_state.specs.Sending.{IsDrawnAt, SendsShare, transform_of}
 use Rattle.client_state.specs.Writing.{HoldsWritten, WritesShares}
 use Rattle.client_state.specs.declared.duties.Duties.{Duties}
 use Rattle.client_state.specs.declared.held.Held.{Held}
@@ -35,11 +35,12 @@ pub record Present : Type 0 where
 
 -- ---- what is sent to be prepared or committed
 
--- The first share of a drawn transaction is sent. The try has written what all its shares write.
+-- The first share of a drawn transaction is sent, to the coordinator. The try has written what all its shares write.
 pub record SendsDrawn (item : Present) (links : List Link) (c : Contents) (s : Sending) (left : Transaction) : Type 0 where
   pub drawn : Transaction
   pub sends : SendsShare links item.who s.request.tx drawn left s
   pub wrote : WritesShares drawn.shares.items c
+  pub starts : IsDrawnAt s.request.tx drawn
 
 -- The next share of a transaction is sent that its coordinator has prepared, as it was drawn.
 pub record SendsMore (item : Present) (links : List Link) (a : Pending) (s : Sending) (at : At) (rs : List ℕ) (left : Transaction) : Type 0 where

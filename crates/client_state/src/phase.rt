@@ -1,7 +1,7 @@
 //! How far a try has come.
 
 ghost use Rattle.client_state.specs.Owing.{asking_in, calls_in, calls_of_abort};
-ghost use Rattle.client_state.specs.Pending.{abort_in, asked_at, noted, pending_in, prepared_at, runs_in};
+ghost use Rattle.client_state.specs.Pending.{NonePending, abort_in, asked_at, noted, pending_in, prepared_at, runs_in};
 ghost use Rattle.client_cache.specs.Copies.{Contents};
 ghost use Rattle.client_state.specs.Reading.{ReadsNone, phase_reads};
 ghost use Rattle.client_state.specs.Sending.{DrawsPhase};
@@ -203,7 +203,8 @@ impl Phase {
 
     /// Whether a try runs that its coordinator has not prepared.
     pub fn runs_unprepared(&self) -> bool
-        ensures { IsTrue (not result) → unsent self.now ≡ None }
+        ensures unsent { IsTrue (not result) → unsent self.now ≡ None }
+        ensures free { IsTrue result → pending_in self.now ≡ NonePending }
     {
         match self {
             Phase::Between | Phase::Asking { .. } | Phase::Preparing { .. } => false,

@@ -4,12 +4,12 @@ ghost use Rattle.client_items.specs.declared.meaning.Meaning.TheVariants as mean
 ghost use Rattle.client_state.specs.Owing.{count_of};
 ghost use Rattle.client_state.specs.Participants.{first_in, others_in, sent_of};
 ghost use Rattle.client_state.specs.Reading.{share_reads, shares_have_read};
-ghost use Rattle.client_state.specs.Sending.{CarriesSessions, carried, carried_at};
+ghost use Rattle.client_state.specs.Sending.{CarriesSessions, IsDrawnAt, carried, carried_at};
 ghost use Rattle.client_state.specs.Writing.{FirstOf, NoneOf, is_of, new_share, read_more_at, shares_write, with_read, with_write, written_at};
 ghost use Rattle.paused_eval.specs.Copies.{last_of};
-ghost use Rattle.std.specs.List.{list_any};
+ghost use Rattle.std.specs.List.{list_all, list_any};
 ghost use Rattle.std.specs.Ordering.{eq_by_cmp};
-ghost use Rattle.std.specs.Prelude.{IfOk, IsTrue, MatchOption, None, OnOk, Some, [], cond, length, slice_get, ◌++◌, ◌-◌, ◌∷◌, ◌≡◌, ◌≤◌};
+ghost use Rattle.std.specs.Prelude.{IfOk, IsTrue, MatchOption, None, OnOk, Some, [], cond, length, nat_eq, slice_get, ◌++◌, ◌-◌, ◌∷◌, ◌≡◌, ◌≤◌};
 ghost use Rattle.thor_value.specs.Names.{oref_cmp, same_oref};
 ghost use Rattle.thor_value.specs.declared.names.Oref.{Oref};
 
@@ -226,6 +226,40 @@ impl Transaction {
             }
             None => false,
         }
+    }
+
+    /// Whether its timestamp is of the participant that decides, to which its first share goes, and each of its shares goes to a
+    /// participant.
+    pub fn is_drawn_at(&self, ts: Ts) -> bool
+        ensures { IsTrue result → IsDrawnAt ts self.now }
+    {
+        if self.coordinator() != ts.repo {
+            return false;
+        }
+        if !is_share_of(self.shares.as_slice(), 0, ts.repo) {
+            return false;
+        }
+        self.goes_to_participants()
+    }
+
+    /// Whether each share that is left goes to a participant.
+    fn goes_to_participants(&self) -> bool
+        ensures { result ≡ list_all (λ s. list_any (nat_eq s.repo) self.now.participants) self.now.shares.items }
+    {
+        self.shares
+            .as_slice()
+            .iter()
+            .all(|share| self.takes_part(share.repo))
+    }
+
+    /// Whether a repository takes part.
+    fn takes_part(&self, repo: u8) -> bool
+        ensures { result ≡ list_any (nat_eq repo) self.now.participants }
+    {
+        self.participants
+            .as_slice()
+            .iter()
+            .any(|participant| repo == *participant)
     }
 
     /// It is sent in a session to be decided under its name.

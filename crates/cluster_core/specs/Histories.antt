@@ -1,5 +1,5 @@
 -- What is told of the repositories of a run.
-use Rattle.cluster_core.specs.Seated.{AreRight, IsFound, run_of}
+use Rattle.cluster_core.specs.Seated.{AreLeft, AreRight, IsFound, run_of}
 use Rattle.cluster_core.specs.declared.plan.Start.{Start}
 use Rattle.disk_trait.specs.Disks.{Disks}
 use Rattle.repo_trace.specs.declared.trace.Trace.{Trace}
@@ -22,3 +22,8 @@ pub record AreHistories {P : Type 0} (disks : P → Disks) (given : List P) (tra
 -- the same, where a run was made
 abbrev pub AreHistoriesIf : {P : Type 0} → (P → Disks) → List P → List Trace → Type 0
 AreHistoriesIf disks given traces = (traces ≡ []) ⊎ AreHistories disks given traces
+
+-- The same, and what the disks of these parts say, with which the run ends, is what was recorded at each repository.
+pub record EndsAs {P : Type 0} (disks : P → Disks) (given ended : List P) (traces : List Trace) : Type 0 where
+  pub histories : AreHistories disks given traces
+  pub left : AreLeft disks (run_of histories.places histories.mob histories.start) 0 ended traces

@@ -8,7 +8,7 @@ use Rattle.disk_trait.specs.Disks.{Disks}
 use Rattle.repo_opening.specs.Recovered.{IsRecovered}
 use Rattle.cluster_port.specs.Begun.{base_of, is_settled, new_base}
 use Rattle.cluster_port.specs.Run.{Run, no_base}
-use Rattle.cluster_port.specs.Sited.{IsRightTrace, Sited}
+use Rattle.cluster_port.specs.Sited.{IsLeftOf, IsRightTrace, Sited}
 use Rattle.repo_state.specs.declared.held.Held.{Held}
 use Rattle.repo_trace.specs.declared.trace.Trace.{Trace}
 use Rattle.spec_history.specs.History.{Base}
@@ -45,6 +45,13 @@ AreNumbered n (x ∷ xs) = (x.number ≡ n) × AreNumbered (suc n) xs
 abbrev pub AreRight : Run → ℕ → List Trace → Type 0
 AreRight run n [] = Unit {0}
 AreRight run n (t ∷ ts) = IsRightTrace run n t × AreRight run (suc n) ts
+
+-- what the disks of the parts from the place n on say is what was recorded there
+abbrev pub AreLeft : {P : Type 0} → (P → Disks) → Run → ℕ → List P → List Trace → Type 0
+AreLeft disks run n [] [] = Unit {0}
+AreLeft disks run n [] (t ∷ ts) = ⊥
+AreLeft disks run n (p ∷ ps) [] = ⊥
+AreLeft disks run n (p ∷ ps) (t ∷ ts) = IsLeftOf run n (disks p) t × AreLeft disks run (suc n) ps ts
 
 -- ---- the run that is opened
 

@@ -2,9 +2,9 @@
 
 ghost use Rattle.cluster_core.specs.Committed.{committed_lines};
 ghost use Rattle.cluster_core.specs.Counts.{parts_of};
-ghost use Rattle.cluster_core.specs.Seated.{AreRight};
+ghost use Rattle.cluster_core.specs.Seated.{AreLeft, AreRight};
 ghost use Rattle.cluster_port.specs.Lent.{AreInPlace};
-ghost use Rattle.std.specs.Prelude.{IfOk, IsOkAnd, [], length, vec_capacity, vec_len, ◌++◌, ◌∷◌, ◌≡◌, ◌≤◌};
+ghost use Rattle.std.specs.Prelude.{IfOk, IsOkAnd, OnOk, [], false, length, vec_capacity, vec_len, ◌++◌, ◌∷◌, ◌≡◌, ◌≤◌};
 
 use crate::cluster::Cluster;
 use crate::history::history_of;
@@ -37,12 +37,14 @@ pub struct Finished<P> {
 }
 
 impl<P: Parts, O: Opening> Cluster<P, O> {
-    /// Ends the run.
+    /// Ends the run. It isn't told where a repository is torn: there was no memory for an entry that its log has.
     pub fn finish(self) -> Finished<P>
         ensures parts { vec_len result.parts ≡ parts_of self }
         // What was recorded at each repository is right by the base with which it began.
         ensures right { IfOk result.ran (λ ran. AreRight O.run 0 ran.traces) }
         ensures told { IfOk result.ran (λ ran. length ran.traces ≡ parts_of self) }
+        // What the disks of each say then is what was recorded there.
+        ensures left { IfOk result.ran (λ ran. AreLeft P.disks O.run 0 result.parts.items ran.traces) }
         // The lines are what these traces have as committed.
         ensures lines { IfOk result.ran (λ ran. ran.lines ≡ committed_lines ran.traces) }
     {
@@ -63,7 +65,8 @@ impl<P: Parts, O: Opening> Cluster<P, O> {
     }
 }
 
-/// The parts of all repositories, in a vector that is empty and has room for them, and their traces.
+/// The parts of all repositories, in a vector that is empty and has room for them, and their traces; want of memory where one of
+/// them is torn.
 fn close_all<P: Parts, O: Opening>(
     alloc: Global,
     sites: Vec<Site<P, O>>,
@@ -75,13 +78,15 @@ fn close_all<P: Parts, O: Opening>(
     ensures count { vec_len result.0 ≡ vec_len sites }
     ensures right { IfOk result.1 (AreRight O.run 0) }
     ensures told { IfOk result.1 (λ traces. length traces ≡ vec_len sites) }
+    ensures left { IfOk result.1 (AreLeft P.disks O.run 0 result.0.items) }
 {
     let mut parts = spare;
     let mut traces = Ok(Traces::new(alloc));
     for site in sites {
+        let torn = site.is_torn();
         let (part, trace) = site.close();
         parts.push_reserved(part);
-        traces = with_trace(traces, trace);
+        traces = with_trace_of(traces, torn, trace);
     }
     (parts, traces)
 }
@@ -139,6 +144,23 @@ fn no_trace(alloc: Global) -> Trace {
         history: Entries::new(alloc),
         marks: Marks::new(alloc),
     }
+}
+
+/// The traces with one more, of a repository that may be torn: then there are none.
+fn with_trace_of(
+    traces: Result<Traces, NoMemory>,
+    torn: bool,
+    trace: Trace,
+) -> Result<Traces, NoMemory>
+    ensures more { IfOk result (λ more. IsOkAnd traces (λ before. more ≡ before ++ trace ∷ [])) }
+    ensures whole { OnOk result (torn ≡ false) }
+{
+    if torn {
+        drop(traces);
+        drop(trace);
+        return Err(NoMemory);
+    }
+    with_trace(traces, trace)
 }
 
 /// The traces with one more.

@@ -2,7 +2,7 @@
 
 ghost use Rattle.cluster_core.specs.Committed.{committed_lines};
 ghost use Rattle.cluster_core.specs.Counts.{parts_of};
-ghost use Rattle.cluster_core.specs.Seated.{AreRight, IsFoundIn, run_found};
+ghost use Rattle.cluster_core.specs.Seated.{AreRight, IsFoundIn, run_found, AreLeft};
 ghost use Rattle.repo_opening.specs.declared.unopened.Unopened.TheVariants.{Failed};
 ghost use Rattle.std.specs.Prelude.{IfErr, IfOk, IsErr, List, length, vec_len, ℕ, ◌≡◌};
 ghost use Rattle.store_opening.specs.Counts.{parts_in};
@@ -38,6 +38,8 @@ pub fn play<P: Parts, G: Gate>(
     // What was recorded at each repository is right by what was found there, where nothing has still to be settled.
     ensures right { IfOk result (λ finished. IfOk finished.ran (λ ran. AreRight (run_found found plan.start) 0 ran.traces)) }
     ensures told { IfOk result (λ finished. IfOk finished.ran (λ ran. length ran.traces ≡ parts_in found)) }
+    // What the disks of each say then is what was recorded there.
+    ensures left { IfOk result (λ finished. IfOk finished.ran (λ ran. AreLeft P.disks (run_found found plan.start) 0 finished.parts.items ran.traces)) }
     // The lines are what these traces have as committed.
     ensures lines { IfOk result (λ finished. IfOk finished.ran (λ ran. ran.lines ≡ committed_lines ran.traces)) }
     ensures found { IfOk result (λ _. IsFoundIn P.disks found plan.start) }
@@ -59,6 +61,7 @@ fn played<P: Parts, O: Opening, G: Gate>(
     ensures failed { (given : List P) → AreCalled P.disks given found.places.items → IfErr result (λ fault. (r : ℕ) → fault.why ≡ Failed r → FailsAt P.disks given fault.parts.items r) }
     ensures right { IfOk result (λ finished. IfOk finished.ran (λ ran. AreRight O.run 0 ran.traces)) }
     ensures told { IfOk result (λ finished. IfOk finished.ran (λ ran. length ran.traces ≡ parts_in found)) }
+    ensures left { IfOk result (λ finished. IfOk finished.ran (λ ran. AreLeft P.disks O.run 0 finished.parts.items ran.traces)) }
     ensures lines { IfOk result (λ finished. IfOk finished.ran (λ ran. ran.lines ≡ committed_lines ran.traces)) }
     ensures found { IfOk result (λ _. IsFoundIn P.disks found plan.start) }
 {
@@ -77,6 +80,7 @@ fn run<P: Parts, O: Opening, G: Gate>(
     ensures parts { vec_len result.parts ≡ parts_of cluster }
     ensures right { IfOk result.ran (λ ran. AreRight O.run 0 ran.traces) }
     ensures told { IfOk result.ran (λ ran. length ran.traces ≡ parts_of cluster) }
+    ensures left { IfOk result.ran (λ ran. AreLeft P.disks O.run 0 result.parts.items ran.traces) }
     ensures lines { IfOk result.ran (λ ran. ran.lines ≡ committed_lines ran.traces) }
 {
     let mut cluster = cluster;

@@ -12,14 +12,14 @@ use Rattle.client_state.proofs.Pending.{sends_free, settled_written, still_writt
 use Rattle.client_state.proofs.Stopping.{at_here}
 use Rattle.client_state.specs.Handing.{AbortsInVain, AbortsNext, ByAsking, ByLink, ByPreparing, ForgetsNext, HandsIf, HandsTold, HandsVerdict, KeepsDuties, MayTell, TellsNext, TellsRefuser, handed, helps_by}
 use Rattle.client_state.specs.Links.{NoneAwaits, at_repo, waiting}
-use Rattle.client_state.specs.Moving.{Aborted, Asked, AskedInVain, AskedOwn, CommitRefused, Committed, DecideRefused, Decided, EndsSo, Finished, Forgot, HoldsLess, InSession, KeepsMade, KeepsTry, Learns, LeavesLess, Loses, MaySettle, Moves, PrepareRefused, Prepared, ReceiveRefused, ReceiveStopped, Received, ReceivedNone, Rested, SendsNothingIf, Settled, Transformed, Unsent}
+use Rattle.client_state.specs.Moving.{Aborted, Asked, AskedInVain, AskedOwn, CommitRefused, Committed, Connected, DecideRefused, Decided, Drawn, EndsSo, Fetched, Finished, Forgot, Granted, HoldsLess, InSession, KeepsMade, KeepsTry, Learns, LeavesLess, Loses, MaySettle, Moves, PrepareRefused, Prepared, ReceiveRefused, ReceiveStopped, Received, ReceivedNone, Rested, SendsNothing, SendsNothingIf, Settled, Transformed, Unsent}
 use Rattle.client_state.specs.Participants.{first_in, others_in, sent_of}
 use Rattle.client_state.specs.Pending.{AsksBehind, IsAsking, IsPreparing, MovesSo, MovesSoIf, NonePending, Pending, RefusesToDecide, StaysAsked, StaysPending, asked_at, is_preparing, noted, pending_in, prepared_at}
 use Rattle.client_state.specs.Receiving.{EndsReceive, LosesThere, ReceivesNone, StopsThere, TakesCopies}
-use Rattle.client_state.specs.Sending.{IsOfSession, SendsShare}
+use Rattle.client_state.specs.Sending.{IsDrawnAt, IsOfSession, SendsShare}
 use Rattle.client_state.specs.Settling.{NewsAsSent}
 use Rattle.client_state.specs.Showing.{IsToldBy, ToldByAnswer, ToldByDecision}
-use Rattle.client_state.specs.Stepping.{AsksInVain, AsksOwn, CommitsInVain, DecidesAll, EndsAsked, EndsOwn, HandsSo, HoldsThere, PreparesInVain, PreparesNext, PreparesSo, Present, RefusesNext, SendsAlone, SendsDrawn, SendsTransform, StepsSo, StepsSoIf, TriesSo}
+use Rattle.client_state.specs.Stepping.{AsksInVain, AsksOwn, CommitsInVain, DecidesAll, EndsAsked, EndsOwn, HandsSo, HoldsThere, PreparesInVain, PreparesNext, PreparesSo, Present, RefusesNext, SendsAlone, SendsDrawn, SendsTransform, StepsSo, TriesSo}
 use Rattle.client_state.specs.Taking.{links_behind}
 use Rattle.client_state.specs.Writing.{HoldsWritten, WritesShares, WritesStay, WritesThere}
 use Rattle.client_state.specs.declared.duties.Duties.{Duties}
@@ -29,6 +29,7 @@ use Rattle.client_state.specs.declared.held.Held.{Held}
 use Rattle.client_state.specs.declared.link.Link.TheVariants.{Unsettled as UnsettledLink}
 use Rattle.client_state.specs.declared.link.Link.{Link}
 use Rattle.client_state.specs.declared.link.Waits.TheVariants.{Idle}
+use Rattle.client_state.specs.declared.phase.Phase.TheVariants.{Between}
 use Rattle.client_state.specs.declared.phase.Phase.{Phase}
 use Rattle.client_state.specs.declared.requests.Sending.{Sending}
 use Rattle.client_state.specs.declared.transaction.Sent.{Sent}
@@ -36,7 +37,7 @@ use Rattle.client_state.specs.declared.transaction.Transaction.{Transaction}
 use Rattle.front_end.proofs.Receiving as receiving
 use Rattle.front_end.proofs.Spending as spending
 use Rattle.front_end.specs.Moving.{course_of, tries_of, uncounted}
-use Rattle.front_end.specs.Stepping.{AsksBy, AsksEach, AsksOnce, ClientHands, ClientSteps, IsFinished, IsFinishedSo, IsForgotten, IsSentMore, SameVerdicts, StepsFrom, TakesStep, present_of}
+use Rattle.front_end.specs.Stepping.{AsksBy, AsksEach, AsksOnce, ClientHands, ClientSteps, EndsTry, GoesFreely, IsFinished, IsFinishedSo, IsForgotten, IsOver, IsSentMore, OwesNone, SameVerdicts, SendsFreely, StepsFrom, StepsInOrder, StepsInOrderIf, TakesStep, TriesFrom, present_of}
 use Rattle.front_end.specs.declared.client.Client.{Client}
 use Rattle.front_end.specs.declared.front_end.FrontEnd.{FrontEnd}
 use Rattle.paused_eval.specs.declared.copies.Copies.{Copies}
@@ -136,129 +137,172 @@ module _ (shows : Bool) (old new : View) (r : ℕ) (t : Ts) (o : answer.Asked) (
 
 -- ---- a step, by its call
 
-module _ (shows : Bool) (item : Present) (old new : View) (before after : Held) (a z : Pending) (d e : Duties) (came : News) where
+-- no verdict is to be handed on, whatever is called
+module _ (old new : View) (before after : Held) (d : Duties) (none : OwesNone d) where
+  sends_freely : (n : SendsNothing old new before after) → SendsFreely old new before after n d
+  sends_freely (Rested same less) = tt
+  sends_freely (Connected repo connects apart same fewer) = none
+  sends_freely (Fetched at page left fetches idle same fewer) = none
+  sends_freely (Granted at left grants idle same fewer) = none
+  sends_freely (Drawn at answer left draws there same fewer) = none
+  sends_freely (Asked r t result does less) = tt
+  sends_freely (Settled r t v sent index does there links same fewer) = tt
+
+  goes_freely : (n : Moves old new before after) → GoesFreely old new before after n d
+  goes_freely (Unsent n) = sends_freely n
+  goes_freely (Received at n c joined t client) = tt
+  goes_freely (ReceivedNone at c joined links client f) = tt
+  goes_freely (ReceiveRefused at k c joined l client) = tt
+  goes_freely (ReceiveStopped at k c joined out s client f) = tt
+  goes_freely (Prepared s place c of less) = none
+  goes_freely (PrepareRefused s k c of idle l client) = none
+  goes_freely (Committed s place c of joined wrote held idle keeps) = none
+  goes_freely (Transformed s place oref made c of joined writes here held idle keeps) = none
+  goes_freely (CommitRefused s k c of idle l client) = none
+  goes_freely (Decided at t v c idle f) = none
+  goes_freely (Aborted at t v c less) = tt
+  goes_freely (DecideRefused at t true k c l client) = none
+  goes_freely (DecideRefused at t false k c l client) = tt
+  goes_freely (Finished r t commit result c less) = tt
+  goes_freely (Forgot r t result c less) = tt
+  goes_freely (AskedOwn r t v c f) = tt
+  goes_freely (AskedInVain r t result c leaves client f) = tt
+
+module _ (shows : Bool) (item : Present) (old new : View) (before after : Held) (a : Pending) (q : Phase) (d e : Duties) (came : News) where
   abbrev pub So : Type 0
-  So = StepsSoIf shows item old new before after a z d e came
+  So = StepsInOrderIf shows item old new before after a q d e came
+
+  -- the same of a call that comes only where no verdict is to be handed on
+  abbrev pub TriesSoIf : Type 0
+  TriesSoIf = OwesNone d → So
 
   abbrev pub Quiet : Type 0
   Quiet = is_ended came ≡ false
 
   module _ (s : Sending) (of : IsOfSession before.links.items s) where
     pub by_prepare_so : (place : ℕ) → (shows ≡ true → Does {X = ℕ} old new s.at.repo (Ok place) (PrepareWork s.at.session s.request (Ok place))) → HoldsLess before after
-        → (prepared_at z ≡ Some (s.at, s.request.tx)) ⊎ ((prepared_at z ≡ prepared_at a) × (is_preparing a ≡ true)) → PreparesSo item before.links.items before.cache.cache s a z → Quiet → KeepsDuties d e → So
-    by_prepare_so place call less pends prepares quiet keeps = λ w. record { moves = Prepared s place (call w) of less; pends = pends; tries = (prepares, quiet); hands = keeps }
+        → (prepared_at pending_in q ≡ Some (s.at, s.request.tx)) ⊎ ((prepared_at pending_in q ≡ prepared_at a) × (is_preparing a ≡ true)) → PreparesSo item before.links.items before.cache.cache s a (pending_in q) → Quiet → KeepsDuties d e → TriesSoIf
+    by_prepare_so place call less pends prepares quiet keeps = λ none_left w. record { so = record { moves = Prepared s place (call w) of less; pends = pends; tries = (prepares, quiet); hands = keeps }; free = none_left; ends = tt }
 
     module _ (idle : NoneAwaits 8 before.links.items) where
-      pub by_prepare_refused_so : (k : Refusal) → (shows ≡ true → Does {X = ℕ} old new s.at.repo (Err k) (PrepareWork s.at.session s.request (Err k))) → Learns k s.at.repo before after → after.client ≡ before.client → StaysPending a z before after
-          → PreparesInVain item before.links.items before.cache.cache s a → Quiet → KeepsDuties d e → So
-      by_prepare_refused_so k call learns client stays vain quiet keeps = λ w. record { moves = PrepareRefused s k (call w) of idle learns client; pends = stays; tries = (vain, quiet); hands = keeps }
+      pub by_prepare_refused_so : (k : Refusal) → (shows ≡ true → Does {X = ℕ} old new s.at.repo (Err k) (PrepareWork s.at.session s.request (Err k))) → Learns k s.at.repo before after → after.client ≡ before.client → StaysPending a (pending_in q) before after
+          → PreparesInVain item before.links.items before.cache.cache s a → Quiet → KeepsDuties d e → q ≡ Between → TriesSoIf
+      by_prepare_refused_so k call learns client stays vain quiet keeps over = λ none_left w. record { so = record { moves = PrepareRefused s k (call w) of idle learns client; pends = stays; tries = (vain, quiet); hands = keeps }; free = none_left; ends = over }
 
-      pub by_commit_so : (place : ℕ) → (shows ≡ true → Does {X = ℕ} old new s.at.repo (Ok place) (CommitWork s.at.session s.request (Ok place))) → InSession s.at before → WritesThere s.at.repo s.request.writes before.cache.cache → HoldsWritten s.request before.cache.cache → KeepsTry before after → z ≡ NonePending
-          → (left : Transaction) → SendsAlone item before.links.items before.cache.cache s left → EndsOwn true s.request.tx left came → KeepsDuties d e → So
-      by_commit_so place call joined wrote held keeps none left alone own kept = λ w. record { moves = Committed s place (call w) of joined wrote held idle keeps; pends = none; tries = (left, alone, own); hands = kept }
+      pub by_commit_so : (place : ℕ) → (shows ≡ true → Does {X = ℕ} old new s.at.repo (Ok place) (CommitWork s.at.session s.request (Ok place))) → InSession s.at before → WritesThere s.at.repo s.request.writes before.cache.cache → HoldsWritten s.request before.cache.cache → KeepsTry before after → pending_in q ≡ NonePending
+          → (left : Transaction) → SendsAlone item before.links.items before.cache.cache s left → EndsOwn true s.request.tx left came → KeepsDuties d e → q ≡ Between → TriesSoIf
+      by_commit_so place call joined wrote held keeps none left alone own kept over = λ none_left w. record { so = record { moves = Committed s place (call w) of joined wrote held idle keeps; pends = none; tries = (left, alone, own); hands = kept }; free = none_left; ends = over }
 
       pub by_transform_so : (place : ℕ) (oref : Oref) (made : Obj) → (shows ≡ true → Does {X = ℕ} old new s.at.repo (Ok place) (CommitWork s.at.session s.request (Ok place)))
-          → InSession s.at before → s.request.writes ≡ (oref, made) ∷ [] → oref.repo ≡ s.at.repo → HoldsWritten s.request before.cache.cache → KeepsMade oref made before after → z ≡ NonePending
-          → SendsTransform before.client before.links.items s → Quiet → KeepsDuties d e → So
-      by_transform_so place oref made call joined writes here held keeps none sends quiet kept = λ w. record { moves = Transformed s place oref made (call w) of joined writes here held idle keeps; pends = none; tries = (sends, quiet); hands = kept }
+          → InSession s.at before → s.request.writes ≡ (oref, made) ∷ [] → oref.repo ≡ s.at.repo → HoldsWritten s.request before.cache.cache → KeepsMade oref made before after → pending_in q ≡ NonePending
+          → SendsTransform before.client before.links.items s → Quiet → KeepsDuties d e → TriesSoIf
+      by_transform_so place oref made call joined writes here held keeps none sends quiet kept = λ none_left w. record { so = record { moves = Transformed s place oref made (call w) of joined writes here held idle keeps; pends = none; tries = (sends, quiet); hands = kept }; free = none_left; ends = tt }
 
-      pub by_commit_refused_so : (k : Refusal) → (shows ≡ true → Does {X = ℕ} old new s.at.repo (Err k) (CommitWork s.at.session s.request (Err k))) → Learns k s.at.repo before after → after.client ≡ before.client → AsksBehind s k z after
-          → CommitsInVain item before.client before.links.items before.cache.cache s k z → Quiet → KeepsDuties d e → So
-      by_commit_refused_so k call learns client asks vain quiet keeps = λ w. record { moves = CommitRefused s k (call w) of idle learns client; pends = asks; tries = (vain, quiet); hands = keeps }
+      pub by_commit_refused_so : (k : Refusal) → (shows ≡ true → Does {X = ℕ} old new s.at.repo (Err k) (CommitWork s.at.session s.request (Err k))) → Learns k s.at.repo before after → after.client ≡ before.client → AsksBehind s k (pending_in q) after
+          → CommitsInVain item before.client before.links.items before.cache.cache s k (pending_in q) → Quiet → KeepsDuties d e → IsOver q → TriesSoIf
+      by_commit_refused_so k call learns client asks vain quiet keeps over = λ none_left w. record { so = record { moves = CommitRefused s k (call w) of idle learns client; pends = asks; tries = (vain, quiet); hands = keeps }; free = none_left; ends = over }
 
-  pub by_decide_so : (at : At) (t : Ts) (v : Verdict) → (shows ≡ true → Does {X = Verdict} old new at.repo (Ok v) (DecideWork at.session t true (Ok v))) → NoneAwaits 8 before.links.items → EndsSo v.commit before after → prepared_at a ≡ Some (at, t) → z ≡ NonePending
-      → (transaction : Transaction) → DecidesAll a at t transaction → EndsOwn v.commit t transaction came → (shows ≡ true → HandsVerdict old new a before.links.items d e) → So
-  by_decide_so at t v call idle ends may none transaction all own hands = λ w. record { moves = Decided at t v (call w) idle ends; pends = (may, none); tries = (transaction, all, own); hands = hands w }
+  pub by_decide_so : (at : At) (t : Ts) (v : Verdict) → (shows ≡ true → Does {X = Verdict} old new at.repo (Ok v) (DecideWork at.session t true (Ok v))) → NoneAwaits 8 before.links.items → EndsSo v.commit before after → prepared_at a ≡ Some (at, t) → pending_in q ≡ NonePending
+      → (transaction : Transaction) → DecidesAll a at t transaction → EndsOwn v.commit t transaction came → (shows ≡ true → HandsVerdict old new a before.links.items d e) → q ≡ Between → TriesSoIf
+  by_decide_so at t v call idle ends may none transaction all own hands over = λ none_left w. record { so = record { moves = Decided at t v (call w) idle ends; pends = (may, none); tries = (transaction, all, own); hands = hands w }; free = none_left; ends = over }
 
-  pub by_decide_refused_so : (at : At) (t : Ts) (k : Refusal) → (shows ≡ true → Does {X = Verdict} old new at.repo (Err k) (DecideWork at.session t true (Err k))) → Loses k at.repo before after → after.client ≡ before.client → RefusesToDecide true at t a z before after
-      → (transaction : Transaction) → DecidesAll a at t transaction → z ≡ IsAsking (record { ts = t; at = at; meaning = transaction.meaning; participants = transaction.participants }) 0 → Quiet → KeepsDuties d e → So
-  by_decide_refused_so at t k call loses client pends transaction all asks quiet keeps = λ w. record { moves = DecideRefused at t true k (call w) loses client; pends = pends; tries = (transaction, all, asks, quiet); hands = keeps }
+  pub by_decide_refused_so : (at : At) (t : Ts) (k : Refusal) → (shows ≡ true → Does {X = Verdict} old new at.repo (Err k) (DecideWork at.session t true (Err k))) → Loses k at.repo before after → after.client ≡ before.client → RefusesToDecide true at t a (pending_in q) before after
+      → (transaction : Transaction) → DecidesAll a at t transaction → pending_in q ≡ IsAsking (record { ts = t; at = at; meaning = transaction.meaning; participants = transaction.participants }) 0 → Quiet → KeepsDuties d e → TriesSoIf
+  by_decide_refused_so at t k call loses client pends transaction all asks quiet keeps = λ none_left w. record { so = record { moves = DecideRefused at t true k (call w) loses client; pends = pends; tries = (transaction, all, asks, quiet); hands = keeps }; free = none_left; ends = tt }
 
-  pub by_abort_so : (at : At) (t : Ts) (v : Verdict) → (shows ≡ true → Does {X = Verdict} old new at.repo (Ok v) (DecideWork at.session t false (Ok v))) → HoldsLess before after → StaysPending a z before after → AbortsNext at t v d e → Quiet → So
-  by_abort_so at t v call less stays aborts quiet = λ w. record { moves = Aborted at t v (call w) less; pends = stays; tries = quiet; hands = aborts }
+  pub by_abort_so : (at : At) (t : Ts) (v : Verdict) → (shows ≡ true → Does {X = Verdict} old new at.repo (Ok v) (DecideWork at.session t false (Ok v))) → HoldsLess before after → StaysPending a (pending_in q) before after → AbortsNext at t v d e → Quiet → So
+  by_abort_so at t v call less stays aborts quiet = λ w. record { so = record { moves = Aborted at t v (call w) less; pends = stays; tries = quiet; hands = aborts }; free = tt; ends = tt }
 
-  pub by_abort_refused_so : (at : At) (t : Ts) (k : Refusal) → (shows ≡ true → Does {X = Verdict} old new at.repo (Err k) (DecideWork at.session t false (Err k))) → Loses k at.repo before after → after.client ≡ before.client → StaysPending a z before after → AbortsInVain at t d e → Quiet → So
-  by_abort_refused_so at t k call loses client stays aborts quiet = λ w. record { moves = DecideRefused at t false k (call w) loses client; pends = stays; tries = quiet; hands = aborts }
+  pub by_abort_refused_so : (at : At) (t : Ts) (k : Refusal) → (shows ≡ true → Does {X = Verdict} old new at.repo (Err k) (DecideWork at.session t false (Err k))) → Loses k at.repo before after → after.client ≡ before.client → StaysPending a (pending_in q) before after → AbortsInVain at t d e → Quiet → So
+  by_abort_refused_so at t k call loses client stays aborts quiet = λ w. record { so = record { moves = DecideRefused at t false k (call w) loses client; pends = stays; tries = quiet; hands = aborts }; free = tt; ends = tt }
 
-  pub by_finish_so : (r : ℕ) (v : Verdict) (answered : Bool) → (shows ≡ true → IsFinished old new r v answered) → HoldsLess before after → StaysPending a z before after → TellsNext r v.tx v.commit answered d e → Quiet → So
-  by_finish_so r v answered call less stays tells quiet = λ w. record { moves = Finished r v.tx v.commit (call w).result (call w).call less; pends = stays; tries = quiet; hands = inl (subst (λ (b : Bool). TellsNext r v.tx v.commit b d e) (call w).answered_is tells) }
+  pub by_finish_so : (r : ℕ) (v : Verdict) (answered : Bool) → (shows ≡ true → IsFinished old new r v answered) → HoldsLess before after → StaysPending a (pending_in q) before after → TellsNext r v.tx v.commit answered d e → Quiet → So
+  by_finish_so r v answered call less stays tells quiet = λ w. record { so = record { moves = Finished r v.tx v.commit (call w).result (call w).call less; pends = stays; tries = quiet; hands = inl (subst (λ (b : Bool). TellsNext r v.tx v.commit b d e) (call w).answered_is tells) }; free = tt; ends = tt }
 
-  pub by_help_so : (r : ℕ) (v : Verdict) → (shows ≡ true → IsFinishedSo old new r v) → HoldsLess before after → StaysPending a z before after → TellsRefuser r v.tx v.commit d e → Quiet → So
-  by_help_so r v call less stays tells quiet = λ w. record { moves = Finished r v.tx v.commit (call w).1.result (call w).1.call less; pends = stays; tries = quiet; hands = inr tells }
+  pub by_help_so : (r : ℕ) (v : Verdict) → (shows ≡ true → IsFinishedSo old new r v) → HoldsLess before after → StaysPending a (pending_in q) before after → TellsRefuser r v.tx v.commit d e → Quiet → So
+  by_help_so r v call less stays tells quiet = λ w. record { so = record { moves = Finished r v.tx v.commit (call w).1.result (call w).1.call less; pends = stays; tries = quiet; hands = inr tells }; free = tt; ends = tt }
 
-  pub by_forget_so : (t : Ts) → (shows ≡ true → IsForgotten old new t) → HoldsLess before after → StaysPending a z before after → ForgetsNext t.repo t d e → Quiet → So
-  by_forget_so t call less stays forgets quiet = λ w. record { moves = Forgot t.repo t (call w).result (call w).call less; pends = stays; tries = quiet; hands = forgets }
+  pub by_forget_so : (t : Ts) → (shows ≡ true → IsForgotten old new t) → HoldsLess before after → StaysPending a (pending_in q) before after → ForgetsNext t.repo t d e → Quiet → So
+  by_forget_so t call less stays forgets quiet = λ w. record { so = record { moves = Forgot t.repo t (call w).result (call w).call less; pends = stays; tries = quiet; hands = forgets }; free = tt; ends = tt }
 
-  pub by_ask_so : (r : ℕ) (t : Ts) (result : Result answer.Asked Refusal) → (shows ≡ true → Does old new r result (AskWork t result)) → HoldsLess before after → StaysPending a z before after → Quiet → (shows ≡ true → HandsTold old new a before.links.items d e) → So
-  by_ask_so r t result call less stays quiet hands = λ w. record { moves = Unsent (Asked r t result (call w) less); pends = stays; tries = quiet; hands = hands w }
+  pub by_ask_so : (r : ℕ) (t : Ts) (result : Result answer.Asked Refusal) → (shows ≡ true → Does old new r result (AskWork t result)) → HoldsLess before after → StaysPending a (pending_in q) before after → Quiet → (shows ≡ true → HandsTold old new a before.links.items d e) → So
+  by_ask_so r t result call less stays quiet hands = λ w. record { so = record { moves = Unsent (Asked r t result (call w) less); pends = stays; tries = quiet; hands = hands w }; free = tt; ends = tt }
 
-  pub by_own_answer_so : (r : ℕ) (t : Ts) (v : Verdict) → (shows ≡ true → Does {X = answer.Asked} old new r (Ok (answers.Settled v)) (AskWork t (Ok (answers.Settled v)))) → EndsSo v.commit before after → (at : At) → asked_at a ≡ Some (at, t) → z ≡ NonePending
-      → (sent : Sent) (n : ℕ) → AsksOwn a r t sent n → EndsAsked v.commit sent came → (shows ≡ true → HandsVerdict old new a before.links.items d e) → So
-  by_own_answer_so r t v call ends at asks none sent n asked own hands = λ w. record { moves = AskedOwn r t v (call w) ends; pends = ((at, asks), none); tries = (sent, n, asked, own); hands = hands w }
+  pub by_own_answer_so : (r : ℕ) (t : Ts) (v : Verdict) → (shows ≡ true → Does {X = answer.Asked} old new r (Ok (answers.Settled v)) (AskWork t (Ok (answers.Settled v)))) → EndsSo v.commit before after → (at : At) → asked_at a ≡ Some (at, t) → pending_in q ≡ NonePending
+      → (sent : Sent) (n : ℕ) → AsksOwn a r t sent n → EndsAsked v.commit sent came → (shows ≡ true → HandsVerdict old new a before.links.items d e) → q ≡ Between → So
+  by_own_answer_so r t v call ends at asks none sent n asked own hands over = λ w. record { so = record { moves = AskedOwn r t v (call w) ends; pends = ((at, asks), none); tries = (sent, n, asked, own); hands = hands w }; free = tt; ends = over }
 
-  pub by_no_answer_so : (r : ℕ) (t : Ts) (result : Result answer.Asked Refusal) → (shows ≡ true → Does old new r result (AskWork t result)) → LeavesLess before after → (at : At) → asked_at a ≡ Some (at, t) → StaysAsked a z before after
-      → (sent : Sent) (n : ℕ) → AsksOwn a r t sent n → AsksInVain item after r sent n z came → KeepsDuties d e → So
-  by_no_answer_so r t result call leaves at asks stays sent n asked vain keeps = λ w. record { moves = AskedInVain r t result (call w) leaves.1 leaves.0 leaves.2; pends = ((at, asks), stays); tries = (sent, n, asked, vain); hands = keeps }
+  pub by_no_answer_so : (r : ℕ) (t : Ts) (result : Result answer.Asked Refusal) → (shows ≡ true → Does old new r result (AskWork t result)) → LeavesLess before after → (at : At) → asked_at a ≡ Some (at, t) → StaysAsked a (pending_in q) before after
+      → (sent : Sent) (n : ℕ) → AsksOwn a r t sent n → AsksInVain item after r sent n (pending_in q) came → KeepsDuties d e → IsOver q → So
+  by_no_answer_so r t result call leaves at asks stays sent n asked vain keeps over = λ w. record { so = record { moves = AskedInVain r t result (call w) leaves.1 leaves.0 leaves.2; pends = ((at, asks), stays); tries = (sent, n, asked, vain); hands = keeps }; free = tt; ends = over }
 
   -- the verdict on a transaction was told, which may be that of an Unknown item
-  pub by_settled_so : (r : ℕ) (t : Ts) (o : answer.Asked) (v : Verdict) → o ≡ answers.Settled v → (shows ≡ true → Does {X = answer.Asked} old new r (Ok o) (AskWork t (Ok o))) → z ≡ a → after.cache ≡ before.cache → MaySettle r before after
+  pub by_settled_so : (r : ℕ) (t : Ts) (o : answer.Asked) (v : Verdict) → o ≡ answers.Settled v → (shows ≡ true → Does {X = answer.Asked} old new r (Ok o) (AskWork t (Ok o))) → pending_in q ≡ a → after.cache ≡ before.cache → MaySettle r before after
       → Quiet → (shows ≡ true → HandsTold old new a before.links.items d e) → So
   by_settled_so r t o v is call same cache may quiet hands = λ w. by (answer_told shows old new r t o v is call w) (hands w) may
     where
       kept_so : WritesStay before.cache.cache after.cache.cache
       kept_so x = ap (λ (k : Copies). changed k.cache x) cache
 
-      by : Does {X = answer.Asked} old new r (Ok (answers.Settled v)) (AskWork t (Ok (answers.Settled v))) → HandsTold old new a before.links.items d e → MaySettle r before after → StepsSo item old new before after a z d e came
-      by c h (inl f) = record { moves = Unsent (Asked r t (Ok (answers.Settled v)) c f); pends = inr (same, still_written before after f.1 kept_so); tries = quiet; hands = h }
-      by c h (inr f) = record { moves = Unsent (Settled r t v f.sent f.index c f.there f.links f.client f.fewer); pends = inr (same, settled_written r f.sent f.index before after f.there f.links kept_so); tries = quiet; hands = h }
+      by : Does {X = answer.Asked} old new r (Ok (answers.Settled v)) (AskWork t (Ok (answers.Settled v))) → HandsTold old new a before.links.items d e → MaySettle r before after → StepsInOrder item old new before after a q d e came
+      by c h (inl f) = record { so = record { moves = Unsent (Asked r t (Ok (answers.Settled v)) c f); pends = inr (same, still_written before after f.1 kept_so); tries = quiet; hands = h }; free = tt; ends = tt }
+      by c h (inr f) = record { so = record { moves = Unsent (Settled r t v f.sent f.index c f.there f.links f.client f.fewer); pends = inr (same, settled_written r f.sent f.index before after f.there f.links kept_so); tries = quiet; hands = h }; free = tt; ends = tt }
 
   -- a call that sends nothing, behind which nothing is undecided
-  pub by_sends_so : SendsNothingIf shows old new before after → z ≡ NonePending → Quiet → HandsIf shows old new a before.links.items d e → So
-  by_sends_so sends none quiet hands = λ w. record { moves = Unsent (sends w); pends = sends_free old new before after a z (sends w) none; tries = quiet; hands = hands w }
+  pub by_sends_so : SendsNothingIf shows old new before after → pending_in q ≡ NonePending → Quiet → HandsIf shows old new a before.links.items d e → TriesSoIf
+  by_sends_so sends none quiet hands = λ none_left w. record { so = record { moves = Unsent (sends w); pends = sends_free old new before after a (pending_in q) (sends w) none; tries = quiet; hands = hands w }; free = sends_freely old new before after d none_left (sends w); ends = tt }
 
-  pub moves_of : So → MovesSoIf shows old new before after a z
-  moves_of f = λ w. record { moves = (f w).moves; pends = (f w).pends }
+  pub moves_of : So → MovesSoIf shows old new before after a (pending_in q)
+  moves_of f = λ w. record { moves = (f w).so.moves; pends = (f w).so.pends }
+
+-- what is asked for isn't over
+pub asks_on : (q : Phase) (sent : Sent) (n : ℕ) → pending_in q ≡ IsAsking sent n → IsOver q
+asks_on q sent n asks none = absurd (let no : IsAsking sent n ≡ NonePending = sym asks ∙ none in cc)
 
 -- nothing was called
-module _ (shows : Bool) (item : Present) (view : View) (before after : Held) (a z : Pending) (d e : Duties) (came : News) where
-  pub by_rest : HoldsLess before after → StaysPending a z before after → is_ended came ≡ false → (shows ≡ true → HandsTold view view a before.links.items d e) → StepsSoIf shows item view view before after a z d e came
-  by_rest less stays quiet hands = λ w. record { moves = Unsent (Rested refl less); pends = stays; tries = quiet; hands = hands w }
+module _ (shows : Bool) (item : Present) (view : View) (before after : Held) (a : Pending) (q : Phase) (d e : Duties) (came : News) where
+  pub by_rest : HoldsLess before after → StaysPending a (pending_in q) before after → is_ended came ≡ false → (shows ≡ true → HandsTold view view a before.links.items d e) → StepsInOrderIf shows item view view before after a q d e came
+  by_rest less stays quiet hands = λ w. record { so = record { moves = Unsent (Rested refl less); pends = stays; tries = quiet; hands = hands w }; free = tt; ends = tt }
 
-  pub by_rest_kept : HoldsLess before after → StaysPending a z before after → is_ended came ≡ false → e.verdicts ≡ d.verdicts → e.helping ≡ d.helping → StepsSoIf shows item view view before after a z d e came
+  pub by_rest_kept : HoldsLess before after → StaysPending a (pending_in q) before after → is_ended came ≡ false → e.verdicts ≡ d.verdicts → e.helping ≡ d.helping → StepsInOrderIf shows item view view before after a q d e came
   by_rest_kept less stays quiet v h = by_rest less stays quiet (λ w. told_nothing view view a before.links.items d e v h)
+
+  -- the same of a try that would go on
+  pub by_rest_free : HoldsLess before after → StaysPending a (pending_in q) before after → is_ended came ≡ false → e.verdicts ≡ d.verdicts → e.helping ≡ d.helping → OwesNone d → StepsInOrderIf shows item view view before after a q d e came
+  by_rest_free less stays quiet v h none = by_rest_kept less stays quiet v h
 
 -- ---- messages
 
-module _ (item : Present) (old new : View) (at : At) (before mid after : Held) (rest : mid ≡ record before { links = mid.links }) (joined : InSession at before) (shows : Bool) (p z : Pending) (d e : Duties) (came : News) (quiet : is_ended came ≡ false) (keeps : KeepsDuties d e) where
+module _ (item : Present) (old new : View) (at : At) (before mid after : Held) (rest : mid ≡ record before { links = mid.links }) (joined : InSession at before) (shows : Bool) (p : Pending) (q : Phase) (d e : Duties) (came : News) (quiet : is_ended came ≡ false) (keeps : KeepsDuties d e) where
   pub by_message_so : (o : Option Message) (m : Message) → o ≡ Some m → (shows ≡ true → Does {X = Option Message} old new at.repo (Ok o) (ReceiveWork at.session (Ok o)))
-      → mid.links.items ≡ links_behind (Ok o) at.repo before.links.items → TakesCopies at.repo m mid after → StaysPending p z mid after → StepsSoIf shows item old new before after p z d e came
+      → mid.links.items ≡ links_behind (Ok o) at.repo before.links.items → TakesCopies at.repo m mid after → StaysPending p (pending_in q) mid after → StepsInOrderIf shows item old new before after p q d e came
   unfolding receiving.by_message receiving.taken
   by_message_so o m is call links t stays = λ w.
-      let k : MovesSo old new before after p z = receiving.by_message old new at before mid after rest joined shows o m is call links t p z stays w in
-      record { moves = k.moves; pends = k.pends; tries = quiet; hands = keeps }
+      let k : MovesSo old new before after p (pending_in q) = receiving.by_message old new at before mid after rest joined shows o m is call links t p (pending_in q) stays w in
+      record { so = record { moves = k.moves; pends = k.pends; tries = quiet; hands = keeps }; free = tt; ends = tt }
 
   refused_steps : (k : Refusal) → Does {X = Option Message} old new at.repo (Err k) (ReceiveWork at.session (Err k)) → mid.links.items ≡ before.links.items → EndsReceive k at.repo mid after
-      → StaysPending p z before after → StepsSo item old new before after p z d e came
+      → StaysPending p (pending_in q) before after → StepsInOrder item old new before after p q d e came
   unfolding receiving.refused_so
-  refused_steps k c links (LosesThere l client) stays = record { moves = receiving.refused_so old new at before mid after rest joined k c links (LosesThere l client); pends = stays; tries = quiet; hands = keeps }
-  refused_steps k c links (StopsThere g s client f) stays = record { moves = receiving.refused_so old new at before mid after rest joined k c links (StopsThere g s client f); pends = stays; tries = quiet; hands = keeps }
+  refused_steps k c links (LosesThere l client) stays = record { so = record { moves = receiving.refused_so old new at before mid after rest joined k c links (LosesThere l client); pends = stays; tries = quiet; hands = keeps }; free = tt; ends = tt }
+  refused_steps k c links (StopsThere g s client f) stays = record { so = record { moves = receiving.refused_so old new at before mid after rest joined k c links (StopsThere g s client f); pends = stays; tries = quiet; hands = keeps }; free = tt; ends = tt }
 
   pub by_refusal_so : (k : Refusal) → (shows ≡ true → Does {X = Option Message} old new at.repo (Err k) (ReceiveWork at.session (Err k))) → mid.links.items ≡ before.links.items
-      → EndsReceive k at.repo mid after → StaysPending p z mid after → StepsSoIf shows item old new before after p z d e came
-  by_refusal_so k call links ends stays = λ w. refused_steps k (call w) links ends (receiving.behind_taken old new at before mid after rest joined p z None links stays)
+      → EndsReceive k at.repo mid after → StaysPending p (pending_in q) mid after → StepsInOrderIf shows item old new before after p q d e came
+  by_refusal_so k call links ends stays = λ w. refused_steps k (call w) links ends (receiving.behind_taken old new at before mid after rest joined p (pending_in q) None links stays)
 
-module _ (item : Present) (shows : Bool) (old new : View) (at : At) (before mid : Held) (k : ReceivesNone shows old new at before mid) (joined : InSession at before) (p z : Pending) (same : z ≡ p) (d e : Duties) (keeps : KeepsDuties d e) where
-  pub by_none_so : StepsSoIf shows item old new before mid p z d e news.Nothing
+module _ (item : Present) (shows : Bool) (old new : View) (at : At) (before mid : Held) (k : ReceivesNone shows old new at before mid) (joined : InSession at before) (p : Pending) (q : Phase) (same : pending_in q ≡ p) (d e : Duties) (keeps : KeepsDuties d e) where
+  pub by_none_so : StepsInOrderIf shows item old new before mid p q d e news.Nothing
   unfolding receiving.by_none
   by_none_so = λ w.
-      let m : MovesSo old new before mid p z = receiving.by_none shows old new at before mid k joined p z same w in
-      record { moves = m.moves; pends = m.pends; tries = refl; hands = keeps }
+      let m : MovesSo old new before mid p (pending_in q) = receiving.by_none shows old new at before mid k joined p (pending_in q) same w in
+      record { so = record { moves = m.moves; pends = m.pends; tries = refl; hands = keeps }; free = tt; ends = tt }
 
-  pub by_none_idle_so : (after : Held) → after ≡ record mid { links = after.links } → after.links.items ≡ at_repo mid.links.items at.repo (waiting Idle) → StepsSoIf shows item old new before after p z d e news.Nothing
+  pub by_none_idle_so : (after : Held) → after ≡ record mid { links = after.links } → after.links.items ≡ at_repo mid.links.items at.repo (waiting Idle) → StepsInOrderIf shows item old new before after p q d e news.Nothing
   unfolding receiving.by_none_idle
   by_none_idle_so after rest links = λ w.
-      let m : MovesSo old new before after p z = receiving.by_none_idle shows old new at before mid k joined after rest links p z same w in
-      record { moves = m.moves; pends = m.pends; tries = refl; hands = keeps }
+      let m : MovesSo old new before after p (pending_in q) = receiving.by_none_idle shows old new at before mid k joined after rest links p (pending_in q) same w in
+      record { so = record { moves = m.moves; pends = m.pends; tries = refl; hands = keeps }; free = tt; ends = tt }
 
 -- ---- a client of which the names that it may give are others
 
@@ -305,34 +349,66 @@ module _ (item : Present) (old new : View) (a b after : Held) (p z : Pending) (d
   spent_hands (AskedOwn r t v c f) h = h
   spent_hands (AskedInVain r t result c leaves client f) h = h
 
-  pub spent_steps : StepsSo item old new (record a { names = b.names }) after p z d e came → StepsSo item old new a after p z d e came
-  spent_steps m = record {
+  spent_ends : (q : Phase) (n : Moves old new (record a { names = b.names }) after) → EndsTry old new (record a { names = b.names }) after n q → EndsTry old new a after (spending.other_names old new a b after n) q
+  unfolding spending.other_names
+  spent_ends q (Unsent n) h = h
+  spent_ends q (Received at n c joined t client) h = h
+  spent_ends q (ReceivedNone at c joined links client f) h = h
+  spent_ends q (ReceiveRefused at k c joined l client) h = h
+  spent_ends q (ReceiveStopped at k c joined out s client f) h = h
+  spent_ends q (Prepared s place c of less) h = h
+  spent_ends q (PrepareRefused s k c of idle l client) h = h
+  spent_ends q (Committed s place c of joined wrote held idle keeps) h = h
+  spent_ends q (Transformed s place oref made c of joined writes here held idle keeps) h = h
+  spent_ends q (CommitRefused s k c of idle l client) h = h
+  spent_ends q (Decided at t v c idle f) h = h
+  spent_ends q (Aborted at t v c less) h = h
+  spent_ends q (DecideRefused at t commit k c l client) h = h
+  spent_ends q (Finished r t commit result c less) h = h
+  spent_ends q (Forgot r t result c less) h = h
+  spent_ends q (AskedOwn r t v c f) h = h
+  spent_ends q (AskedInVain r t result c leaves client f) h = h
+
+  spent_so : StepsSo item old new (record a { names = b.names }) after p z d e came → StepsSo item old new a after p z d e came
+  spent_so m = record {
     moves = spending.other_names old new a b after m.moves;
     pends = spending.pends old new a b after m.moves p z m.pends;
     tries = spent_tries m.moves m.tries;
     hands = spent_hands m.moves m.hands;
   }
 
+pub spent_steps : (item : Present) (old new : View) (a b after : Held) (p : Pending) (q : Phase) (d e : Duties) (came : News) → OwesNone d → StepsInOrder item old new (record a { names = b.names }) after p q d e came → StepsInOrder item old new a after p q d e came
+spent_steps item old new a b after p q d e came none m = record {
+  so = spent_so item old new a b after p (pending_in q) d e came m.so;
+  free = goes_freely old new a after d none (spending.other_names old new a b after m.so.moves);
+  ends = spent_ends item old new a b after p (pending_in q) d e came q m.so.moves m.ends;
+}
+
 -- ---- what stands before and behind a call
 
 module _ (shows : Bool) (item : Present) (old new : View) where
   -- the client before, but for its phase
   pub from_phase : (k f g : Client) (q : Phase) (p a : Pending) → f ≡ record k { phase = q } → p ≡ a → (result : Result News NoMemory)
+      → IfOk result (TriesFrom shows item old new a f g) → IfOk result (TriesFrom shows item old new p k g)
+  from_phase k f g q p a rest e result h = subst (λ (x : Client). IfOk result (TriesFrom shows item old new p x g)) rest (subst (λ (y : Pending). IfOk result (TriesFrom shows item old new y f g)) (sym e) h)
+
+  -- the same of a client that may have verdicts to hand on
+  pub asks_from_phase : (k f g : Client) (q : Phase) (p a : Pending) → f ≡ record k { phase = q } → p ≡ a → (result : Result News NoMemory)
       → IfOk result (StepsFrom shows item old new a f g) → IfOk result (StepsFrom shows item old new p k g)
-  from_phase k f g q p a rest e result h = subst (λ (x : Client). IfOk result (StepsFrom shows item old new p x g)) rest (subst (λ (y : Pending). IfOk result (StepsFrom shows item old new y f g)) (sym e) h)
+  asks_from_phase k f g q p a rest e result h = subst (λ (x : Client). IfOk result (StepsFrom shows item old new p x g)) rest (subst (λ (y : Pending). IfOk result (StepsFrom shows item old new y f g)) (sym e) h)
 
   pub from_idle : (k f g : Client) (q : Phase) (p a : Pending) → f ≡ record k { phase = q } → p ≡ a → (result : Result News NoMemory)
-      → (NoneAwaits 8 f.held.links.items → IfOk result (StepsFrom shows item old new a f g)) → NoneAwaits 8 k.held.links.items → IfOk result (StepsFrom shows item old new p k g)
+      → (NoneAwaits 8 f.held.links.items → IfOk result (TriesFrom shows item old new a f g)) → NoneAwaits 8 k.held.links.items → IfOk result (TriesFrom shows item old new p k g)
   from_idle k f g q p a rest e result h idle = from_phase k f g q p a rest e result (h (subst (λ (x : Client). NoneAwaits 8 x.held.links.items) (sym rest) idle))
 
   -- a call that sends nothing
   pub sends_from : (f g : Client) (a : Pending) (result : Result News NoMemory) → OnOk result (SendsNothingIf shows old new f.held g.held) → pending_in g.phase ≡ NonePending → IfOk result (λ n. is_ended n ≡ false) → OnOk result (ClientHands shows old new f g)
-      → IfOk result (StepsFrom shows item old new a f g)
-  sends_from f g a (Ok n) sends none quiet hands = by_sends_so shows item old new f.held g.held a (pending_in g.phase) f.duties g.duties n sends none quiet (hands a)
+      → IfOk result (TriesFrom shows item old new a f g)
+  sends_from f g a (Ok n) sends none quiet hands = by_sends_so shows item old new f.held g.held a g.phase f.duties g.duties n sends none quiet (hands a)
   sends_from f g a (Err e) sends none quiet hands = tt
 
   pub sends_idle_from : (k f g : Client) (q : Phase) (p : Pending) → f ≡ record k { phase = q } → (result : Result News NoMemory) → (NoneAwaits 8 f.held.links.items → OnOk result (SendsNothingIf shows old new f.held g.held)) → pending_in g.phase ≡ NonePending → IfOk result (λ n. is_ended n ≡ false) → OnOk result (ClientHands shows old new f g)
-      → NoneAwaits 8 k.held.links.items → IfOk result (StepsFrom shows item old new p k g)
+      → NoneAwaits 8 k.held.links.items → IfOk result (TriesFrom shows item old new p k g)
   sends_idle_from k f g q p rest result sends none quiet hands = from_idle k f g q p p rest refl result (λ idle. sends_from f g p result (sends idle) none quiet hands)
 
 -- what is told of a refused call, with what is told of what that came to
@@ -373,7 +449,7 @@ module _ (shows : Bool) (old new : View) (f : FrontEnd) where
   takes_none g steps same = record { came = news.Nothing; steps = steps; goes = same; ends = tt; as_sent = tt }
 
   pub takes_moves : (g : FrontEnd) → TakesStep shows old new f g → MovesSoIf shows old new f.client.held g.client.held (pending_in f.client.phase) (pending_in g.client.phase)
-  takes_moves g t = moves_of shows (present_of f) old new f.client.held g.client.held (pending_in f.client.phase) (pending_in g.client.phase) f.client.duties g.client.duties t.came t.steps
+  takes_moves g t = moves_of shows (present_of f) old new f.client.held g.client.held (pending_in f.client.phase) g.client.phase f.client.duties g.client.duties t.came t.steps
 
 -- none of some objects was read
 pub none_among : (names : List Oref) → list_any (λ (x : Oref). false) names ≡ false
@@ -409,8 +485,8 @@ pub sends_as : (links : List Link) (who w : Who) (t u : Ts) (before left : Trans
 sends_as links who w t u before left s h e f = subst (λ (x : Who). SendsShare links x t before left s) e (subst (λ (y : Ts). SendsShare links w y before left s) f h)
 
 -- of a drawn transaction
-pub sends_drawn : (item : Present) (links : List Link) (c : Contents) (who : Who) (t : Ts) (drawn left : Transaction) (s : Sending) → SendsShare links who t drawn left s → item.who ≡ who → s.request.tx ≡ t → WritesShares drawn.shares.items c → SendsDrawn item links c s left
-sends_drawn item links c who t drawn left s h e f wrote = record { drawn = drawn; sends = sends_as links item.who who s.request.tx t drawn left s h (sym e) (sym f); wrote = wrote }
+pub sends_drawn : (item : Present) (links : List Link) (c : Contents) (who : Who) (t : Ts) (drawn left : Transaction) (s : Sending) → SendsShare links who t drawn left s → item.who ≡ who → s.request.tx ≡ t → WritesShares drawn.shares.items c → IsDrawnAt t drawn → SendsDrawn item links c s left
+sends_drawn item links c who t drawn left s h e f wrote starts = record { drawn = drawn; sends = sends_as links item.who who s.request.tx t drawn left s h (sym e) (sym f); wrote = wrote; starts = subst (λ (u : Ts). IsDrawnAt u drawn) (sym f) starts }
 
 -- of one that the coordinator has prepared
 pub sends_more : (item : Present) (f : Client) (who : Who) (t : Ts) (at : At) (rs : List ℕ) (before left : Transaction) (s : Sending) → SendsShare f.held.links.items who t before left s → item.who ≡ who → s.request.tx ≡ t → pending_in f.phase ≡ IsPreparing at t rs left → IsSentMore item f s (IsPreparing at t rs before)
@@ -436,13 +512,13 @@ module _ (item : Present) (f : Client) (s : Sending) (a z : Pending) (h : IsSent
 -- ---- what is decided
 
 -- the verdict was told, and is handed on
-module _ (shows : Bool) (item : Present) (old new : View) (before after : Held) (z : Pending) (d e : Duties) where
+module _ (shows : Bool) (item : Present) (old new : View) (before after : Held) (q : Phase) (d e : Duties) where
   pub decided_so : (a : Pending) (at : At) (sent : Sent) (v : Verdict) → (shows ≡ true → Does {X = Verdict} old new at.repo (Ok v) (DecideWork at.session sent.ts true (Ok v))) → NoneAwaits 8 before.links.items
       → (transaction : Transaction) → DecidesAll a at sent.ts transaction → sent ≡ sent_of sent.ts at transaction
-      → (result : Result News NoMemory) → OnOk result (EndsSo v.commit before after) → OnOk result (z ≡ NonePending) → IfOk result (EndsAsked v.commit sent)
-      → OnOk result (e.verdicts ≡ handed v (others_in sent.participants (first_in sent.participants)) d.verdicts) → OnOk result (e.helping ≡ d.helping) → IfOk result (StepsSoIf shows item old new before after a z d e)
-  decided_so a at sent v call idle transaction all is (Ok n) ends none own verdicts helping =
-      by_decide_so shows item old new before after a z d e n at sent.ts v call idle ends (ap prepared_at all.was) none transaction all (own_of v.commit own) (λ w. record {
+      → (result : Result News NoMemory) → OnOk result (EndsSo v.commit before after) → OnOk result (q ≡ Between) → IfOk result (EndsAsked v.commit sent)
+      → OnOk result (e.verdicts ≡ handed v (others_in sent.participants (first_in sent.participants)) d.verdicts) → OnOk result (e.helping ≡ d.helping) → IfOk result (λ n. OwesNone d → StepsInOrderIf shows item old new before after a q d e n)
+  decided_so a at sent v call idle transaction all is (Ok n) ends over own verdicts helping =
+      by_decide_so shows item old new before after a q d e n at sent.ts v call idle ends (ap prepared_at all.was) (ap pending_in over) transaction all (own_of v.commit own) (λ w. record {
         verdicts = record {
           r = at.repo;
           sent = sent;
@@ -453,7 +529,7 @@ module _ (shows : Bool) (item : Present) (old new : View) (before after : Held) 
           behind = verdicts;
         };
         helping = helping;
-      })
+      }) over
     where
       at_is : sent.at ≡ at
       at_is = ap (λ (x : Sent). x.at) is
@@ -461,13 +537,13 @@ module _ (shows : Bool) (item : Present) (old new : View) (before after : Held) 
       own_of : (b : Bool) → EndsAsked b sent n → EndsOwn b sent.ts transaction n
       own_of true h = h ∙ ap (λ (x : Sent). news.Ended (committed_as sent.ts x.meaning)) is
       own_of false h = h
-  decided_so a at sent v call idle transaction all is (Err k) ends none own verdicts helping = tt
+  decided_so a at sent v call idle transaction all is (Err k) ends over own verdicts helping = tt
 
   pub answered_so : (r : ℕ) (sent : Sent) (n : ℕ) (o : answer.Asked) (v : Verdict) → o ≡ answers.Settled v → (shows ≡ true → Does {X = answer.Asked} old new r (Ok o) (AskWork sent.ts (Ok o))) → r ≡ first_in sent.participants
-      → (result : Result News NoMemory) → OnOk result (EndsSo v.commit before after) → OnOk result (z ≡ NonePending) → IfOk result (EndsAsked v.commit sent)
-      → OnOk result (e.verdicts ≡ handed v (others_in sent.participants (first_in sent.participants)) d.verdicts) → OnOk result (e.helping ≡ d.helping) → IfOk result (StepsSoIf shows item old new before after (IsAsking sent n) z d e)
-  answered_so r sent n o v is call coordinator (Ok x) ends none own verdicts helping =
-      by_own_answer_so shows item old new before after (IsAsking sent n) z d e x r sent.ts v (answer_told shows old new r sent.ts o v is call) ends sent.at refl none sent n (record { was = refl; tx = refl; coordinator = coordinator }) own (λ w. record {
+      → (result : Result News NoMemory) → OnOk result (EndsSo v.commit before after) → OnOk result (q ≡ Between) → IfOk result (EndsAsked v.commit sent)
+      → OnOk result (e.verdicts ≡ handed v (others_in sent.participants (first_in sent.participants)) d.verdicts) → OnOk result (e.helping ≡ d.helping) → IfOk result (StepsInOrderIf shows item old new before after (IsAsking sent n) q d e)
+  answered_so r sent n o v is call coordinator (Ok x) ends over own verdicts helping =
+      by_own_answer_so shows item old new before after (IsAsking sent n) q d e x r sent.ts v (answer_told shows old new r sent.ts o v is call) ends sent.at refl (ap pending_in over) sent n (record { was = refl; tx = refl; coordinator = coordinator }) own (λ w. record {
         verdicts = record {
           r = r;
           sent = sent;
@@ -478,8 +554,8 @@ module _ (shows : Bool) (item : Present) (old new : View) (before after : Held) 
           behind = verdicts;
         };
         helping = helping;
-      })
-  answered_so r sent n o v is call coordinator (Err k) ends none own verdicts helping = tt
+      }) over
+  answered_so r sent n o v is call coordinator (Err k) ends over own verdicts helping = tt
 
 -- the verdict on an Unknown item was told, and is handed on
 pub tells_late : (old new : View) (a : Pending) (links : List Link) (r : ℕ) (sent : Sent) (index : ℕ) (v : Verdict) (before after : List Duty) → slice_get links r ≡ Some (UnsettledLink sent index) → v.tx ≡ sent.ts → IsToldBy old new r v.tx v.commit

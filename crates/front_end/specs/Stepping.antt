@@ -8,13 +8,15 @@ use Rattle.client_port.specs.Views.{View}
 use Rattle.client_port.specs.Works.{Does, FinishWork, ForgetWork}
 use Rattle.client_state.specs.Handing.{HandsIf, is_answered}
 use Rattle.base_reasons.specs.declared.reason.Reason.TheVariants as reasons
-use Rattle.client_state.specs.Moving.{MovesIf}
-use Rattle.client_state.specs.Pending.{IsPreparing, Pending, pending_in}
+use Rattle.client_state.specs.Moving.{Aborted, Asked, AskedInVain, AskedOwn, CommitRefused, Committed, Connected, DecideRefused, Decided, Drawn, Fetched, Finished, Forgot, Granted, Moves, MovesIf, PrepareRefused, Prepared, ReceiveRefused, ReceiveStopped, Received, ReceivedNone, Rested, SendsNothing, Settled, Transformed, Unsent}
+use Rattle.client_state.specs.Pending.{IsPreparing, NonePending, Pending, pending_in}
 use Rattle.client_state.specs.Reading.{phase_reads}
 use Rattle.client_state.specs.Settling.{NewsAsSent}
-use Rattle.client_state.specs.Stepping.{Present, SendsMore, StepsSoIf}
+use Rattle.client_state.specs.Stepping.{Present, SendsMore, StepsSo}
 use Rattle.client_state.specs.declared.duties.Duties.{Duties}
 use Rattle.client_state.specs.declared.duties.Helping.{Helping}
+use Rattle.client_state.specs.declared.held.Held.{Held}
+use Rattle.client_state.specs.declared.phase.Phase.TheVariants.{Between}
 use Rattle.client_state.specs.declared.phase.Phase.{Phase}
 use Rattle.client_state.specs.declared.requests.Sending.{Sending}
 use Rattle.client_state.specs.declared.transaction.Transaction.{Transaction}
@@ -29,16 +31,93 @@ use Rattle.front_end.specs.declared.rule.Rule.{Rule}
 use Rattle.serial_model.specs.declared.outcomes.Cause.TheVariants as cause
 use Rattle.session_outbox.specs.declared.answers.At.{At}
 use Rattle.session_outbox.specs.declared.answers.Verdict.{Verdict}
-use Rattle.std.specs.Prelude.{Bool, Contains, List, None, Option, Result, Some, [], true, ℕ, ◌∷◌, ◌≡◌}
+use Rattle.std.specs.Prelude.{Bool, Contains, List, None, Option, Result, Some, [], false, true, ℕ, ◌∷◌, ◌≡◌}
 use Rattle.thor_value.specs.declared.names.Oref.{Oref}
 use Rattle.thor_value.specs.declared.names.Ts.{Ts}
 use Rattle.repo_refusals.specs.declared.refusal.Refusal.{Refusal}
+
+-- ---- when the try's own calls come, and where it ends by them
+
+-- No verdict is to be handed on.
+abbrev pub OwesNone : Duties → Type 0
+OwesNone d = d.verdicts ≡ []
+
+-- A call of a session comes only where no verdict is to be handed on.
+abbrev pub SendsFreely : (old new : View) (before after : Held) → SendsNothing old new before after → Duties → Type 0
+SendsFreely old new before after (Rested same less) d = Unit {0}
+SendsFreely old new before after (Connected repo connects apart same fewer) d = OwesNone d
+SendsFreely old new before after (Fetched at page left fetches idle same fewer) d = OwesNone d
+SendsFreely old new before after (Granted at left grants idle same fewer) d = OwesNone d
+SendsFreely old new before after (Drawn at answer left draws there same fewer) d = OwesNone d
+SendsFreely old new before after (Asked r t result does less) d = Unit {0}
+SendsFreely old new before after (Settled r t v sent index does there links same fewer) d = Unit {0}
+
+-- So does each call by which the try's transaction is sent, or decided.
+abbrev pub GoesFreely : (old new : View) (before after : Held) → Moves old new before after → Duties → Type 0
+GoesFreely old new before after (Unsent sends) d = SendsFreely old new before after sends d
+GoesFreely old new before after (Received at m does there takes same) d = Unit {0}
+GoesFreely old new before after (ReceivedNone at does there waits same fewer) d = Unit {0}
+GoesFreely old new before after (ReceiveRefused at k does there loses same) d = Unit {0}
+GoesFreely old new before after (ReceiveStopped at k does there outage stops same fewer) d = Unit {0}
+GoesFreely old new before after (Prepared s place does of less) d = OwesNone d
+GoesFreely old new before after (PrepareRefused s k does of idle learns same) d = OwesNone d
+GoesFreely old new before after (Committed s place does of session wrote held idle keeps) d = OwesNone d
+GoesFreely old new before after (Transformed s place oref made does of session writes here held idle keeps) d = OwesNone d
+GoesFreely old new before after (CommitRefused s k does of idle learns same) d = OwesNone d
+GoesFreely old new before after (Decided at t v does idle ends) d = OwesNone d
+GoesFreely old new before after (Aborted at t v does less) d = Unit {0}
+GoesFreely old new before after (DecideRefused at t true k does loses same) d = OwesNone d
+GoesFreely old new before after (DecideRefused at t false k does loses same) d = Unit {0}
+GoesFreely old new before after (Finished r t commit result does less) d = Unit {0}
+GoesFreely old new before after (Forgot r t result does less) d = Unit {0}
+GoesFreely old new before after (AskedOwn r t v does ends) d = Unit {0}
+GoesFreely old new before after (AskedInVain r t result does leaves same fewer) d = Unit {0}
+
+-- Where nothing is undecided, no try runs.
+abbrev pub IsOver : Phase → Type 0
+IsOver q = pending_in q ≡ NonePending → q ≡ Between
+
+-- Behind a call by which the try's transaction was sent, decided or asked for, and of which nothing is undecided, the try has ended: it
+-- isn't sent again. A transform's evaluation begins anew.
+abbrev pub EndsTry : (old new : View) (before after : Held) → Moves old new before after → Phase → Type 0
+EndsTry old new before after (Unsent sends) q = Unit {0}
+EndsTry old new before after (Received at m does there takes same) q = Unit {0}
+EndsTry old new before after (ReceivedNone at does there waits same fewer) q = Unit {0}
+EndsTry old new before after (ReceiveRefused at k does there loses same) q = Unit {0}
+EndsTry old new before after (ReceiveStopped at k does there outage stops same fewer) q = Unit {0}
+EndsTry old new before after (Prepared s place does of less) q = Unit {0}
+EndsTry old new before after (PrepareRefused s k does of idle learns same) q = q ≡ Between
+EndsTry old new before after (Committed s place does of session wrote held idle keeps) q = q ≡ Between
+EndsTry old new before after (Transformed s place oref made does of session writes here held idle keeps) q = Unit {0}
+EndsTry old new before after (CommitRefused s k does of idle learns same) q = IsOver q
+EndsTry old new before after (Decided at t v does idle ends) q = q ≡ Between
+EndsTry old new before after (Aborted at t v does less) q = Unit {0}
+EndsTry old new before after (DecideRefused at t commit k does loses same) q = Unit {0}
+EndsTry old new before after (Finished r t commit result does less) q = Unit {0}
+EndsTry old new before after (Forgot r t result does less) q = Unit {0}
+EndsTry old new before after (AskedOwn r t v does ends) q = q ≡ Between
+EndsTry old new before after (AskedInVain r t result does leaves same fewer) q = IsOver q
+
+-- The client has made a step, which came to this: it keeps to two-phase commit, the try's own calls come only where no verdict is to be
+-- handed on, and a try whose transaction was refused, committed or decided has ended.
+pub record StepsInOrder (item : Present) (old new : View) (before after : Held) (a : Pending) (q : Phase) (d e : Duties) (came : News) : Type 0 where
+  pub so : StepsSo item old new before after a (pending_in q) d e came
+  pub free : GoesFreely old new before after so.moves d
+  pub ends : EndsTry old new before after so.moves q
+
+-- the same of a port that may show nothing
+abbrev pub StepsInOrderIf : Bool → Present → View → View → Held → Held → Pending → Phase → Duties → Duties → News → Type 0
+StepsInOrderIf shows item old new before after a q d e came = shows ≡ true → StepsInOrder item old new before after a q d e came
 
 -- ---- a client without its items
 
 -- A client has made a step, which came to this. What was undecided before is told apart.
 abbrev pub StepsFrom : Bool → Present → View → View → Pending → Client → Client → News → Type 0
-StepsFrom shows item old new a f g came = StepsSoIf shows item old new f.held g.held a (pending_in g.phase) f.duties g.duties came
+StepsFrom shows item old new a f g came = StepsInOrderIf shows item old new f.held g.held a g.phase f.duties g.duties came
+
+-- the same of one that has no verdict to hand on
+abbrev pub TriesFrom : Bool → Present → View → View → Pending → Client → Client → News → Type 0
+TriesFrom shows item old new a f g came = OwesNone f.duties → StepsFrom shows item old new a f g came
 
 -- the same of what was undecided in its phase
 abbrev pub ClientSteps : Bool → Present → View → View → Client → Client → News → Type 0
@@ -46,7 +125,7 @@ ClientSteps shows item old new f g came = StepsFrom shows item old new (pending_
 
 -- the same where these were its duties, and the step came to nothing for its items
 abbrev pub StepsOwing : Bool → Present → View → View → Duties → Client → Client → Type 0
-StepsOwing shows item old new d f g = StepsSoIf shows item old new f.held g.held (pending_in f.phase) (pending_in g.phase) d g.duties news.Nothing
+StepsOwing shows item old new d f g = StepsInOrderIf shows item old new f.held g.held (pending_in f.phase) g.phase d g.duties news.Nothing
 
 -- what a step came to that may have come to nothing at all
 abbrev pub news_in : Option News → News
@@ -106,6 +185,18 @@ abbrev pub RuleHelpsBy : Rule → Option Helping → Type 0
 RuleHelpsBy (rules.Counted rule) helping = HelpsBy rule helping
 RuleHelpsBy rules.Ask helping = Unit {0}
 RuleHelpsBy rules.HandOn helping = Unit {0}
+
+-- The try goes on only where no verdict is to be handed on.
+abbrev pub GoesOnBy : Counted → Duties → Type 0
+GoesOnBy (counted.Await at) d = Unit {0}
+GoesOnBy (counted.CatchUp at) d = Unit {0}
+GoesOnBy (counted.Help h) d = Unit {0}
+GoesOnBy counted.GoOn d = OwesNone d
+
+abbrev pub RuleGoesOnBy : Rule → Duties → Type 0
+RuleGoesOnBy (rules.Counted rule) d = GoesOnBy rule d
+RuleGoesOnBy rules.Ask d = Unit {0}
+RuleGoesOnBy rules.HandOn d = Unit {0}
 
 -- ---- a client with its items
 

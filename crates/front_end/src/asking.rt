@@ -7,7 +7,7 @@ ghost use Rattle.client_state.specs.Handing.{handed};
 ghost use Rattle.client_state.specs.Participants.{first_in, others_in};
 ghost use Rattle.client_state.specs.Pending.{IsAsking, NonePending, StaysAsked, pending_in};
 ghost use Rattle.client_state.specs.Stepping.{AsksInVain, EndsAsked, KeepsSent, one_more};
-ghost use Rattle.front_end.specs.Stepping.{ClientSteps, StepsFrom};
+ghost use Rattle.front_end.specs.Stepping.{ClientSteps, IsOver, StepsFrom};
 ghost use Rattle.serial_model.specs.declared.outcomes.ItemOutcome.TheVariants as outcomes;
 ghost use Rattle.client_state.specs.Writing.{unsent};
 ghost use Rattle.front_end.specs.Writing.{ClientWrites};
@@ -64,7 +64,7 @@ impl Client {
         ensures owed { OnOk result (uncounted task.entry.tries self.new < uncounted task.entry.tries self.old + calls_in task.entry.tries (phase.Asking sent answers)) }
         ensures acts { ActsIf Q.shows (Q.view port.old) (Q.view port.new) }
         ensures shown { ShownIf Q.shows (Q.view port.old) (Q.view port.new) opened.now.repos result }
-        ensures moves { pending_in self.old.phase ≡ NonePending → IfOk result (StepsFrom Q.shows (record { who = task.entry.who; tries = task.entry.tries }) (Q.view port.old) (Q.view port.new) (IsAsking sent answers) self.old self.new) }
+        ensures moves { self.old.phase ≡ phase.Between → IfOk result (StepsFrom Q.shows (record { who = task.entry.who; tries = task.entry.tries }) (Q.view port.old) (Q.view port.new) (IsAsking sent answers) self.old self.new) }
         ensures as_sent { (links : List Link) → IfOk result (NewsAsSent links) }
         ensures writes { unsent self.old.phase ≡ None → ClientWrites self.new }
         ensures rises { Rises self.old.held self.new.held }
@@ -91,6 +91,7 @@ impl Client {
         ensures shown { IfOk result (λ news. (old new : View) (repos : ℕ) → IsToldBy old new coordinator sent.ts verdict.commit → NewsShown old new repos news) }
         ensures ends { OnOk result (EndsSo verdict.commit self.old.held self.new.held) }
         ensures free { pending_in self.old.phase ≡ NonePending → OnOk result (pending_in self.new.phase ≡ NonePending) }
+        ensures over { self.old.phase ≡ phase.Between → OnOk result (self.new.phase ≡ phase.Between) }
         ensures own { IfOk result (EndsAsked verdict.commit sent) }
         ensures hands { OnOk result (self.new.duties.verdicts ≡ handed verdict (others_in sent.participants (first_in sent.participants)) self.old.duties.verdicts) }
         ensures helping { OnOk result (self.new.duties.helping ≡ self.old.duties.helping) }
@@ -112,6 +113,7 @@ impl Client {
         ensures leaves { LeavesLess self.old.held self.new.held }
         ensures stays { (before : ℕ) → pending_in self.old.phase ≡ NonePending → StaysAsked (IsAsking sent before) (pending_in self.new.phase) self.old.held self.new.held }
         ensures asks { (before : ℕ) → pending_in self.old.phase ≡ NonePending → answers ≡ one_more before → AsksInVain (record { who = task.entry.who; tries = task.entry.tries }) self.new.held (first_in sent.participants) sent before (pending_in self.new.phase) result }
+        ensures over { self.old.phase ≡ phase.Between → IsOver self.new.phase }
         ensures duties { self.new.duties ≡ self.old.duties }
         ensures as_sent { (links : List Link) → NewsAsSent links result }
         ensures writes { unsent self.old.phase ≡ None → ClientWrites self.new }

@@ -9,8 +9,9 @@ ghost use Rattle.client_port.specs.Views.{View};
 ghost use Rattle.client_state.specs.Handing.{KeepsDuties};
 ghost use Rattle.client_state.specs.Pending.{HasStopped, IsAsking, IsPreparing, IsWrittenIn, NonePending, Pending, pending_in};
 ghost use Rattle.client_state.specs.Stepping.{AsksWhereStopped, DecidesAll, HoldsThere, Present, SendsAlone, SendsDrawn};
+ghost use Rattle.client_state.specs.declared.phase.Phase.TheVariants as phase;
 ghost use Rattle.client_state.specs.declared.transaction.Transaction.{Transaction};
-ghost use Rattle.front_end.specs.Stepping.{ClientHands, IsSentMore, SameVerdicts, StepsFrom};
+ghost use Rattle.front_end.specs.Stepping.{ClientHands, IsOver, IsSentMore, SameVerdicts, TriesFrom};
 ghost use Rattle.client_state.specs.Writing.{HoldsWritten, WritesShares, WritesThere, unsent};
 ghost use Rattle.front_end.specs.Writing.{ClientWrites};
 ghost use Rattle.client_state.specs.Learning.{Rises};
@@ -84,7 +85,8 @@ impl Client {
         }
     }
 
-    /// Sends a drawn transaction to its only participant, or to its coordinator.
+    /// Sends a drawn transaction to its only participant, or to its coordinator. It was drawn there; one of which that can't be told
+    /// isn't sent.
     pub fn send<Q: Port>(
         &mut self,
         port: &mut Q,
@@ -95,12 +97,15 @@ impl Client {
     ) -> Result<News, NoMemory>
         ensures acts { ActsIf Q.shows (Q.view port.old) (Q.view port.new) }
         ensures shown { ShownIf Q.shows (Q.view port.old) (Q.view port.new) opened.now.repos result }
-        ensures moves { (item : Present) → item.who ≡ who → pending_in self.old.phase ≡ NonePending → WritesShares transaction.shares.items self.old.held.cache.cache → NoneAwaits 8 self.old.held.links.items → IfOk result (StepsFrom Q.shows item (Q.view port.old) (Q.view port.new) NonePending self.old self.new) }
+        ensures moves { (item : Present) → item.who ≡ who → self.old.phase ≡ phase.Between → WritesShares transaction.shares.items self.old.held.cache.cache → NoneAwaits 8 self.old.held.links.items → IfOk result (TriesFrom Q.shows item (Q.view port.old) (Q.view port.new) NonePending self.old self.new) }
         ensures as_sent { (links : List Link) → IfOk result (NewsAsSent links) }
         ensures writes { unsent self.old.phase ≡ None → ClientWrites self.new }
         ensures rises { Rises self.old.held self.new.held }
     {
         self.held.names.spend();
+        if !transaction.is_drawn_at(ts) {
+            return Err(NoMemory);
+        }
         match self.held.next_sending(who, ts, &mut transaction)? {
             Some(sending) => self.send_first(port, opened, ts, transaction, sending),
             None => Ok(News::Nothing),
@@ -118,7 +123,7 @@ impl Client {
     ) -> Result<News, NoMemory>
         ensures acts { ActsIf Q.shows (Q.view port.old) (Q.view port.new) }
         ensures shown { sending.request.tx ≡ ts → ShownIf Q.shows (Q.view port.old) (Q.view port.new) opened.now.repos result }
-        ensures moves { (item : Present) → pending_in self.old.phase ≡ NonePending → sending.request.tx ≡ ts → SendsDrawn item self.old.held.links.items self.old.held.cache.cache sending transaction → (transaction.shares.items ≡ [] → WritesThere sending.at.repo sending.request.writes self.old.held.cache.cache) → IsOfSession self.old.held.links.items sending → NoneAwaits 8 self.old.held.links.items → IfOk result (StepsFrom Q.shows item (Q.view port.old) (Q.view port.new) NonePending self.old self.new) }
+        ensures moves { (item : Present) → self.old.phase ≡ phase.Between → sending.request.tx ≡ ts → SendsDrawn item self.old.held.links.items self.old.held.cache.cache sending transaction → (transaction.shares.items ≡ [] → WritesThere sending.at.repo sending.request.writes self.old.held.cache.cache) → IsOfSession self.old.held.links.items sending → NoneAwaits 8 self.old.held.links.items → IfOk result (TriesFrom Q.shows item (Q.view port.old) (Q.view port.new) NonePending self.old self.new) }
         ensures as_sent { (links : List Link) → IfOk result (NewsAsSent links) }
         ensures writes { unsent self.old.phase ≡ None → ClientWrites self.new }
         ensures rises { Rises self.old.held self.new.held }
@@ -153,7 +158,7 @@ impl Client {
     ) -> Result<News, NoMemory>
         ensures acts { ActsIf Q.shows (Q.view port.old) (Q.view port.new) }
         ensures shown { sending.request.tx ≡ ts → ShownIf Q.shows (Q.view port.old) (Q.view port.new) opened.now.repos result }
-        ensures moves { (item : Present) → pending_in self.old.phase ≡ NonePending → sending.request.tx ≡ ts → InSession sending.at self.old.held → SendsDrawn item self.old.held.links.items self.old.held.cache.cache sending transaction → (transaction.shares.items ≡ [] → WritesThere sending.at.repo sending.request.writes self.old.held.cache.cache) → IsOfSession self.old.held.links.items sending → NoneAwaits 8 self.old.held.links.items → IfOk result (StepsFrom Q.shows item (Q.view port.old) (Q.view port.new) NonePending self.old self.new) }
+        ensures moves { (item : Present) → self.old.phase ≡ phase.Between → sending.request.tx ≡ ts → InSession sending.at self.old.held → SendsDrawn item self.old.held.links.items self.old.held.cache.cache sending transaction → (transaction.shares.items ≡ [] → WritesThere sending.at.repo sending.request.writes self.old.held.cache.cache) → IsOfSession self.old.held.links.items sending → NoneAwaits 8 self.old.held.links.items → IfOk result (TriesFrom Q.shows item (Q.view port.old) (Q.view port.new) NonePending self.old self.new) }
         ensures as_sent { (links : List Link) → IfOk result (NewsAsSent links) }
         ensures writes { unsent self.old.phase ≡ None → ClientWrites self.new }
         ensures rises { Rises self.old.held self.new.held }
@@ -175,7 +180,7 @@ impl Client {
     ) -> Result<News, NoMemory>
         ensures acts { ActsIf Q.shows (Q.view port.old) (Q.view port.new) }
         ensures shown { (repos : ℕ) → ShownIf Q.shows (Q.view port.old) (Q.view port.new) repos result }
-        ensures moves { (item : Present) → pending_in self.old.phase ≡ NonePending → sending.request.tx ≡ ts → SendsDrawn item self.old.held.links.items self.old.held.cache.cache sending transaction → IsOfSession self.old.held.links.items sending → NoneAwaits 8 self.old.held.links.items → IfOk result (StepsFrom Q.shows item (Q.view port.old) (Q.view port.new) NonePending self.old self.new) }
+        ensures moves { (item : Present) → self.old.phase ≡ phase.Between → sending.request.tx ≡ ts → SendsDrawn item self.old.held.links.items self.old.held.cache.cache sending transaction → IsOfSession self.old.held.links.items sending → NoneAwaits 8 self.old.held.links.items → IfOk result (TriesFrom Q.shows item (Q.view port.old) (Q.view port.new) NonePending self.old self.new) }
         ensures as_sent { (links : List Link) → IfOk result (NewsAsSent links) }
         ensures writes { unsent self.old.phase ≡ None → ClientWrites self.new }
         ensures rises { Rises self.old.held self.new.held }
@@ -198,7 +203,7 @@ impl Client {
     ) -> Result<News, NoMemory>
         ensures acts { ActsIf Q.shows (Q.view port.old) (Q.view port.new) }
         ensures shown { sending.request.tx ≡ sent.ts → ShownIf Q.shows (Q.view port.old) (Q.view port.new) opened.now.repos result }
-        ensures moves { (item : Present) (left : Transaction) → SendsAlone item self.old.held.links.items self.old.held.cache.cache sending left → sent ≡ sent_of sending.request.tx sending.at left → pending_in self.old.phase ≡ NonePending → InSession sending.at self.old.held → WritesThere sending.at.repo sending.request.writes self.old.held.cache.cache → IsOfSession self.old.held.links.items sending → NoneAwaits 8 self.old.held.links.items → IfOk result (StepsFrom Q.shows item (Q.view port.old) (Q.view port.new) NonePending self.old self.new) }
+        ensures moves { (item : Present) (left : Transaction) → SendsAlone item self.old.held.links.items self.old.held.cache.cache sending left → sent ≡ sent_of sending.request.tx sending.at left → self.old.phase ≡ phase.Between → InSession sending.at self.old.held → WritesThere sending.at.repo sending.request.writes self.old.held.cache.cache → IsOfSession self.old.held.links.items sending → NoneAwaits 8 self.old.held.links.items → IfOk result (TriesFrom Q.shows item (Q.view port.old) (Q.view port.new) NonePending self.old self.new) }
         ensures as_sent { (links : List Link) → IfOk result (NewsAsSent links) }
         ensures writes { unsent self.old.phase ≡ None → ClientWrites self.new }
         ensures rises { Rises self.old.held self.new.held }
@@ -219,7 +224,7 @@ impl Client {
     ) -> Result<News, NoMemory>
         ensures acts { ActsIf Q.shows (Q.view port.old) (Q.view port.new) }
         ensures shown { sending.request.tx ≡ sent.ts → ShownIf Q.shows (Q.view port.old) (Q.view port.new) opened.now.repos result }
-        ensures moves { (item : Present) (left : Transaction) → SendsAlone item self.old.held.links.items self.old.held.cache.cache sending left → sent ≡ sent_of sending.request.tx sending.at left → pending_in self.old.phase ≡ NonePending → InSession sending.at self.old.held → WritesThere sending.at.repo sending.request.writes self.old.held.cache.cache → HoldsWritten sending.request self.old.held.cache.cache → IsOfSession self.old.held.links.items sending → NoneAwaits 8 self.old.held.links.items → IfOk result (StepsFrom Q.shows item (Q.view port.old) (Q.view port.new) NonePending self.old self.new) }
+        ensures moves { (item : Present) (left : Transaction) → SendsAlone item self.old.held.links.items self.old.held.cache.cache sending left → sent ≡ sent_of sending.request.tx sending.at left → self.old.phase ≡ phase.Between → InSession sending.at self.old.held → WritesThere sending.at.repo sending.request.writes self.old.held.cache.cache → HoldsWritten sending.request self.old.held.cache.cache → IsOfSession self.old.held.links.items sending → NoneAwaits 8 self.old.held.links.items → IfOk result (TriesFrom Q.shows item (Q.view port.old) (Q.view port.new) NonePending self.old self.new) }
         ensures as_sent { (links : List Link) → IfOk result (NewsAsSent links) }
         ensures writes { unsent self.old.phase ≡ None → ClientWrites self.new }
         ensures rises { Rises self.old.held self.new.held }
@@ -236,7 +241,8 @@ impl Client {
         ensures shown { IfOk result (λ news. (old new : View) (repos : ℕ) → Refuses old new repo refusal → NewsShown old new repos news) }
         ensures learns { Learns refusal repo self.old.held self.new.held }
         ensures client { self.new.held.client ≡ self.old.held.client }
-        ensures asks { pending_in self.old.phase ≡ NonePending → OnOk result (AsksWhereStopped refusal sent (pending_in self.new.phase)) }
+        ensures asks { OnOk result (AsksWhereStopped refusal sent (pending_in self.new.phase)) }
+        ensures over { OnOk result (IsOver self.new.phase) }
         ensures written { (at : At) → IsWrittenIn at self.old.held → HasStopped refusal → IsWrittenIn at self.new.held }
         ensures ends { IfOk result (λ news. is_ended news ≡ false) }
         ensures duties { OnOk result (KeepsDuties self.old.duties self.new.duties) }
@@ -260,7 +266,7 @@ impl Client {
     ) -> Result<News, NoMemory>
         ensures acts { ActsIf Q.shows (Q.view port.old) (Q.view port.new) }
         ensures shown { (repos : ℕ) → ShownIf Q.shows (Q.view port.old) (Q.view port.new) repos result }
-        ensures moves { (item : Present) → pending_in self.old.phase ≡ NonePending → sending.request.tx ≡ ts → SendsDrawn item self.old.held.links.items self.old.held.cache.cache sending transaction → HoldsWritten sending.request self.old.held.cache.cache → IsOfSession self.old.held.links.items sending → NoneAwaits 8 self.old.held.links.items → IfOk result (StepsFrom Q.shows item (Q.view port.old) (Q.view port.new) NonePending self.old self.new) }
+        ensures moves { (item : Present) → self.old.phase ≡ phase.Between → sending.request.tx ≡ ts → SendsDrawn item self.old.held.links.items self.old.held.cache.cache sending transaction → HoldsWritten sending.request self.old.held.cache.cache → IsOfSession self.old.held.links.items sending → NoneAwaits 8 self.old.held.links.items → IfOk result (TriesFrom Q.shows item (Q.view port.old) (Q.view port.new) NonePending self.old self.new) }
         ensures as_sent { (links : List Link) → IfOk result (NewsAsSent links) }
         ensures writes { unsent self.old.phase ≡ None → ClientWrites self.new }
         ensures rises { Rises self.old.held self.new.held }
@@ -294,7 +300,7 @@ impl Client {
     ) -> Result<News, NoMemory>
         ensures acts { ActsIf Q.shows (Q.view port.old) (Q.view port.new) }
         ensures shown { ShownIf Q.shows (Q.view port.old) (Q.view port.new) opened.now.repos result }
-        ensures moves { (item : Present) → item.who ≡ who → pending_in self.old.phase ≡ NonePending → NoneAwaits 8 self.old.held.links.items → IfOk result (StepsFrom Q.shows item (Q.view port.old) (Q.view port.new) (IsPreparing coordinator ts prepared transaction) self.old self.new) }
+        ensures moves { (item : Present) → item.who ≡ who → self.old.phase ≡ phase.Between → NoneAwaits 8 self.old.held.links.items → IfOk result (TriesFrom Q.shows item (Q.view port.old) (Q.view port.new) (IsPreparing coordinator ts prepared transaction) self.old self.new) }
         ensures as_sent { (links : List Link) → IfOk result (NewsAsSent links) }
         ensures writes { unsent self.old.phase ≡ None → ClientWrites self.new }
         ensures rises { Rises self.old.held self.new.held }
@@ -318,7 +324,7 @@ impl Client {
     ) -> Result<News, NoMemory>
         ensures acts { ActsIf Q.shows (Q.view port.old) (Q.view port.new) }
         ensures shown { ShownIf Q.shows (Q.view port.old) (Q.view port.new) opened.now.repos result }
-        ensures moves { (item : Present) → transaction.shares.items ≡ [] → pending_in self.old.phase ≡ NonePending → NoneAwaits 8 self.old.held.links.items → IfOk result (StepsFrom Q.shows item (Q.view port.old) (Q.view port.new) (IsPreparing coordinator ts prepared transaction) self.old self.new) }
+        ensures moves { (item : Present) → transaction.shares.items ≡ [] → self.old.phase ≡ phase.Between → NoneAwaits 8 self.old.held.links.items → IfOk result (TriesFrom Q.shows item (Q.view port.old) (Q.view port.new) (IsPreparing coordinator ts prepared transaction) self.old self.new) }
         ensures as_sent { (links : List Link) → IfOk result (NewsAsSent links) }
         ensures writes { unsent self.old.phase ≡ None → ClientWrites self.new }
         ensures rises { Rises self.old.held self.new.held }
@@ -340,7 +346,7 @@ impl Client {
     ) -> Result<News, NoMemory>
         ensures acts { ActsIf Q.shows (Q.view port.old) (Q.view port.new) }
         ensures shown { (repos : ℕ) → ShownIf Q.shows (Q.view port.old) (Q.view port.new) repos result }
-        ensures moves { (item : Present) → item.who ≡ who → NoneAwaits 8 self.old.held.links.items → IfOk result (StepsFrom Q.shows item (Q.view port.old) (Q.view port.new) (IsPreparing coordinator ts prepared transaction) self.old self.new) }
+        ensures moves { (item : Present) → item.who ≡ who → NoneAwaits 8 self.old.held.links.items → IfOk result (TriesFrom Q.shows item (Q.view port.old) (Q.view port.new) (IsPreparing coordinator ts prepared transaction) self.old self.new) }
         ensures as_sent { (links : List Link) → IfOk result (NewsAsSent links) }
         ensures writes { ClientWrites self.new }
         ensures rises { Rises self.old.held self.new.held }
@@ -363,7 +369,7 @@ impl Client {
     fn prepare_more<Q: Port>(&mut self, port: &mut Q, sending: Sending) -> Result<News, NoMemory>
         ensures acts { ActsIf Q.shows (Q.view port.old) (Q.view port.new) }
         ensures shown { (repos : ℕ) → ShownIf Q.shows (Q.view port.old) (Q.view port.new) repos result }
-        ensures moves { (item : Present) (a : Pending) → IsSentMore item self.old sending a → IsOfSession self.old.held.links.items sending → NoneAwaits 8 self.old.held.links.items → IfOk result (StepsFrom Q.shows item (Q.view port.old) (Q.view port.new) a self.old self.new) }
+        ensures moves { (item : Present) (a : Pending) → IsSentMore item self.old sending a → IsOfSession self.old.held.links.items sending → NoneAwaits 8 self.old.held.links.items → IfOk result (TriesFrom Q.shows item (Q.view port.old) (Q.view port.new) a self.old self.new) }
         ensures as_sent { (links : List Link) → IfOk result (NewsAsSent links) }
         ensures writes { unsent self.old.phase ≡ None → ClientWrites self.new }
         ensures rises { Rises self.old.held self.new.held }
@@ -388,7 +394,7 @@ impl Client {
     fn prepare<Q: Port>(&mut self, port: &mut Q, sending: Sending) -> Result<News, NoMemory>
         ensures acts { ActsIf Q.shows (Q.view port.old) (Q.view port.new) }
         ensures shown { (repos : ℕ) → ShownIf Q.shows (Q.view port.old) (Q.view port.new) repos result }
-        ensures moves { (item : Present) (a : Pending) → IsSentMore item self.old sending a → HoldsThere sending self.old.held.links.items self.old.held.cache.cache → IsOfSession self.old.held.links.items sending → NoneAwaits 8 self.old.held.links.items → IfOk result (StepsFrom Q.shows item (Q.view port.old) (Q.view port.new) a self.old self.new) }
+        ensures moves { (item : Present) (a : Pending) → IsSentMore item self.old sending a → HoldsThere sending self.old.held.links.items self.old.held.cache.cache → IsOfSession self.old.held.links.items sending → NoneAwaits 8 self.old.held.links.items → IfOk result (TriesFrom Q.shows item (Q.view port.old) (Q.view port.new) a self.old self.new) }
         ensures as_sent { (links : List Link) → IfOk result (NewsAsSent links) }
         ensures writes { unsent self.old.phase ≡ None → ClientWrites self.new }
         ensures rises { Rises self.old.held self.new.held }
@@ -413,7 +419,7 @@ impl Client {
     ) -> Result<News, NoMemory>
         ensures acts { ActsIf Q.shows (Q.view port.old) (Q.view port.new) }
         ensures shown { ShownIf Q.shows (Q.view port.old) (Q.view port.new) opened.now.repos result }
-        ensures moves { (item : Present) (a : Pending) (transaction : Transaction) → DecidesAll a coordinator sent.ts transaction → sent ≡ sent_of sent.ts coordinator transaction → pending_in self.old.phase ≡ NonePending → NoneAwaits 8 self.old.held.links.items → IfOk result (StepsFrom Q.shows item (Q.view port.old) (Q.view port.new) a self.old self.new) }
+        ensures moves { (item : Present) (a : Pending) (transaction : Transaction) → DecidesAll a coordinator sent.ts transaction → sent ≡ sent_of sent.ts coordinator transaction → self.old.phase ≡ phase.Between → NoneAwaits 8 self.old.held.links.items → IfOk result (TriesFrom Q.shows item (Q.view port.old) (Q.view port.new) a self.old self.new) }
         ensures as_sent { (links : List Link) → IfOk result (NewsAsSent links) }
         ensures writes { unsent self.old.phase ≡ None → ClientWrites self.new }
         ensures rises { Rises self.old.held self.new.held }

@@ -53,7 +53,7 @@ impl FrontEnd {
     ghost use Rattle.front_end.specs.Moving.{GoesOn, Keeps, MovesOn, course_of, held_of, left_of, pending_of, standing_of, steps_left, tries_of, uncounted};
     ghost use Rattle.front_end.specs.Rules.{MayFollow};
     ghost use Rattle.front_end.specs.Showing.{GoesShown, ItemsShown};
-    ghost use Rattle.front_end.specs.Stepping.{AsksEach, GoesAsSent, HelpsBy, TakesStep};
+    ghost use Rattle.front_end.specs.Stepping.{AsksEach, GoesAsSent, GoesOnBy, HelpsBy, TakesStep};
     ghost use Rattle.front_end.specs.declared.front_end.Step.TheVariants as step;
     ghost use Rattle.client_items.specs.Courses.{Goes, IsInOrder};
     ghost use Rattle.client_items.specs.Ending.{EndsBy, GoesBy, ends_try};
@@ -165,7 +165,7 @@ impl FrontEnd {
         ensures falls { GoesOn self.old → OnOk result (Falls (left_of self.old) (left_of self.new)) }
         ensures acts { ActsIf Q.shows (Q.view port.old) (Q.view port.new) }
         ensures shown { ItemsShown Q.shows (Q.view port.old) (Q.view port.new) opened.now.repos self.old self.new }
-        ensures moves { MayFollow rule (held_of self.old) → HelpsBy rule self.old.client.duties.helping → OnOk result (TakesStep Q.shows (Q.view port.old) (Q.view port.new) self.old self.new) }
+        ensures moves { MayFollow rule (held_of self.old) → HelpsBy rule self.old.client.duties.helping → GoesOnBy rule self.old.client.duties → OnOk result (TakesStep Q.shows (Q.view port.old) (Q.view port.new) self.old self.new) }
         ensures rises { Rises (held_of self.old) (held_of self.new) }
     {
         if !self.count_call() {
@@ -202,7 +202,7 @@ impl FrontEnd {
         ensures left { OnOk result (NeverRises (standing_of self.old) (standing_of self.new)) }
         ensures acts { ActsIf Q.shows (Q.view port.old) (Q.view port.new) }
         ensures shown { (calls : ℕ) → GoesShown Q.shows (Q.view port.old) (Q.view port.new) opened.now.repos (tries_of self.old) calls (course_of self.old) (course_of self.new) }
-        ensures moves { MayFollow rule (held_of self.old) → HelpsBy rule self.old.client.duties.helping → OnOk result (TakesStep Q.shows (Q.view port.old) (Q.view port.new) self.old self.new) }
+        ensures moves { MayFollow rule (held_of self.old) → HelpsBy rule self.old.client.duties.helping → GoesOnBy rule self.old.client.duties → OnOk result (TakesStep Q.shows (Q.view port.old) (Q.view port.new) self.old self.new) }
         ensures rises { Rises (held_of self.old) (held_of self.new) }
     {
         let task = self.progress.task(opened, self.attempts.each);

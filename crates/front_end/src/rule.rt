@@ -1,7 +1,7 @@
 //! Which rule a step follows.
 
 ghost use Rattle.client_state.specs.Settling.{NewsAsSent};
-ghost use Rattle.front_end.specs.Stepping.{ClientSteps, HelpsBy, RuleHelpsBy};
+ghost use Rattle.front_end.specs.Stepping.{ClientSteps, GoesOnBy, HelpsBy, RuleGoesOnBy, RuleHelpsBy};
 ghost use Rattle.front_end.specs.Writing.{ClientWrites};
 ghost use Rattle.client_state.specs.Learning.{Rises};
 ghost use Rattle.client_state.specs.Links.{NoneAwaits};
@@ -51,6 +51,7 @@ impl Client {
         ensures goes_on { goes_on result ≡ true → NothingHoldsBack (max opened.now.epoch self.now.held.learnt) self.now }
         ensures follows { Follows result self.now.held }
         ensures helps { RuleHelpsBy result self.now.duties.helping }
+        ensures free { RuleGoesOnBy result self.now.duties }
     {
         if let Some(at) = self.held.awaited() {
             let rule = Counted::Await { at };
@@ -73,6 +74,7 @@ impl Client {
         ensures hands_on { hands_on result ≡ true → 0 < length self.now.duties.verdicts }
         ensures follows { NoneAwaits 8 self.now.held.links.items → Follows result self.now.held }
         ensures helps { RuleHelpsBy result self.now.duties.helping }
+        ensures free { RuleGoesOnBy result self.now.duties }
     {
         if let Phase::Asking { .. } = &self.phase {
             return Rule::Ask;
@@ -94,7 +96,7 @@ impl Client {
     ) -> Result<News, NoMemory>
         ensures acts { ActsIf Q.shows (Q.view port.old) (Q.view port.new) }
         ensures shown { ShownIf Q.shows (Q.view port.old) (Q.view port.new) opened.now.repos result }
-        ensures moves { ClientWrites self.old → MayFollow rule self.old.held → HelpsBy rule self.old.duties.helping → IfOk result (ClientSteps Q.shows (record { who = task.entry.who; tries = task.entry.tries }) (Q.view port.old) (Q.view port.new) self.old self.new) }
+        ensures moves { ClientWrites self.old → MayFollow rule self.old.held → HelpsBy rule self.old.duties.helping → GoesOnBy rule self.old.duties → IfOk result (ClientSteps Q.shows (record { who = task.entry.who; tries = task.entry.tries }) (Q.view port.old) (Q.view port.new) self.old self.new) }
         ensures as_sent { IfOk result (NewsAsSent self.old.held.links.items) }
         ensures writes { ClientWrites self.old → ClientWrites self.new }
         ensures rises { Rises self.old.held self.new.held }

@@ -8,7 +8,8 @@ ghost use Rattle.client_items.specs.Meanings.{is_ended};
 ghost use Rattle.client_state.specs.Handing.{KeepsDuties};
 ghost use Rattle.client_state.specs.Pending.{NonePending, pending_in};
 ghost use Rattle.client_state.specs.Stepping.{Present, SendsTransform};
-ghost use Rattle.front_end.specs.Stepping.{ClientHands, SameVerdicts, StepsFrom};
+ghost use Rattle.client_state.specs.declared.phase.Phase.TheVariants as phase;
+ghost use Rattle.front_end.specs.Stepping.{ClientHands, SameVerdicts, TriesFrom};
 ghost use Rattle.client_state.specs.Writing.{HoldsWritten, unsent};
 ghost use Rattle.front_end.specs.Writing.{ClientWrites};
 ghost use Rattle.client_state.specs.Learning.{Rises};
@@ -68,7 +69,7 @@ impl Client {
     ) -> Result<News, NoMemory>
         ensures acts { ActsIf Q.shows (Q.view port.old) (Q.view port.new) }
         ensures shown { ShownIf Q.shows (Q.view port.old) (Q.view port.new) opened.now.repos result }
-        ensures moves { (item : Present) → NoneAwaits 8 self.old.held.links.items → IfOk result (StepsFrom Q.shows item (Q.view port.old) (Q.view port.new) NonePending self.old self.new) }
+        ensures moves { (item : Present) → NoneAwaits 8 self.old.held.links.items → IfOk result (TriesFrom Q.shows item (Q.view port.old) (Q.view port.new) NonePending self.old self.new) }
         ensures as_sent { IfOk result (NewsAsSent self.old.held.links.items) }
         ensures writes { ClientWrites self.new }
         ensures rises { Rises self.old.held self.new.held }
@@ -186,7 +187,7 @@ impl Client {
     ) -> Result<News, NoMemory>
         ensures acts { ActsIf Q.shows (Q.view port.old) (Q.view port.new) }
         ensures shown { (repos : ℕ) → ShownIf Q.shows (Q.view port.old) (Q.view port.new) repos result }
-        ensures moves { (item : Present) → pending_in self.old.phase ≡ NonePending → NoneAwaits 8 self.old.held.links.items → IfOk result (StepsFrom Q.shows item (Q.view port.old) (Q.view port.new) NonePending self.old self.new) }
+        ensures moves { (item : Present) → pending_in self.old.phase ≡ NonePending → NoneAwaits 8 self.old.held.links.items → IfOk result (TriesFrom Q.shows item (Q.view port.old) (Q.view port.new) NonePending self.old self.new) }
         ensures as_sent { (links : List Link) → IfOk result (NewsAsSent links) }
         ensures writes { unsent self.old.phase ≡ None → ClientWrites self.new }
         ensures rises { Rises self.old.held self.new.held }
@@ -216,7 +217,7 @@ impl Client {
     ) -> Result<News, NoMemory>
         ensures acts { ActsIf Q.shows (Q.view port.old) (Q.view port.new) }
         ensures shown { (repos : ℕ) → ShownIf Q.shows (Q.view port.old) (Q.view port.new) repos result }
-        ensures moves { (item : Present) → pending_in self.old.phase ≡ NonePending → InSession at self.old.held → SendsTransform self.old.held.client self.old.held.links.items (record { at = at; request = request }) → IsOfSession self.old.held.links.items (record { at = at; request = request }) → request.writes ≡ (oref, made) ∷ [] → oref.repo ≡ at.repo → NoneAwaits 8 self.old.held.links.items → IfOk result (StepsFrom Q.shows item (Q.view port.old) (Q.view port.new) NonePending self.old self.new) }
+        ensures moves { (item : Present) → pending_in self.old.phase ≡ NonePending → InSession at self.old.held → SendsTransform self.old.held.client self.old.held.links.items (record { at = at; request = request }) → IsOfSession self.old.held.links.items (record { at = at; request = request }) → request.writes ≡ (oref, made) ∷ [] → oref.repo ≡ at.repo → NoneAwaits 8 self.old.held.links.items → IfOk result (TriesFrom Q.shows item (Q.view port.old) (Q.view port.new) NonePending self.old self.new) }
         ensures as_sent { (links : List Link) → IfOk result (NewsAsSent links) }
         ensures writes { unsent self.old.phase ≡ None → ClientWrites self.new }
         ensures rises { Rises self.old.held self.new.held }
@@ -239,7 +240,7 @@ impl Client {
     ) -> Result<News, NoMemory>
         ensures acts { ActsIf Q.shows (Q.view port.old) (Q.view port.new) }
         ensures shown { (repos : ℕ) → ShownIf Q.shows (Q.view port.old) (Q.view port.new) repos result }
-        ensures moves { (item : Present) → pending_in self.old.phase ≡ NonePending → InSession at self.old.held → SendsTransform self.old.held.client self.old.held.links.items (record { at = at; request = request }) → IsOfSession self.old.held.links.items (record { at = at; request = request }) → request.writes ≡ (oref, made) ∷ [] → oref.repo ≡ at.repo → HoldsWritten request self.old.held.cache.cache → NoneAwaits 8 self.old.held.links.items → IfOk result (StepsFrom Q.shows item (Q.view port.old) (Q.view port.new) NonePending self.old self.new) }
+        ensures moves { (item : Present) → pending_in self.old.phase ≡ NonePending → InSession at self.old.held → SendsTransform self.old.held.client self.old.held.links.items (record { at = at; request = request }) → IsOfSession self.old.held.links.items (record { at = at; request = request }) → request.writes ≡ (oref, made) ∷ [] → oref.repo ≡ at.repo → HoldsWritten request self.old.held.cache.cache → NoneAwaits 8 self.old.held.links.items → IfOk result (TriesFrom Q.shows item (Q.view port.old) (Q.view port.new) NonePending self.old self.new) }
         ensures as_sent { (links : List Link) → IfOk result (NewsAsSent links) }
         ensures writes { unsent self.old.phase ≡ None → ClientWrites self.new }
         ensures rises { Rises self.old.held self.new.held }
@@ -276,6 +277,7 @@ impl Client {
         ensures duties { OnOk result (KeepsDuties self.old.duties self.new.duties) }
         ensures client { self.new.held.client ≡ self.old.held.client }
         ensures free { pending_in self.old.phase ≡ NonePending → pending_in self.new.phase ≡ NonePending }
+        ensures over { OnOk result (self.new.phase ≡ phase.Between) }
         ensures as_sent { (links : List Link) → IfOk result (NewsAsSent links) }
         ensures writes { unsent self.old.phase ≡ None → ClientWrites self.new }
         ensures rises { Rises self.old.held self.new.held }

@@ -6,8 +6,9 @@ use Rattle.client_port.specs.Views.{View}
 use Rattle.client_state.specs.Moving.{Aborted, AskedInVain, AskedOwn, CommitRefused, Committed, DecideRefused, Decided, Finished, Forgot, Moves, PrepareRefused, Prepared, ReceiveRefused, ReceiveStopped, Received, ReceivedNone, Transformed, Unsent}
 use Rattle.client_state.specs.Participants.{others_in}
 use Rattle.client_state.specs.Pending.{IsAsking, IsPreparing, NonePending, Pending}
-use Rattle.client_state.specs.Sending.{SendsShare}
-use Rattle.client_state.specs.Stepping.{DecidesAll, PreparesFirst, PreparesInVain, PreparesNext, PreparesSo, Present, RefusesFirst, RefusesNext, SendsMore, StepsSo, TriesSo}
+use Rattle.client_state.specs.Sending.{GoToParticipants, SendsShare}
+use Rattle.client_state.specs.Stepping.{DecidesAll, PreparesFirst, PreparesInVain, PreparesNext, PreparesSo, Present, RefusesFirst, RefusesNext, SendsDrawn, SendsMore, StepsSo, TriesSo}
+use Rattle.client_state.specs.Writing.{is_of}
 use Rattle.client_state.specs.declared.duties.Duties.{Duties}
 use Rattle.client_state.specs.declared.held.Held.{Held}
 use Rattle.client_state.specs.declared.link.Link.{Link}
@@ -17,7 +18,7 @@ use Rattle.client_state.specs.declared.transaction.Transaction.{Transaction}
 use Rattle.law_atomic_commit.proofs.Grown.{onward, sound-grown}
 use Rattle.law_atomic_commit.specs.Growing.{Continues, MayCome, grown}
 use Rattle.law_atomic_commit.specs.Several.{AreAlike, AreSound, Several, part}
-use Rattle.law_two_phase_clients.specs.Trying.{ArePrepared, BeginsRight, GoToParticipants, HasPrepared, IsDrawnRight, IsRequestOf, OwnMayCome, StartsInVain, StartsRight, TryPrepared}
+use Rattle.law_two_phase_clients.specs.Trying.{ArePrepared, HasPrepared, IsRequestOf, OwnMayCome, TryPrepared}
 use Rattle.log_entries.specs.declared.entry.Entry.TheVariants as entries
 use Rattle.log_entries.specs.declared.entry.Entry.{Entry}
 use Rattle.log_entries.specs.declared.request.Request.{Request}
@@ -120,6 +121,13 @@ module _ (links : List Link) (who : Who) (t : Ts) (before left : Transaction) (s
     takes = ap (λ (x : Transaction). list_any (nat_eq r) x.participants) sends.rest ∙ of.takes;
   }
 
+-- the first share of a drawn transaction goes to its coordinator
+starts_there : (item : Present) (links : List Link) (c : Contents) (s : Sending) (left : Transaction) → SendsDrawn item links c s left → s.request.tx.repo ≡ s.at.repo
+starts_there item links c s left sends = sym (place_is links item.who s.request.tx sends.drawn left s sends.sends ∙ eqb-true sends.sends.share.repo s.request.tx.repo first)
+  where
+    first : nat_eq sends.sends.share.repo s.request.tx.repo ≡ true
+    first = subst (λ (shares : List Share). is_of s.request.tx.repo (slice_get shares 0) ≡ true) sends.sends.taken sends.starts.first
+
 -- ---- what a call knows
 
 module _ (S : Several) where
@@ -130,13 +138,13 @@ module _ (S : Several) where
       let of : IsRequestOf item.who s.request.tx m.transaction s.request.tx.repo p.first.o.request = subst (λ (n : ℕ). IsRequestOf item.who s.request.tx m.transaction n p.first.o.request) (sym p.coordinator) p.first.of in
       inr (p.first.o, there, alike item.who s.request.tx m.transaction s.at.repo s.request.tx.repo s.request p.first.o.request (request_is links item.who s.request.tx m.transaction left s m.sends p.left) of)
 
-  prepares_may : (item : Present) (links : List Link) (c : Contents) (s : Sending) (a z : Pending) (so : PreparesSo item links c s a z) → StartsRight item links c s a z so → TryPrepared S item.who a → MayCome S s.at.repo (entries.Prepared s.request)
-  prepares_may item links c s a z (PreparesFirst left sends holds now) right tried = inl right.coordinator
-  prepares_may item links c s a z (PreparesNext at rs left sends holds now) right tried = more_may item links a s at rs left sends tried
+  prepares_may : (item : Present) (links : List Link) (c : Contents) (s : Sending) (a z : Pending) → PreparesSo item links c s a z → TryPrepared S item.who a → MayCome S s.at.repo (entries.Prepared s.request)
+  prepares_may item links c s a z (PreparesFirst left sends holds now) tried = inl (starts_there item links c s left sends)
+  prepares_may item links c s a z (PreparesNext at rs left sends holds now) tried = more_may item links a s at rs left sends tried
 
-  refuses_may : (item : Present) (links : List Link) (c : Contents) (s : Sending) (a : Pending) (so : PreparesInVain item links c s a) → StartsInVain item links c s a so → TryPrepared S item.who a → MayCome S s.at.repo (entries.Prepared s.request)
-  refuses_may item links c s a (RefusesFirst left sends) right tried = inl right.coordinator
-  refuses_may item links c s a (RefusesNext at rs left sends) right tried = more_may item links a s at rs left sends tried
+  refuses_may : (item : Present) (links : List Link) (c : Contents) (s : Sending) (a : Pending) → PreparesInVain item links c s a → TryPrepared S item.who a → MayCome S s.at.repo (entries.Prepared s.request)
+  refuses_may item links c s a (RefusesFirst left sends) tried = inl (starts_there item links c s left sends)
+  refuses_may item links c s a (RefusesNext at rs left sends) tried = more_may item links a s at rs left sends tried
 
   decide_may : (item : Who) (a : Pending) (at : At) (t : Ts) (transaction : Transaction) → DecidesAll a at t transaction → TryPrepared S item a → MayCome S at.repo (entries.Decided t true)
   decide_may item a at t transaction all tried = (p.first.o, p.first.there, each)
@@ -151,29 +159,29 @@ module _ (S : Several) where
       each : (n : ℕ) → takes_part at.repo p.first.o.request n ≡ true → (o : Known) × (part S n t ≡ Some o)
       each n takes = by n (nat_eq n at.repo) refl (ap (list_any (nat_eq n)) (sym all.all) ∙ (sym (takes_all item t transaction at.repo p.first.o.request p.first.of n) ∙ takes))
 
-  own_may : (item : Present) (old new : View) (before after : Held) (a z : Pending) (came : News) (moves : Moves old new before after) (tries : TriesSo item old new before after moves a z came) → BeginsRight item old new before after moves a z came tries → TryPrepared S item.who a → OwnMayCome S old new before after moves
-  own_may item old new before after a z came (Unsent sends) tries right tried = tt
-  own_may item old new before after a z came (Received at m does there takes same) tries right tried = tt
-  own_may item old new before after a z came (ReceivedNone at does there waits same fewer) tries right tried = tt
-  own_may item old new before after a z came (ReceiveRefused at k does there loses same) tries right tried = tt
-  own_may item old new before after a z came (ReceiveStopped at k does there outage stops same fewer) tries right tried = tt
-  own_may item old new before after a z came (Prepared s place does of less) tries right tried = prepares_may item before.links.items before.cache.cache s a z tries.0 right tried
-  own_may item old new before after a z came (PrepareRefused s k does of idle learns same) tries right tried = refuses_may item before.links.items before.cache.cache s a tries.0 right tried
-  own_may item old new before after a z came (Committed s place does of session wrote held idle keeps) tries right tried = tt
-  own_may item old new before after a z came (Transformed s place oref made does of session writes here held idle keeps) tries right tried = tt
-  own_may item old new before after a z came (CommitRefused s k does of idle learns same) tries right tried = tt
-  own_may item old new before after a z came (Decided at t v does idle ends) tries right tried = decide_may item.who a at t tries.0 tries.1 tried
-  own_may item old new before after a z came (Aborted at t v does less) tries right tried = tt
-  own_may item old new before after a z came (DecideRefused at t true k does loses same) tries right tried = decide_may item.who a at t tries.0 tries.1 tried
-  own_may item old new before after a z came (DecideRefused at t false k does loses same) tries right tried = tt
-  own_may item old new before after a z came (Finished r t commit result does less) tries right tried = tt
-  own_may item old new before after a z came (Forgot r t result does less) tries right tried = tt
-  own_may item old new before after a z came (AskedOwn r t v does ends) tries right tried = tt
-  own_may item old new before after a z came (AskedInVain r t result does leaves same fewer) tries right tried = tt
+  own_may : (item : Present) (old new : View) (before after : Held) (a z : Pending) (came : News) (moves : Moves old new before after) → TriesSo item old new before after moves a z came → TryPrepared S item.who a → OwnMayCome S old new before after moves
+  own_may item old new before after a z came (Unsent sends) tries tried = tt
+  own_may item old new before after a z came (Received at m does there takes same) tries tried = tt
+  own_may item old new before after a z came (ReceivedNone at does there waits same fewer) tries tried = tt
+  own_may item old new before after a z came (ReceiveRefused at k does there loses same) tries tried = tt
+  own_may item old new before after a z came (ReceiveStopped at k does there outage stops same fewer) tries tried = tt
+  own_may item old new before after a z came (Prepared s place does of less) tries tried = prepares_may item before.links.items before.cache.cache s a z tries.0 tried
+  own_may item old new before after a z came (PrepareRefused s k does of idle learns same) tries tried = refuses_may item before.links.items before.cache.cache s a tries.0 tried
+  own_may item old new before after a z came (Committed s place does of session wrote held idle keeps) tries tried = tt
+  own_may item old new before after a z came (Transformed s place oref made does of session writes here held idle keeps) tries tried = tt
+  own_may item old new before after a z came (CommitRefused s k does of idle learns same) tries tried = tt
+  own_may item old new before after a z came (Decided at t v does idle ends) tries tried = decide_may item.who a at t tries.0 tries.1 tried
+  own_may item old new before after a z came (Aborted at t v does less) tries tried = tt
+  own_may item old new before after a z came (DecideRefused at t true k does loses same) tries tried = decide_may item.who a at t tries.0 tries.1 tried
+  own_may item old new before after a z came (DecideRefused at t false k does loses same) tries tried = tt
+  own_may item old new before after a z came (Finished r t commit result does less) tries tried = tt
+  own_may item old new before after a z came (Forgot r t result does less) tries tried = tt
+  own_may item old new before after a z came (AskedOwn r t v does ends) tries tried = tt
+  own_may item old new before after a z came (AskedInVain r t result does leaves same fewer) tries tried = tt
 
 pub sends : (S : Several) (item : Present) (old new : View) (before after : Held) (a z : Pending) (d e : Duties) (came : News) (step : StepsSo item old new before after a z d e came)
-    → BeginsRight item old new before after step.moves a z came step.tries → TryPrepared S item.who a → OwnMayCome S old new before after step.moves
-sends S item old new before after a z d e came step right tried = own_may S item old new before after a z came step.moves step.tries right tried
+    → TryPrepared S item.who a → OwnMayCome S old new before after step.moves
+sends S item old new before after a z d e came step tried = own_may S item old new before after a z came step.moves step.tries tried
 
 -- ---- what stays
 
@@ -223,15 +231,14 @@ module _ (S : Several) (r : ℕ) (q : Request) (sd : AreSound S) (go : Continues
   new_there : (item : Who) (transaction : Transaction) → IsRequestOf item q.tx transaction r q → HasPrepared (grown S r (entries.Prepared q)) item q.tx transaction r
   new_there item transaction of = record { o = stands.0; there = stands.1; of = subst (IsRequestOf item q.tx transaction r) (sym stands.2) of }
 
-pub prepares : (S : Several) (item : Present) (links : List Link) (c : Contents) (s : Sending) (a z : Pending) (so : PreparesSo item links c s a z) → StartsRight item links c s a z so
-    → AreSound S → Continues S s.at.repo (entries.Prepared s.request) → TryPrepared S item.who a → TryPrepared (grown S s.at.repo (entries.Prepared s.request)) item.who z
-prepares S item links c s a z (PreparesFirst left sends holds now) right sd go tried = subst (TryPrepared (grown S s.at.repo (entries.Prepared s.request)) item.who) (sym now) (record {
-  coordinator = right.coordinator;
-  first = new_there S s.at.repo s.request sd go item.who left (same_requests links item.who s.request.tx sends.drawn left s sends.sends s.at.repo s.request (request_is links item.who s.request.tx sends.drawn left s sends.sends right.shares));
+pub prepares : (S : Several) (item : Present) (links : List Link) (c : Contents) (s : Sending) (a z : Pending) → PreparesSo item links c s a z → AreSound S → Continues S s.at.repo (entries.Prepared s.request) → TryPrepared S item.who a → TryPrepared (grown S s.at.repo (entries.Prepared s.request)) item.who z
+prepares S item links c s a z (PreparesFirst left sends holds now) sd go tried = subst (TryPrepared (grown S s.at.repo (entries.Prepared s.request)) item.who) (sym now) (record {
+  coordinator = starts_there item links c s left sends;
+  first = new_there S s.at.repo s.request sd go item.who left (same_requests links item.who s.request.tx sends.drawn left s sends.sends s.at.repo s.request (request_is links item.who s.request.tx sends.drawn left s sends.sends sends.starts.shares));
   next = λ n h. cc;
-  left = rest_of links item.who s.request.tx sends.drawn left s sends.sends right.shares;
+  left = rest_of links item.who s.request.tx sends.drawn left s sends.sends sends.starts.shares;
 })
-prepares S item links c s a z (PreparesNext at rs left sends holds now) right sd go tried = subst (TryPrepared (grown S s.at.repo (entries.Prepared s.request)) item.who) (sym now) (record {
+prepares S item links c s a z (PreparesNext at rs left sends holds now) sd go tried = subst (TryPrepared (grown S s.at.repo (entries.Prepared s.request)) item.who) (sym now) (record {
   coordinator = p.coordinator;
   first = old_there at.repo p.first;
   next = λ n h. by n (one_more_among n s.at.repo rs h);

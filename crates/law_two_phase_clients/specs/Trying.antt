@@ -1,16 +1,11 @@
 -- What stands of a try's transaction at its participants, and what a step's call has to know of it (this project's).
-use Rattle.client_cache.specs.Copies.{Contents}
 use Rattle.client_items.specs.Meanings.{answer_in, kind_of}
-use Rattle.client_items.specs.declared.news.News.{News}
 use Rattle.client_port.specs.Views.{View}
 use Rattle.client_state.specs.Moving.{Aborted, AskedInVain, AskedOwn, CommitRefused, Committed, DecideRefused, Decided, Finished, Forgot, Moves, PrepareRefused, Prepared, ReceiveRefused, ReceiveStopped, Received, ReceivedNone, Transformed, Unsent}
 use Rattle.client_state.specs.Participants.{others_in}
 use Rattle.client_state.specs.Pending.{IsAsking, IsPreparing, NonePending, Pending}
-use Rattle.client_state.specs.Stepping.{PreparesFirst, PreparesInVain, PreparesNext, PreparesSo, Present, RefusesFirst, RefusesNext, TriesSo}
+use Rattle.client_state.specs.Sending.{GoToParticipants}
 use Rattle.client_state.specs.declared.held.Held.{Held}
-use Rattle.client_state.specs.declared.link.Link.{Link}
-use Rattle.client_state.specs.declared.requests.Sending.{Sending}
-use Rattle.client_state.specs.declared.transaction.Share.{Share}
 use Rattle.client_state.specs.declared.transaction.Transaction.{Transaction}
 use Rattle.law_atomic_commit.specs.Growing.{MayCome}
 use Rattle.law_atomic_commit.specs.Several.{Several, part}
@@ -18,7 +13,7 @@ use Rattle.log_entries.specs.declared.entry.Entry.TheVariants as entries
 use Rattle.log_entries.specs.declared.request.Request.{Request}
 use Rattle.session_outbox.specs.declared.answers.At.{At}
 use Rattle.spec_history.specs.History.{Known}
-use Rattle.std.specs.List.{AllByRecursion, list_any}
+use Rattle.std.specs.List.{list_any}
 use Rattle.std.specs.Prelude.{List, Some, false, nat_eq, true, ℕ, ◌≡◌}
 use Rattle.thor_value.specs.declared.names.Ts.{Ts}
 use Rattle.thor_value.specs.declared.values.Who.{Who}
@@ -40,10 +35,6 @@ pub record HasPrepared (S : Several) (item : Who) (t : Ts) (transaction : Transa
   pub there : part S r t ≡ Some o
   pub of : IsRequestOf item t transaction r o.request
 
--- Each share that is left goes to a participant.
-abbrev pub GoToParticipants : Transaction → Type 0
-GoToParticipants transaction = AllByRecursion (λ (s : Share). list_any (nat_eq s.repo) transaction.participants ≡ true) transaction.shares.items
-
 -- The coordinator has prepared it, and so has each other participant that is noted.
 pub record ArePrepared (S : Several) (item : Who) (at : At) (t : Ts) (rs : List ℕ) (transaction : Transaction) : Type 0 where
   pub coordinator : t.repo ≡ at.repo
@@ -56,41 +47,6 @@ abbrev pub TryPrepared : Several → Who → Pending → Type 0
 TryPrepared S item NonePending = Unit {0}
 TryPrepared S item (IsPreparing at t rs transaction) = ArePrepared S item at t rs transaction
 TryPrepared S item (IsAsking sent n) = Unit {0}
-
--- ---- how a drawn transaction begins
-
--- A transaction's first share goes to its coordinator, and each of its shares to a participant.
-pub record IsDrawnRight (s : Sending) (drawn : Transaction) : Type 0 where
-  pub coordinator : s.request.tx.repo ≡ s.at.repo
-  pub shares : GoToParticipants drawn
-
-abbrev pub StartsRight : (item : Present) (links : List Link) (c : Contents) (s : Sending) (a z : Pending) → PreparesSo item links c s a z → Type 0
-StartsRight item links c s a z (PreparesFirst left sends holds now) = IsDrawnRight s sends.drawn
-StartsRight item links c s a z (PreparesNext at rs left sends holds now) = Unit {0}
-
-abbrev pub StartsInVain : (item : Present) (links : List Link) (c : Contents) (s : Sending) (a : Pending) → PreparesInVain item links c s a → Type 0
-StartsInVain item links c s a (RefusesFirst left sends) = IsDrawnRight s sends.drawn
-StartsInVain item links c s a (RefusesNext at rs left sends) = Unit {0}
-
--- Where a step's call sends the first share of a transaction, that was drawn at its coordinator.
-abbrev pub BeginsRight : (item : Present) (old new : View) (before after : Held) (moves : Moves old new before after) (a z : Pending) (came : News) → TriesSo item old new before after moves a z came → Type 0
-BeginsRight item old new before after (Unsent sends) a z came tries = Unit {0}
-BeginsRight item old new before after (Received at m does there takes same) a z came tries = Unit {0}
-BeginsRight item old new before after (ReceivedNone at does there waits same fewer) a z came tries = Unit {0}
-BeginsRight item old new before after (ReceiveRefused at k does there loses same) a z came tries = Unit {0}
-BeginsRight item old new before after (ReceiveStopped at k does there outage stops same fewer) a z came tries = Unit {0}
-BeginsRight item old new before after (Prepared s place does of less) a z came tries = StartsRight item before.links.items before.cache.cache s a z tries.0
-BeginsRight item old new before after (PrepareRefused s k does of idle learns same) a z came tries = StartsInVain item before.links.items before.cache.cache s a tries.0
-BeginsRight item old new before after (Committed s place does of session wrote held idle keeps) a z came tries = Unit {0}
-BeginsRight item old new before after (Transformed s place oref made does of session writes here held idle keeps) a z came tries = Unit {0}
-BeginsRight item old new before after (CommitRefused s k does of idle learns same) a z came tries = Unit {0}
-BeginsRight item old new before after (Decided at t v does idle ends) a z came tries = Unit {0}
-BeginsRight item old new before after (Aborted at t v does less) a z came tries = Unit {0}
-BeginsRight item old new before after (DecideRefused at t commit k does loses same) a z came tries = Unit {0}
-BeginsRight item old new before after (Finished r t commit result does less) a z came tries = Unit {0}
-BeginsRight item old new before after (Forgot r t result does less) a z came tries = Unit {0}
-BeginsRight item old new before after (AskedOwn r t v does ends) a z came tries = Unit {0}
-BeginsRight item old new before after (AskedInVain r t result does leaves same fewer) a z came tries = Unit {0}
 
 -- ---- what a call has to know
 

@@ -11,7 +11,7 @@ ghost use Rattle.client_state.specs.declared.link.Link.{Link};
 ghost use Rattle.client_state.specs.declared.requests.Sending.{Sending};
 ghost use Rattle.law_atomic_commit.specs.Growing.{Continues, grown};
 ghost use Rattle.law_atomic_commit.specs.Several.{AreSound, Several};
-ghost use Rattle.law_two_phase_clients.specs.Trying.{BeginsRight, OwnMayCome, StartsRight, TryPrepared};
+ghost use Rattle.law_two_phase_clients.specs.Trying.{OwnMayCome, TryPrepared};
 ghost use Rattle.log_entries.specs.declared.entry.Entry.TheVariants as entries;
 ghost use Rattle.log_entries.specs.declared.entry.Entry.{Entry};
 ghost use Rattle.std.specs.Prelude.{List, ℕ};
@@ -22,8 +22,8 @@ ghost use Rattle.thor_value.specs.declared.values.Who.{Who};
 /// What is prepared then is so behind the call, and stays so whatever comes anywhere.
 pub fn tries_keep_to_two_phase_commit()
     ensures sends { (S : Several) (item : Present) (old new : View) (before after : Held) (a z : Pending) (d e : Duties) (came : News) → (step : StepsSo item old new before after a z d e came) →
-        BeginsRight item old new before after step.moves a z came step.tries → TryPrepared S item.who a → OwnMayCome S old new before after step.moves }
-    ensures prepares { (S : Several) (item : Present) (links : List Link) (c : Contents) (s : Sending) (a z : Pending) → (so : PreparesSo item links c s a z) → StartsRight item links c s a z so →
+        TryPrepared S item.who a → OwnMayCome S old new before after step.moves }
+    ensures prepares { (S : Several) (item : Present) (links : List Link) (c : Contents) (s : Sending) (a z : Pending) → PreparesSo item links c s a z →
         AreSound S → Continues S s.at.repo (entries.Prepared s.request) → TryPrepared S item.who a → TryPrepared (grown S s.at.repo (entries.Prepared s.request)) item.who z }
     ensures stays { (S : Several) (r : ℕ) (e : Entry) (item : Who) (a : Pending) → AreSound S → Continues S r e → TryPrepared S item a → TryPrepared (grown S r e) item a }
 {}

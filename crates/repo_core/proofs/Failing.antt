@@ -5,7 +5,7 @@ use Rattle.base_reasons.specs.declared.reason.Reason.TheVariants.{Gone}
 use Rattle.repo_core.proofs.Refused.{no_fault}
 use Rattle.repo_core.specs.Behind.{is_marked}
 use Rattle.repo_core.specs.Shown.{Shown, count_at, faults_of}
-use Rattle.repo_durable.proofs.Failing.{failed_behind, fewer_none}
+use Rattle.repo_durable.proofs.Failing.{failed_behind, fewer_none, fewer_then}
 use Rattle.repo_durable.specs.Failing.{HasFailed, NoFewer, is_stopped}
 use Rattle.repo_durable.specs.Kept.{is_fault}
 use Rattle.std.proofs.Common.{Err, Ok, Result, ap, arith, refl, subst, suc, sym, true, zero, ℕ, ◌<◌, ◌∙◌, ◌≡◌}
@@ -41,6 +41,9 @@ fewer_between old new x y was is rises =
 -- calls behind those in which no count fell
 pub failed_shown : (x y z : Shown) → NoFewer (faults_of x) (faults_of y) → HasFailed (faults_of y) (faults_of z) → HasFailed (faults_of x) (faults_of z)
 failed_shown x y z rises failed = failed_behind (faults_of x) (faults_of y) (faults_of z) rises failed
+
+pub fewer_shown : (x y z : Shown) → NoFewer (faults_of x) (faults_of y) → NoFewer (faults_of y) (faults_of z) → NoFewer (faults_of x) (faults_of z)
+fewer_shown x y z first then = fewer_then (faults_of x) (faults_of y) (faults_of z) first then
 
 -- the counts stay
 pub failed_same : (x y z : Shown) → y.faults ≡ x.faults → HasFailed (faults_of y) (faults_of z) → HasFailed (faults_of x) (faults_of z)

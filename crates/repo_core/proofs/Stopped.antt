@@ -15,6 +15,10 @@ up_pending (Up log) u = (refl, refl, refl, refl)
 up_pending (Down e) u = absurd (cc)
 up_pending (Torn e) u = absurd (cc)
 
+-- of one that is up nothing is being written
+pub none_up : (p : Phase) → is_up_in p ≡ true → pending_in p ≡ None
+none_up p u = (up_pending p u).0
+
 same_torn : (p : Phase) → is_torn_in (lowered p) ≡ is_torn_in p
 same_torn (Up log) = refl
 same_torn (Down e) = refl

@@ -7,7 +7,7 @@ ghost use Rattle.repo_core.specs.Moving.{HasRoom};
 ghost use Rattle.repo_state.specs.Entering.{entered as entered_in};
 ghost use Rattle.law_repo_memory.specs.Coming.{Moves};
 ghost use Rattle.repo_core.specs.Shown.{faults_of, ShowsPages};
-ghost use Rattle.repo_durable.specs.Failing.{HasFailed, is_stopped};
+ghost use Rattle.repo_durable.specs.Failing.{HasFailed, NoFewer, is_stopped};
 ghost use Rattle.repo_trace.specs.Recorded.{with_entry};
 ghost use Rattle.repo_volatile.specs.Volatile.{verdict};
 ghost use Rattle.repo_core.specs.Refusing.{CanRefuse, GoesDown, IsPageDamage, Leaves, made_of};
@@ -22,7 +22,7 @@ use repo_refusals::Refusal;
 impl<P: Parts> Repo<P> {
     /// Commits a transaction that has this one participant, and tells the other sessions. Answer and refusals
     /// are those of `prepare`.
-    #[tactic(auto, using(crate::proofs::Refused::leaves_down, crate::proofs::Refused::leaves_written, crate::proofs::Judged::accepted, crate::proofs::Causes::why_down, crate::proofs::Causes::why_fault, crate::proofs::Causes::why_marked, crate::proofs::Causes::has_fault, crate::proofs::Causes::damaged_none, crate::proofs::Causes::damaged_marked, crate::proofs::Failing::stopped_none, crate::proofs::Failing::stopped_marked, crate::proofs::Failing::failed_shown))]
+    #[tactic(auto, using(crate::proofs::Refused::leaves_down, crate::proofs::Refused::leaves_written, crate::proofs::Judged::accepted, crate::proofs::Causes::why_down, crate::proofs::Causes::why_fault, crate::proofs::Causes::why_marked, crate::proofs::Causes::has_fault, crate::proofs::Causes::damaged_none, crate::proofs::Causes::damaged_marked, crate::proofs::Failing::stopped_none, crate::proofs::Failing::stopped_marked, crate::proofs::Failing::failed_shown, crate::proofs::Failing::fewer_same))]
     pub fn commit_one(&mut self, session: u32, request: Request) -> Result<u64, Refusal>
         requires { MayRequest self.old.held self.old.memory request true }
         ensures stands { Stands self.old.is_up result self.new.is_up }
@@ -45,6 +45,7 @@ impl<P: Parts> Repo<P> {
         ensures damaged { (n place : ℕ) → IsErrOf result (IsDamaged n place) → GoesDown self.old self.new None }
         ensures page { (n place : ℕ) → IsErrOf result (IsDamaged n place) → (page : ℕ) × IsPageDamage self.new page place }
         ensures stopped { (n : ℕ) → IsErrOf result (IsStopped n) → HasFailed (faults_of self.old) (faults_of self.new) }
+        ensures counts { NoFewer (faults_of self.old) (faults_of self.new) }
         ensures steady { OnOk result (self.new.faults ≡ self.old.faults) }
         ensures quiet { IfErr result (λ r. is_stopped r ≡ false → self.new.faults ≡ self.old.faults) }
         ensures clock { self.new.clock ≡ self.old.clock }

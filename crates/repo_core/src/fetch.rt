@@ -5,7 +5,7 @@ ghost use Rattle.repo_sessions.specs.Sessions.{is_live};
 ghost use Rattle.repo_core.specs.Behind.{MovesObjects, Stands};
 ghost use Rattle.spec_trace.specs.declared.mark.Mark.TheVariants.{Fetched as Fetches};
 ghost use Rattle.repo_core.specs.Shown.{faults_of, ShowsPages};
-ghost use Rattle.repo_durable.specs.Failing.{HasFailed, is_stopped};
+ghost use Rattle.repo_durable.specs.Failing.{HasFailed, NoFewer, is_stopped};
 ghost use Rattle.repo_trace.specs.Recorded.{with_mark};
 ghost use Rattle.repo_core.specs.Refusing.{CanRefuse, IsGone, IsPageDamage, Leaves};
 ghost use Rattle.repo_core.specs.Telling.{SendsPage};
@@ -20,7 +20,7 @@ use spec_trace::Mark;
 impl<P: Parts> Repo<P> {
     /// Puts a page into the session's outbox, as it stands behind all entries. The messages below `upto` are
     /// acknowledged. Refusal: `Gone`.
-    #[tactic(auto, using(crate::proofs::Refused::leaves_down, crate::proofs::Refused::falls_with, crate::proofs::Refused::leaves_read, crate::proofs::Refused::moved_none, crate::proofs::Refused::lasts_same, crate::proofs::Causes::why_down, crate::proofs::Causes::why_reason, crate::proofs::Causes::why_after, crate::proofs::Causes::lacks_memory, crate::proofs::Failing::stopped_none, crate::proofs::Failing::stopped_gone, crate::proofs::Failing::stopped_memory, crate::proofs::Failing::failed_between, crate::proofs::Causes::damaged_none, crate::proofs::Causes::damaged_gone, crate::proofs::Damage::damaged_memory))]
+    #[tactic(auto, using(crate::proofs::Refused::leaves_down, crate::proofs::Refused::falls_with, crate::proofs::Refused::leaves_read, crate::proofs::Refused::moved_none, crate::proofs::Refused::lasts_same, crate::proofs::Causes::why_down, crate::proofs::Causes::why_reason, crate::proofs::Causes::why_after, crate::proofs::Causes::lacks_memory, crate::proofs::Failing::stopped_none, crate::proofs::Failing::stopped_gone, crate::proofs::Failing::stopped_memory, crate::proofs::Failing::failed_between, crate::proofs::Causes::damaged_none, crate::proofs::Causes::damaged_gone, crate::proofs::Damage::damaged_memory, crate::proofs::Failing::fewer_same))]
     pub fn fetch(&mut self, session: u32, page: u32, upto: u64) -> Result<(), Refusal>
         ensures stands { Stands self.old.is_up result self.new.is_up }
         ensures readable { ShowsPages self.old → ShowsPages self.new }
@@ -37,6 +37,7 @@ impl<P: Parts> Repo<P> {
         ensures left { IfErr result (Leaves self.old self.new None) }
         ensures pages { self.new.pages ≡ self.old.pages }
         ensures stopped { (n : ℕ) → IsErrOf result (IsStopped n) → HasFailed (faults_of self.old) (faults_of self.new) }
+        ensures counts { NoFewer (faults_of self.old) (faults_of self.new) }
         ensures steady { OnOk result (self.new.faults ≡ self.old.faults) }
         ensures quiet { IfErr result (λ r. is_stopped r ≡ false → self.new.faults ≡ self.old.faults) }
         ensures damaged { (n place : ℕ) → IsErrOf result (IsDamaged n place) → IsPageDamage self.old page place }

@@ -7,7 +7,7 @@ ghost use Rattle.thor_value.specs.Spelling.{TsFits};
 ghost use Rattle.law_repo_memory.specs.Coming.{Moves};
 ghost use Rattle.thor_value.specs.FiniteMap.{has};
 ghost use Rattle.repo_core.specs.Shown.{faults_of, ShowsPages};
-ghost use Rattle.repo_durable.specs.Failing.{HasFailed, is_stopped};
+ghost use Rattle.repo_durable.specs.Failing.{HasFailed, NoFewer, is_stopped};
 ghost use Rattle.repo_trace.specs.Recorded.{with_entry};
 ghost use Rattle.two_phase.specs.Contents.{open_at};
 ghost use Rattle.repo_core.specs.Moving.{HasRoomFor};
@@ -25,7 +25,7 @@ use thor_value::Ts;
 impl<P: Parts> Repo<P> {
     /// Finishes a transaction by the coordinator's verdict. The answer is the place of the entry; `None`
     /// exactly where it isn't prepared here.
-    #[tactic(auto, using(crate::proofs::Refused::leaves_down, crate::proofs::Refused::leaves_finished, crate::proofs::Causes::why_down, crate::proofs::Causes::why_fault, crate::proofs::Causes::damaged_none, crate::proofs::Failing::stopped_none, crate::proofs::Failing::failed_shown))]
+    #[tactic(auto, using(crate::proofs::Refused::leaves_down, crate::proofs::Refused::leaves_finished, crate::proofs::Causes::why_down, crate::proofs::Causes::why_fault, crate::proofs::Causes::damaged_none, crate::proofs::Failing::stopped_none, crate::proofs::Failing::failed_shown, crate::proofs::Failing::fewer_same))]
     pub fn finish(&mut self, verdict: &Verdict) -> Result<Option<u64>, Refusal>
         ensures stands { Stands self.old.is_up result self.new.is_up }
         ensures readable { ShowsPages self.old → ShowsPages self.new }
@@ -44,6 +44,7 @@ impl<P: Parts> Repo<P> {
         ensures damaged { (n place : ℕ) → IsErrOf result (IsDamaged n place) → GoesDown self.old self.new None }
         ensures page { (n place : ℕ) → IsErrOf result (IsDamaged n place) → (page : ℕ) × IsPageDamage self.new page place }
         ensures stopped { (n : ℕ) → IsErrOf result (IsStopped n) → HasFailed (faults_of self.old) (faults_of self.new) }
+        ensures counts { NoFewer (faults_of self.old) (faults_of self.new) }
         ensures steady { OnOk result (self.new.faults ≡ self.old.faults) }
         ensures quiet { IfErr result (λ r. is_stopped r ≡ false → self.new.faults ≡ self.old.faults) }
         ensures clock { self.new.clock ≡ self.old.clock }

@@ -5,7 +5,7 @@ ghost use Rattle.std.specs.Option.{IfSome};
 ghost use Rattle.repo_core.specs.Behind.{MovesObjects, Stands};
 ghost use Rattle.repo_core.specs.Refusing.{CanRefuse, HasNoReason, IsPageDamage, Rests};
 ghost use Rattle.repo_core.specs.Shown.{faults_of, ShowsPages};
-ghost use Rattle.repo_durable.specs.Failing.{HasFailed, is_stopped};
+ghost use Rattle.repo_durable.specs.Failing.{HasFailed, NoFewer, is_stopped};
 ghost use Rattle.repo_durable.specs.Flushes.{IsOldest, left_by};
 ghost use Rattle.repo_refusals.specs.declared.refusal.Refusal.TheVariants.{Damaged as IsDamaged, Stopped as IsStopped};
 
@@ -32,6 +32,7 @@ impl<P: Parts> Repo<P> {
         ensures why { IfErr result (CanRefuse self.old HasNoReason (Unit {0})) }
         ensures rests { IfErr result (Rests self.old self.new) }
         ensures stopped { (n : ℕ) → IsErrOf result (IsStopped n) → HasFailed (faults_of self.old) (faults_of self.new) }
+        ensures counts { NoFewer (faults_of self.old) (faults_of self.new) }
         ensures steady { OnOk result (self.new.faults ≡ self.old.faults) }
         ensures quiet { IfErr result (λ r. is_stopped r ≡ false → self.new.faults ≡ self.old.faults) }
         ensures damaged { (n place : ℕ) → IsErrOf result (IsDamaged n place) → IfSome (slice_get self.old.held.objects.mob.objects 0) (λ q. IsPageDamage self.old q.0.page place) }

@@ -44,6 +44,13 @@ impl<P: Parts> Repo<P> {
         self.stable.is_up()
     }
 
+    /// Whether there was no memory for an entry that its log has. It is down then, and doesn't come up again.
+    pub fn is_torn(&self) -> bool
+        ensures { result ≡ self.now.is_torn }
+    {
+        self.stable.is_torn()
+    }
+
     /// The entries of its history since it was opened.
     pub fn history(&self) -> &[Entry]
         ensures { result.now ≡ self.now.trace.history }

@@ -1,6 +1,7 @@
 //! What a repository is.
 
-ghost use Rattle.std.specs.Prelude.{◌≡◌};
+ghost use Rattle.repo_durable.specs.Saying.{ImagesSay};
+ghost use Rattle.std.specs.Prelude.{None, false, true, ◌≡◌};
 
 use disk_trait::Parts;
 use repo_durable::Stable;
@@ -52,10 +53,13 @@ impl<P: Parts> Drop for Repo<P> {
 }
 
 impl<P: Parts> Repo<P> {
-    /// Ends it. Its parts come back with its trace.
+    /// Ends it. Its parts come back with its trace. Each image that a crash of their disks may leave says what it held, or
+    /// that with the entry that was being written; of one that is torn nothing is said. While it is up, none is being written.
     pub fn close(self) -> (P, Trace)
         ensures history { result.1.history ≡ self.trace.history }
         ensures marks { result.1.marks ≡ self.trace.marks }
+        ensures says { self.is_torn ≡ false → ImagesSay (P.disks result.0) self.held self.pending }
+        ensures none { self.is_up ≡ true → self.pending ≡ None }
     {
         let Repo {
             alloc: _,

@@ -50,6 +50,7 @@ impl<P: Parts> Repo<P> {
         ensures comes_up { OnOk result (ComesUp self.old self.new) }
         ensures stays_down { OnErr result (StaysDown self.old self.new) }
         ensures stopped { (n : ℕ) → IsErrOf result (IsStopped n) → HasFailed (faults_of self.old) (faults_of self.new) }
+        ensures counts { NoFewer (faults_of self.old) (faults_of self.new) }
         ensures steady { OnOk result (self.new.faults ≡ self.old.faults) }
         ensures quiet { IfErr result (λ r. is_stopped r ≡ false → self.new.faults ≡ self.old.faults) }
         ensures torn { self.old.is_torn ≡ true → IsErrOf result IsNoMemory × (self.new ≡ self.old) }
@@ -89,7 +90,7 @@ impl<P: Parts> Repo<P> {
     }
 
     /// Begins the next life.
-    #[tactic(auto, using(crate::proofs::Readable::shown_has, crate::proofs::Refused::falls_with, crate::proofs::Refused::moved_none, crate::proofs::Refused::lasts_same))]
+    #[tactic(auto, using(crate::proofs::Readable::shown_has, crate::proofs::Refused::falls_with, crate::proofs::Refused::moved_none, crate::proofs::Refused::lasts_same, crate::proofs::Failing::fewer_same))]
     pub(crate) fn write_life(&mut self) -> Result<(), Refusal>
         requires { self.old.is_up ≡ true }
         ensures stands { Stands true result self.new.is_up }
@@ -102,6 +103,7 @@ impl<P: Parts> Repo<P> {
         ensures begins { OnOk result (BeginsLife self.old.held self.old.memory self.new.memory) }
         ensures left { OnErr result (GoesDown self.old self.new (Some (life_behind self.old))) }
         ensures stopped { (n : ℕ) → IsErrOf result (IsStopped n) → HasFailed (faults_of self.old) (faults_of self.new) }
+        ensures counts { NoFewer (faults_of self.old) (faults_of self.new) }
         ensures steady { OnOk result (self.new.faults ≡ self.old.faults) }
         ensures quiet { IfErr result (λ r. is_stopped r ≡ false → self.new.faults ≡ self.old.faults) }
         ensures pages { self.new.pages ≡ self.old.pages }

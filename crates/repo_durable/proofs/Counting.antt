@@ -1,5 +1,5 @@
 -- Counts of faults that stay, where no call answered that its disk failed.
-use Rattle.disk_trait.specs.AllDisks.{NoFault}
+use Rattle.disk_trait.specs.AllDisks.{GoesOn, NoFault}
 use Rattle.disk_trait.specs.Disks.{Disks, OnDisk}
 use Rattle.disk_trait.specs.declared.parts.Outage.TheVariants as outage
 use Rattle.disk_trait.specs.declared.parts.Outage.{Outage}
@@ -37,6 +37,9 @@ stays_then old mid new first then d = then d ∙ first d
 pub stays_taken : {P : Type 0} (disks : P → Disks) (old mid : Stable P) (new : Disks) → mid ≡ down_with old None → NoFault (disks_of disks mid) new → NoFault (disks_of disks old) new
 stays_taken {P = P} disks old mid new same stays = subst (λ (s : Stable P). NoFault (disks_of disks s) new) same stays
 
+pub goes_taken : {P : Type 0} (disks : P → Disks) (old mid : Stable P) (new : Disks) → mid ≡ down_with old None → GoesOn (disks_of disks mid) new → GoesOn (disks_of disks old) new
+goes_taken {P = P} disks old mid new same goes = subst (λ (s : Stable P). GoesOn (disks_of disks s) new) same goes
+
 -- ---- a fault of a layer below that tells of no disk
 
 pub outage_quiet : {T : Type 0} (result : Result T Outage) (fault : Outage) (A : Type 0) → result ≡ Err fault → (IsErrOf result outage.NoMemory → A) → is_outage_failed fault ≡ false → A
@@ -64,6 +67,10 @@ recovery_quiet result (recover.Failed d) A is wanting harmed quiet = absurd (cc)
 pub stays_between : {P : Type 0} (disks : P → Disks) (old mid new : Stable P) (parts : Fused P) → mid ≡ down_with old None → new.parts ≡ parts → NoFault (disks_of disks mid) (fused_disks disks parts) → NoFault (disks_of disks old) (disks_of disks new)
 stays_between {P = P} disks old mid new parts taken back stays =
     subst (λ (p : Fused P). NoFault (disks_of disks old) (fused_disks disks p)) (sym back) (stays_taken disks old mid (fused_disks disks parts) taken stays)
+
+pub goes_between : {P : Type 0} (disks : P → Disks) (old mid new : Stable P) (parts : Fused P) → mid ≡ down_with old None → new.parts ≡ parts → GoesOn (disks_of disks mid) (fused_disks disks parts) → GoesOn (disks_of disks old) (disks_of disks new)
+goes_between {P = P} disks old mid new parts taken back goes =
+    subst (λ (p : Fused P). GoesOn (disks_of disks old) (fused_disks disks p)) (sym back) (goes_taken disks old mid (fused_disks disks parts) taken goes)
 
 -- no disk failed before a call, nor in it
 pub ok_behind : {T : Type 0} (result : Result T Refusal) (old mid new : Disks) → NoFault old mid → OnOk result (NoFault mid new) → OnOk result (NoFault old new)

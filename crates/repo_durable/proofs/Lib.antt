@@ -4,6 +4,7 @@ pub mod Flushes
 pub mod Forgetting
 pub mod Harmed
 pub mod Lowered
+pub mod Mapping
 pub mod Opened
 pub mod Openings
 pub mod Pages

@@ -10,6 +10,7 @@ use Rattle.page_store.proofs.Stores.{agrees_settled, in_use_here, in_use_other}
 use Rattle.page_format.specs.Sides.{side_in_use}
 use Rattle.page_store.specs.Objects.{Spells}
 use Rattle.page_store.specs.Sides.{KeepsSides, ReachesSides, place_of, side_bytes}
+use Rattle.page_store.specs.Store.{Agrees}
 use Rattle.repo_durable.specs.Kept.{IsOpen}
 use Rattle.repo_durable.specs.Pages.{AreOrPages, ArePages, IsPageOn}
 use Rattle.std.proofs.Common.{List, None, Option, Some, ap, arith, drop, inl, inr, is_some, length, refl, subst, suc, sym, zero, ◌<◌, ◌∙◌, ◌≡◌, ◌⊎◌, ℕ}
@@ -125,6 +126,13 @@ reach_written old new log held stood alone any left = record {
 -- other sides that are the same
 pub reach_same : (disks : Disks) (sides others : List (ℕ × ℕ)) → others ≡ sides → Reach disks sides → Reach disks others
 reach_same disks sides others same reach = subst (Reach disks) (sym same) reach
+
+-- and the pages in memory agree with each image, where the disk of pages wasn't written
+pub agrees_still : (old new : Disks) (log : Place) (held : Held) → IsOpen old log held → GoesOn old new → NoNewImage old new 2 → TellsAll new → (image : List ℕ) → MayLeave new 2 image → Agrees held.objects.pages image
+agrees_still old new log held stood goes crash tells image left =
+    let pages = tells_before old new goes tells 2 (omega arith) in
+    let same : image ≡ pages.0 = stood.holds.settled 2 (omega arith) pages.0 pages.1 image (crash image left) in
+    subst (Agrees held.objects.pages) (sym same) (stood.pages pages.0 pages.1)
 
 -- ---- sides that are pages
 

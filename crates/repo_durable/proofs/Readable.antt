@@ -35,11 +35,11 @@ use Rattle.std.specs.Prelude.{slice_get}
 
 -- ---- disks that tell
 
-told_at : (o : Option (List ℕ)) → is_some o ≡ true → (bytes : List ℕ) × (o ≡ Some bytes)
+pub told_at : (o : Option (List ℕ)) → is_some o ≡ true → (bytes : List ℕ) × (o ≡ Some bytes)
 told_at (Some bytes) told = (bytes, refl)
 told_at None told = cc
 
-is_told : (o : Option (List ℕ)) (bytes : List ℕ) → o ≡ Some bytes → is_some o ≡ true
+pub is_told : (o : Option (List ℕ)) (bytes : List ℕ) → o ≡ Some bytes → is_some o ≡ true
 is_told o bytes told = ap is_some told
 
 -- each disk tells
@@ -111,7 +111,7 @@ pub pending_has : {P : Type 0} (disks : P → Disks) (old new : Stable P) (e : O
 pending_has disks old new e same up has =
     subst (HasPages disks) (sym same) (still_has disks old (down_with old e) (λ d. refl) refl refl (λ whole. whole_up old.phase up) has)
 
-never_torn : true ≡ false → ⊥
+pub never_torn : true ≡ false → ⊥
 never_torn is = cc
 
 -- torn

@@ -91,16 +91,17 @@ one_state : (s t : State) (o : Option State) → o ≡ Some s → o ≡ Some t �
 one_state s t o a b = cc
 
 pub finds_one : (old new : Disks) (log : Place) (h : Held) (s : State) → LeavesNoMore old new → Holds new log s → ((bytes : ℕ → List ℕ) → ReadsAs new bytes → MayLeaveAll new new.time bytes) → FindsOneOf old new h s
-finds_one old new log h s more holds left = λ pending says tells.
+finds_one old new log h s more holds left = λ pending says tells disk told.
     let read = reads_of new tells in
+    let reads : read.0 2 ≡ disk = one_disk (new.content 2) (read.0 2) disk (read.1 2 (omega arith)) told in
     let there = left read.0 read.1 in
     let one = says.each (more.tells tells) read.0 (more.images read.0 there) in
     let here : stands read.0 ≡ Some s = log_says new log s holds tells read.0 (λ d within. there d (omega (arith, within))) in
-    subst (IsOneOf h pending) (one_state one.state s (stands read.0) one.stands here) one.says
+    subst (IsOneOf h pending s) reads (subst (λ (t : State). IsOneOf h pending t (read.0 2)) (one_state one.state s (stands read.0) one.stands here) one.says)
 
 -- what was read is what was found: it is found by who goes on
-pub finds_then : (old read new : Disks) (h : Held) (s : State) → LeavesNoMore read new → FindsOneOf old read h s → FindsOneOf old new h s
-finds_then old read new h s more finds = λ pending says tells. finds pending says (more.tells tells)
+pub finds_then : (old read new : Disks) (h : Held) (s : State) → LeavesNoMore read new → SameContent read new → FindsOneOf old read h s → FindsOneOf old new h s
+finds_then old read new h s more same finds = λ pending says tells disk told. finds pending says (more.tells tells) disk (sym (same 2) ∙ told)
 
 -- ---- what isn't taken
 
@@ -137,12 +138,12 @@ none_lacks old read log h s pending more holds left says tells lacks =
     lacks (got.0 2) (got.1 2 (omega arith)) (subst (λ (t : State). ReachesSides t.installed (got.0 2)) (one_state one.state s (stands got.0) one.stands here) one.reaches)
 
 -- what is held is of the format that is written, and so is what the disks say
-one_format : (h : Held) (pending : Option Entry) (s : State) → IsOneOf h pending s → s.format ≡ written.Two
-one_format h None s is = elim is [
+one_format : (h : Held) (pending : Option Entry) (s : State) (image : List ℕ) → IsOneOf h pending s image → s.format ≡ written.Two
+one_format h None s image is = elim is [
   | inl back ↦ ap (λ (z : State). z.format) back.rest
   | inr installing ↦ ap (λ (z : State). z.format) installing.says.rest ∙ format_stays (said h) (Installed installing.page installing.side)
 ]
-one_format h (Some e) s is = elim is [
+one_format h (Some e) s image is = elim is [
   | inl back ↦ ap (λ (z : State). z.format) back.rest
   | inr behind ↦ ap (λ (z : State). z.format) behind.rest ∙ format_stays (said h) (AnEntry e)
 ]
@@ -157,7 +158,7 @@ none_older old read log h s pending more holds left says tells older =
     let there = left got.0 got.1 in
     let one = says.each tells got.0 (more.images got.0 there) in
     let here : stands got.0 ≡ Some s = log_says read log s holds on got.0 (λ d within. there d (omega (arith, within))) in
-    never_both s.format older (ap (λ (z : State). z.format) (sym (one_state one.state s (stands got.0) one.stands here)) ∙ one_format h pending one.state one.says)
+    never_both s.format older (ap (λ (z : State). z.format) (sym (one_state one.state s (stands got.0) one.stands here)) ∙ one_format h pending one.state (got.0 2) one.says)
 
 -- ---- which of the two it is
 
@@ -171,20 +172,20 @@ never_one_more : (n m : ℕ) → n ≡ m → n ≡ m + 1 → ⊥
 never_one_more n m a b = omega (arith, a, b)
 
 -- where the numbers are those of what is held
-pub back_as_held : (found h : Held) (objects : Kept) (pending : Option Entry) → objects ≡ found.objects → numbers_of found ≡ numbers_of h → IsOneOf h pending (said found) → Remembers (said found) (said (record h { objects = objects }))
-back_as_held found h objects pending taken same is = subst (λ (k : Kept). Remembers (said found) (said (record h { objects = k }))) (sym taken) (by pending is)
+pub back_as_held : (found h : Held) (objects : Kept) (pending : Option Entry) (image : List ℕ) → objects ≡ found.objects → numbers_of found ≡ numbers_of h → IsOneOf h pending (said found) image → Remembers (said found) (said (record h { objects = objects }))
+back_as_held found h objects pending image taken same is = subst (λ (k : Kept). Remembers (said found) (said (record h { objects = k }))) (sym taken) (by pending is)
   where
-    by : (p : Option Entry) → IsOneOf h p (said found) → Remembers (said found) (said (record h { objects = found.objects }))
+    by : (p : Option Entry) → IsOneOf h p (said found) image → Remembers (said found) (said (record h { objects = found.objects }))
     by None (inl r) = comes_back (said found) (said h) r
     by None (inr installing) = comes_installed (said found) (said h) installing.page installing.side installing.says
     by (Some e) (inl r) = comes_back (said found) (said h) r
     by (Some e) (inr r) = absurd (never_one_more found.count h.count (count_of (numbers_of found) (numbers_of h) same) (same_count (said found) (after (said h) (AnEntry e)) r))
 
 -- where they are those behind the entry
-pub back_with_pending : (found h : Held) (objects : Kept) (e : Entry) → objects ≡ found.objects → numbers_of found ≡ numbers_of (entered h e) → IsOneOf h (Some e) (said found) → Remembers (said found) (after (said (record h { objects = objects })) (AnEntry e))
-back_with_pending found h objects e taken same is = subst (λ (k : Kept). Remembers (said found) (after (said (record h { objects = k })) (AnEntry e))) (sym taken) (by is)
+pub back_with_pending : (found h : Held) (objects : Kept) (e : Entry) (image : List ℕ) → objects ≡ found.objects → numbers_of found ≡ numbers_of (entered h e) → IsOneOf h (Some e) (said found) image → Remembers (said found) (after (said (record h { objects = objects })) (AnEntry e))
+back_with_pending found h objects e image taken same is = subst (λ (k : Kept). Remembers (said found) (after (said (record h { objects = k })) (AnEntry e))) (sym taken) (by is)
   where
-    by : IsOneOf h (Some e) (said found) → Remembers (said found) (after (said (record h { objects = found.objects })) (AnEntry e))
+    by : IsOneOf h (Some e) (said found) image → Remembers (said found) (after (said (record h { objects = found.objects })) (AnEntry e))
     by (inl r) = absurd (never_one_more found.count h.count (same_count (said found) (said h) r) (count_of (numbers_of found) (numbers_of (entered h e)) same))
     by (inr r) = comes_behind (said found) (said h) e r
 
@@ -224,11 +225,11 @@ entered_numbers h (Finished t commit) keeps =
     (ap (λ (o : Option Request). numbers_in (record (decided (said h) commit o) { prepared = opened_without (said h).prepared t })) (request_open h.repo h.table keeps.table t) ∙ finished_numbers h t commit (open_at h.table t))
 
 -- where they are neither, it is none of what the disks may have said
-pub neither_of : (found h : Held) (pending : Option Entry) → Keeps h → (numbers_of found ≡ numbers_of h → ⊥) → IfSome pending (λ e. numbers_of found ≡ numbers_of (entered h e) → ⊥) → IsOneOf h pending (said found) → ⊥
-neither_of found h None keeps held behind (inl r) = held (same_numbers (said found) (said h) r)
-neither_of found h None keeps held behind (inr installing) = held (same_numbers (said found) (after (said h) (Installed installing.page installing.side)) installing.says)
-neither_of found h (Some e) keeps held behind (inl r) = held (same_numbers (said found) (said h) r)
-neither_of found h (Some e) keeps held behind (inr r) = behind (same_numbers (said found) (after (said h) (AnEntry e)) r ∙ entered_numbers h e keeps)
+pub neither_of : (found h : Held) (pending : Option Entry) (image : List ℕ) → Keeps h → (numbers_of found ≡ numbers_of h → ⊥) → IfSome pending (λ e. numbers_of found ≡ numbers_of (entered h e) → ⊥) → IsOneOf h pending (said found) image → ⊥
+neither_of found h None image keeps held behind (inl r) = held (same_numbers (said found) (said h) r)
+neither_of found h None image keeps held behind (inr installing) = held (same_numbers (said found) (after (said h) (Installed installing.page installing.side)) installing.says)
+neither_of found h (Some e) image keeps held behind (inl r) = held (same_numbers (said found) (said h) r)
+neither_of found h (Some e) image keeps held behind (inr r) = behind (same_numbers (said found) (after (said h) (AnEntry e)) r ∙ entered_numbers h e keeps)
 
 -- ---- while it is down
 
@@ -245,9 +246,9 @@ fails_said disks old new p is down more read phase held = record {
 }
 
 -- what was recovered is one of what the disks may have said
-pub restart_finds : {P : Type 0} (disks : P → Disks) (old new : Stable P) (pending : Option Entry) (s : State) → IsSaid disks old → old.phase ≡ Down pending → new.held ≡ old.held → FindsOneOf (disks_of disks old) (disks_of disks new) old.held s → TellsAll (disks_of disks new) → IsOneOf new.held pending s
-restart_finds disks old new pending s is down held found tells =
-    subst (λ (h : Held). IsOneOf h pending s) (sym held) (found pending (subst (SaysIn (disks_of disks old) old.held) down is.says) tells)
+pub restart_finds : {P : Type 0} (disks : P → Disks) (old new : Stable P) (pending : Option Entry) (s : State) → IsSaid disks old → old.phase ≡ Down pending → new.held ≡ old.held → FindsOneOf (disks_of disks old) (disks_of disks new) old.held s → TellsAll (disks_of disks new) → WhereTold (disks_of disks new) 2 (IsOneOf new.held pending s)
+restart_finds disks old new pending s is down held found tells disk told =
+    subst (λ (h : Held). IsOneOf h pending s disk) (sym held) (found pending (subst (SaysIn (disks_of disks old) old.held) down is.says) tells disk told)
 
 -- it stays down, with what was pending
 pub restart_stays : {P : Type 0} (disks : P → Disks) (old mid new : Stable P) (pending : Option Entry) → IsSaid disks old → old.phase ≡ Down pending → LeavesNoMore (disks_of disks old) (disks_of disks mid) → ReadIsLeft (disks_of disks old) (disks_of disks mid) → mid.held ≡ old.held → new.parts ≡ mid.parts → new.held ≡ mid.held → new.phase ≡ Down pending → IsSaid disks new
@@ -280,19 +281,19 @@ on_err_two (Err e) A B F a b f = f a b
 
 -- it comes up with what was held
 pub returned_held : {P : Type 0} (disks : P → Disks) (old new : Stable P) (found : Held) (log : Place) (pending : Option Entry) → new.parts ≡ old.parts → new.phase ≡ Up log → new.held ≡ record old.held { objects = new.held.objects } → new.held.objects ≡ found.objects → numbers_of found ≡ numbers_of old.held
-    → Holds (disks_of disks old) log (said found) → (TellsAll (disks_of disks old) → IsOneOf old.held pending (said found)) → IsSaid disks new
+    → Holds (disks_of disks old) log (said found) → (TellsAll (disks_of disks old) → WhereTold (disks_of disks old) 2 (IsOneOf old.held pending (said found))) → IsSaid disks new
 returned_held {P = P} disks old new found log pending parts phase held objects numbers holds one =
     let h : Held = record old.held { objects = new.held.objects } in
-    let says : LogSays (disks_of disks old) log (said h) = record { state = said found; holds = holds; says = λ tells. back_as_held found old.held new.held.objects pending objects numbers (one tells) } in
+    let says : LogSays (disks_of disks old) log (said h) = record { state = said found; holds = holds; says = λ tells. (let pages = tells 2 (omega arith) in back_as_held found old.held new.held.objects pending pages.0 objects numbers (one tells pages.0 pages.1)) } in
     let there : LogSays (disks_of disks new) log (said h) = subst (λ (p : Fused P). LogSays (fused_disks disks p) log (said h)) (sym parts) says in
     record { says = subst (SaysIn (disks_of disks new) new.held) (sym phase) (log_same (disks_of disks new) log (said h) (said new.held) there (ap said held)) }
 
 -- or with the pending entry ahead
 pub returned_pending : {P : Type 0} (disks : P → Disks) (old new : Stable P) (found : Held) (log : Place) (pending : Option Entry) (e : Entry) → pending ≡ Some e → new.parts ≡ old.parts → new.phase ≡ Up log → new.held ≡ record old.held { objects = new.held.objects } → new.held.objects ≡ found.objects → numbers_of found ≡ numbers_of (entered old.held e)
-    → Holds (disks_of disks old) log (said found) → (TellsAll (disks_of disks old) → IsOneOf old.held pending (said found)) → IsAhead disks new e
+    → Holds (disks_of disks old) log (said found) → (TellsAll (disks_of disks old) → WhereTold (disks_of disks old) 2 (IsOneOf old.held pending (said found))) → IsAhead disks new e
 returned_pending {P = P} disks old new found log pending e was parts phase held objects numbers holds one =
     let h : Held = record old.held { objects = new.held.objects } in
-    let says : LogSays (disks_of disks old) log (after (said h) (AnEntry e)) = record { state = said found; holds = holds; says = λ tells. back_with_pending found old.held new.held.objects e objects numbers (subst (λ (p : Option Entry). IsOneOf old.held p (said found)) was (one tells)) } in
+    let says : LogSays (disks_of disks old) log (after (said h) (AnEntry e)) = record { state = said found; holds = holds; says = λ tells. (let pages = tells 2 (omega arith) in back_with_pending found old.held new.held.objects e pages.0 objects numbers (subst (λ (p : Option Entry). IsOneOf old.held p (said found) pages.0) was (one tells pages.0 pages.1))) } in
     let there : LogSays (disks_of disks new) log (after (said h) (AnEntry e)) = subst (λ (p : Fused P). LogSays (fused_disks disks p) log (after (said h) (AnEntry e))) (sym parts) says in
     record { ahead = subst (IsAheadIn (disks_of disks new) new.held e) (sym phase) (log_same (disks_of disks new) log (after (said h) (AnEntry e)) (after (said new.held) (AnEntry e)) there (ap (λ (g : Held). after (said g) (AnEntry e)) held)) }
 

@@ -16,6 +16,7 @@ use Rattle.log_frame.specs.Log.{Place, Stands}
 use Rattle.mob_flusher.specs.Images.{IsFlushed}
 use Rattle.repo_durable.proofs.Opened.{holds_same}
 use Rattle.page_store.specs.Sides.{KeepsSides, ReachesSides}
+use Rattle.page_store.specs.Store.{Agrees}
 use Rattle.repo_durable.proofs.Pages.{Reach, or_put, or_same, reach_open, reach_still, tells_before}
 use Rattle.repo_durable.proofs.Remembering.{entry_sides, remembers_after, remembers_itself}
 use Rattle.repo_durable.specs.Kept.{IsKept, IsOpen, IsOpenIn, disks_of, down, down_with, held_of, is_torn, is_torn_in, is_up_in, lowered, pending, pending_in}
@@ -158,8 +159,9 @@ log_beside old new log a stood alone holds = record {
 }
 
 -- a page was being put in use
-pub images_installing : (old new : Disks) (log : Place) (held : Held) (page side repo : ℕ) → LogSays old log (said held) → IsFlushed held.objects repo page side → GoesOn old new → ((s : State) → Holds old log s → TellsAll old → LeavesAll old new (SaysOneOf s (Installed page side))) → Reach new held.objects.pages.sides → Reach new (insert_entry nat_cmp held.objects.pages.sides page side) → (TellsAll new → (image : List ℕ) → MayLeave new 2 image → IsPageOn image page side) → ImagesSay new held None
-images_installing old new log held page side repo stood flushed goes any reach more_reach is = record {
+pub images_installing : (old new : Disks) (log : Place) (held : Held) (page side repo : ℕ) → LogSays old log (said held) → IsFlushed held.objects repo page side → GoesOn old new → ((s : State) → Holds old log s → TellsAll old → LeavesAll old new (SaysOneOf s (Installed page side))) → Reach new held.objects.pages.sides → Reach new (insert_entry nat_cmp held.objects.pages.sides page side) → (TellsAll new → (image : List ℕ) → MayLeave new 2 image → IsPageOn image page side)
+    → (TellsAll new → (image : List ℕ) → MayLeave new 2 image → Agrees held.objects.pages image) → ImagesSay new held None
+images_installing old new log held page side repo stood flushed goes any reach more_reach is agrees = record {
   each = λ tells images left.
       let told = tells_before old new goes tells in
       elim (all_now old new (SaysOneOf stood.state (Installed page side)) (any stood.state stood.holds told) images left) [
@@ -167,7 +169,7 @@ images_installing old new log held page side repo stood flushed goes any reach m
         | inr more ↦ record {
           state = after stood.state (Installed page side);
           stands = more;
-          says = inr (record { page = page; side = side; repo = repo; flushed = flushed; says = remembers_after stood.state (said held) (Installed page side) (stood.says told) });
+          says = inr (record { page = page; side = side; repo = repo; flushed = flushed; agrees = agrees tells (images 2) (left 2 (omega arith)); says = remembers_after stood.state (said held) (Installed page side) (stood.says told) });
           reaches = reach_installed held page side stood.state (images 2) (stood.says told) (more_reach.reaches tells (images 2) (left 2 (omega arith)));
           spells = or_installed held page side stood.state (images 2) (stood.says told) (is tells (images 2) (left 2 (omega arith)));
         }
@@ -308,6 +310,10 @@ says_images disks held (Torn e) whole stood says = cc
 -- whether it is up or down, images say what it holds
 pub images_of : {P : Type 0} (disks : P → Disks) (store : Stable P) → is_torn store ≡ false → IsKept disks store → IsSaid disks store → ImagesSay (disks_of disks store) (held_of store) (pending store)
 images_of disks store whole kept is = says_images (disks_of disks store) store.held store.phase whole kept.stands is.says
+
+-- falls of the schedule's stop leave no other image
+pub images_inside : (disks : Disks) (falls : List ℕ) (h : Held) (pending : Option Entry) → ImagesSay (with_falls disks falls) h pending → ImagesSay disks h pending
+images_inside disks falls h pending says = record { each = says.each; keeps = says.keeps }
 
 -- the log was taken out, and is let go of
 pub said_out : {P : Type 0} (disks : P → Disks) (old mid : Stable P) (log : Place) → old.phase ≡ Up log → mid ≡ down_with old None → IsOpen (disks_of disks old) log old.held → IsSaid disks old → IsSaid disks mid

@@ -3,6 +3,7 @@ pub mod Causes
 pub mod Failing
 pub mod Flushes
 pub mod Kept
+pub mod Mapping
 pub mod Pages
 pub mod Reach
 pub mod Remembering

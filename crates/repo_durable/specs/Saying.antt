@@ -9,6 +9,7 @@ use Rattle.log_codec.specs.declared.state.State.{State}
 use Rattle.log_frame.specs.Log.{Place}
 use Rattle.mob_flusher.specs.Images.{IsFlushed}
 use Rattle.page_store.specs.Sides.{KeepsSides, ReachesSides}
+use Rattle.page_store.specs.Store.{Agrees}
 use Rattle.repo_durable.specs.Kept.{disks_of}
 use Rattle.repo_durable.specs.Pages.{AreOrPages}
 use Rattle.repo_durable.specs.Remembering.{Remembers}
@@ -21,25 +22,27 @@ use Rattle.commit_log.specs.Holds.{Holds}
 use Rattle.commit_log.specs.Recovered.{after, stands}
 use Rattle.std.specs.Prelude.{List, None, Option, Some, ℕ, ◌≡◌, ◌⊎◌}
 
--- the state of a log says what is held, with that page in use which was flushed last: its other side has all its objects
-pub record IsInstalling (h : Held) (s : State) : Type 0 where
+-- the state of a log says what is held, with that page in use which was flushed last: its other side, on this image of the
+-- disk of pages, has all its objects
+pub record IsInstalling (h : Held) (s : State) (image : List ℕ) : Type 0 where
   pub page : ℕ
   pub side : ℕ
   pub repo : ℕ
   pub flushed : IsFlushed h.objects repo page side
+  pub agrees : Agrees h.objects.pages image
   pub says : Remembers s (after (said h) (Installed page side))
 
 -- it says what is held, or that with the entry that was being written
-abbrev pub IsOneOf : Held → Option Entry → State → Type 0
-IsOneOf h None s = Remembers s (said h) ⊎ IsInstalling h s
-IsOneOf h (Some e) s = Remembers s (said h) ⊎ Remembers s (after (said h) (AnEntry e))
+abbrev pub IsOneOf : Held → Option Entry → State → List ℕ → Type 0
+IsOneOf h None s image = Remembers s (said h) ⊎ IsInstalling h s image
+IsOneOf h (Some e) s image = Remembers s (said h) ⊎ Remembers s (after (said h) (AnEntry e))
 
 -- So does what images of the disks stand for. The image of the disk of pages reaches each side in use, and this is one of those
 -- that are held in use, or a page of objects.
 pub record SayOneOf (h : Held) (pending : Option Entry) (images : ℕ → List ℕ) : Type 0 where
   pub state : State
   pub stands : stands images ≡ Some state
-  pub says : IsOneOf h pending state
+  pub says : IsOneOf h pending state (images 2)
   pub reaches : ReachesSides state.installed (images 2)
   pub spells : AreOrPages h.objects.pages.sides state.installed (images 2)
 
@@ -90,4 +93,4 @@ ReadIsLeft old new = (bytes : ℕ → List ℕ) → ReadsAs new bytes → MayLea
 
 -- one of the states that the disks may have said is found
 abbrev pub FindsOneOf : Disks → Disks → Held → State → Type 0
-FindsOneOf old new h s = (pending : Option Entry) → ImagesSay old h pending → TellsAll new → IsOneOf h pending s
+FindsOneOf old new h s = (pending : Option Entry) → ImagesSay old h pending → TellsAll new → WhereTold new 2 (IsOneOf h pending s)

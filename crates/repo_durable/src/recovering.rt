@@ -1,7 +1,7 @@
 //! How a repository that is down comes up.
 
 ghost use Rattle.disk_trait.specs.AllDisks.{NoFault};
-ghost use Rattle.std.specs.Prelude.{◌≡◌, ◌⊎◌, IfErr, IfOk, IsErrOf, OnErr, OnOk, Option, false, true, ℕ};
+ghost use Rattle.std.specs.Prelude.{◌≡◌, ◌⊎◌, IfErr, IfOk, IsErrOf, List, OnErr, OnOk, Option, [], false, true, ℕ};
 ghost use Rattle.log_entries.specs.declared.entry.Entry.{Entry as AnyEntry};
 ghost use Rattle.disk_trait.specs.AllDisks.{GoesOn, SameContent, TellsAll};
 ghost use Rattle.disk_trait.specs.Disks.{WhereTold};
@@ -14,6 +14,8 @@ ghost use Rattle.repo_durable.specs.Agreeing.{CanEnter, IsTaken};
 ghost use Rattle.disk_trait.specs.Fused.{armed};
 ghost use Rattle.repo_durable.specs.Failing.{HasFailed, NoneFell, is_stopped};
 ghost use Rattle.repo_durable.specs.Kept.{IsKept, IsOpen, IsResting, disks_of, held_of, is_fault, is_torn, is_up, lowered, parts_in, pending};
+ghost use Rattle.repo_durable.specs.Agreeing.{held_behind, numbers_of};
+ghost use Rattle.repo_durable.specs.Mapping.{StoreMoves, taken_writes};
 ghost use Rattle.repo_durable.specs.Pages.{ArePages, HasPages, PagesTold};
 ghost use Rattle.repo_durable.specs.Saying.{FindsOneOf, ImagesSay, IsOneOf, IsSaid, LeavesNoMore, ReadIsLeft, SaysTaken};
 ghost use Rattle.repo_durable.specs.declared.fault.OpenCause.TheVariants.{Failed as DiskFailed};
@@ -114,6 +116,8 @@ impl<P: Parts> Stable<P> {
         ensures whole { OnOk result (is_torn self.old ≡ false) }
         ensures says { IsSaid P.disks self.old → IfOk result (SaysTaken P.disks self.new) }
         ensures stays_said { IsSaid P.disks self.old → OnErr result (IsSaid P.disks self.new) }
+        ensures map { IsSaid P.disks self.old → IfOk result (λ taken. StoreMoves P.disks (taken_writes (held_of self.old) taken) self.old self.new) }
+        ensures map_stays { IsSaid P.disks self.old → OnErr result (StoreMoves P.disks [] self.old self.new) }
         ensures goes { GoesOn (disks_of P.disks self.old) (disks_of P.disks self.new) }
         ensures stopped { (r : ℕ) → IsErrOf result (IsStopped r) → HasFailed (disks_of P.disks self.old).faults (disks_of P.disks self.new).faults }
         ensures steady { OnOk result (NoFault (disks_of P.disks self.old) (disks_of P.disks self.new)) }
@@ -144,7 +148,7 @@ impl<P: Parts> Stable<P> {
     }
 
     /// Whether what is held is no state of its log.
-    fn is_torn(&self) -> bool
+    pub fn is_torn(&self) -> bool
         ensures { result ≡ is_torn self.now }
     {
         match &self.phase {
@@ -271,10 +275,12 @@ impl<P: Parts> Stable<P> {
         ensures agrees { IfOk result (λ taken. IsTaken (disks_of P.disks self.new) (held_of self.old) taken (held_of self.new).objects) }
         ensures rests { OnErr result (held_of self.new ≡ held_of self.old) }
         ensures stays { OnErr result (self.new.phase ≡ IsDown pending) }
-        ensures says { (TellsAll (disks_of P.disks self.old) → IsOneOf (held_of self.old) pending (said recovered.state)) → IfOk result (SaysTaken P.disks self.new) }
+        ensures says { (TellsAll (disks_of P.disks self.old) → WhereTold (disks_of P.disks self.old) 2 (IsOneOf (held_of self.old) pending (said recovered.state))) → IfOk result (SaysTaken P.disks self.new) }
+        ensures objects { OnOk result ((held_of self.new).objects ≡ recovered.state.objects) }
+        ensures numbers { IfOk result (λ taken. numbers_of recovered.state ≡ numbers_of (held_behind (held_of self.old) taken)) }
         ensures parts { self.new.parts ≡ self.old.parts }
         ensures stopped { (r : ℕ) → IsErrOf result (IsStopped r) → ⊥ }
-        ensures damaged { (r place : ℕ) → IsErrOf result (IsDamaged r place) → IsOneOf (held_of self.old) pending (said recovered.state) → ⊥ }
+        ensures damaged { (r place : ℕ) → IsErrOf result (IsDamaged r place) → (image : List ℕ) → IsOneOf (held_of self.old) pending (said recovered.state) image → ⊥ }
     {
         let Recovered { state, log, .. } = recovered;
         let agrees = compare(&self.held, &pending, &state);

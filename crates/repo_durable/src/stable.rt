@@ -2,19 +2,22 @@
 
 ghost use Rattle.disk_trait.specs.AllDisks.{NoFault};
 ghost use Rattle.std.specs.Option.{IfSome, IsNone};
-ghost use Rattle.std.specs.Prelude.{◌≡◌, ◌≤◌, IfErr, IfOk, IsErrOf, IsTrue, None, OnErr, OnOk, Some, cond, false, max, nat_eq, slice_get, true, ℕ};
+ghost use Rattle.std.specs.Prelude.{◌≡◌, ◌≤◌, IfErr, IfOk, IsErrOf, IsTrue, None, OnErr, OnOk, Some, [], cond, false, max, nat_eq, slice_get, true, ℕ};
 ghost use Rattle.disk_trait.specs.AllDisks.{GoesOn, SameContent, TellsAll};
 ghost use Rattle.disk_trait.specs.Disks.{Disks, SameDisks, WhereTold};
 ghost use Rattle.disk_trait.specs.Fused.{armed, parts_of};
-ghost use Rattle.repo_state.specs.Entering.{can_enter, entered};
+ghost use Rattle.mob_flusher.specs.Images.{ShowsImage};
+ghost use Rattle.repo_state.specs.Entering.{can_enter, entered, loaded};
 ghost use Rattle.repo_state.specs.Keeps.{Keeps};
 ghost use Rattle.repo_state.specs.Said.{said};
 ghost use Rattle.log_codec.specs.Grammar.{BodyFits};
 ghost use Rattle.log_codec.specs.declared.body.Body.TheVariants.{Entry as AnEntry};
+ghost use Rattle.page_store.specs.Objects.{HasObjects};
 ghost use Rattle.page_store.specs.Store.{IsDamage};
 ghost use Rattle.repo_durable.specs.Kept.{GoesOnUp, IsKept, IsOpen, RestsWith, StandsAfter, disks_of, down, down_with, held_of, is_fault, is_torn, is_up, lowered, parts_in, repo_named, torn};
 ghost use Rattle.repo_durable.specs.Failing.{HasFailed, NoneFell, is_stopped};
 ghost use Rattle.repo_durable.specs.Flushes.{IsLastFlush, IsOldest, left_by};
+ghost use Rattle.repo_durable.specs.Mapping.{StoreMoves};
 ghost use Rattle.repo_durable.specs.Pages.{ArePages, HasPages};
 ghost use Rattle.repo_durable.specs.Saying.{ImagesSay, IsAhead, IsSaid, LogSays, ReadIsLeft};
 ghost use Rattle.repo_durable.specs.declared.stable.Phase.TheVariants.{Torn as IsTorn, Up as IsUp};
@@ -274,6 +277,7 @@ impl<P: Parts> Stable<P> {
         ensures pages { (disks_of P.disks self.new).content 2 ≡ (disks_of P.disks self.old).content 2 }
         ensures clock { (disks_of P.disks self.new).clock ≡ (disks_of P.disks self.old).clock }
         ensures names { IfErr result (λ r. repo_named (held_of self.old).repo r ≡ (held_of self.old).repo) }
+        ensures goes { GoesOn (disks_of P.disks self.old) (disks_of P.disks self.new) }
         ensures stopped { (r : ℕ) → IsErrOf result (IsStopped r) → HasFailed (disks_of P.disks self.old).faults (disks_of P.disks self.new).faults }
         ensures steady { OnOk result (NoFault (disks_of P.disks self.old) (disks_of P.disks self.new)) }
         ensures quiet { IfErr result (λ r. is_stopped r ≡ false → NoFault (disks_of P.disks self.old) (disks_of P.disks self.new)) }
@@ -313,6 +317,7 @@ impl<P: Parts> Stable<P> {
         ensures phase { OnOk result (self.new.phase ≡ self.old.phase) }
         ensures err { OnErr result (self.new.phase ≡ IsTorn entry) }
         ensures says { IsAhead P.disks self.old entry → IsSaid P.disks self.new }
+        ensures map { OnOk result (StoreMoves P.disks (loaded (held_of self.old) entry) self.old self.new) }
         ensures parts { self.new.parts ≡ self.old.parts }
     {
         match self.held.enter(&entry) {
@@ -352,7 +357,7 @@ impl<P: Parts> Stable<P> {
     }
 
     /// A page with all its objects.
-    #[tactic(auto, using(crate::proofs::Readable::same_has, crate::proofs::Saying::said_same))]
+    #[tactic(auto, using(crate::proofs::Mapping::moves_still, crate::proofs::Readable::same_has, crate::proofs::Saying::said_same))]
     pub fn page_image(&mut self, page: u32) -> Result<Page, Refusal>
         requires kept { IsKept P.disks self.old }
         ensures kept { IsKept P.disks self.new }
@@ -365,10 +370,14 @@ impl<P: Parts> Stable<P> {
         ensures held { held_of self.new ≡ record (held_of self.old) { objects = (held_of self.new).objects } }
         ensures limit { (held_of self.new).objects.mob.limit ≡ (held_of self.old).objects.mob.limit }
         ensures buffer { (held_of self.new).objects.mob ≡ (held_of self.old).objects.mob }
+        ensures image { IfOk result (λ image. WhereTold (disks_of P.disks self.old) 2 (λ disk. ShowsImage disk (held_of self.old).objects page image)) }
+        ensures objects { IfOk result HasObjects }
+        ensures map { StoreMoves P.disks [] self.old self.new }
         ensures says { IsSaid P.disks self.old → IsSaid P.disks self.new }
         ensures pages { (disks_of P.disks self.new).content 2 ≡ (disks_of P.disks self.old).content 2 }
         ensures clock { (disks_of P.disks self.new).clock ≡ (disks_of P.disks self.old).clock }
         ensures names { IfErr result (λ r. repo_named (held_of self.old).repo r ≡ (held_of self.old).repo) }
+        ensures goes { GoesOn (disks_of P.disks self.old) (disks_of P.disks self.new) }
         ensures stopped { (r : ℕ) → IsErrOf result (IsStopped r) → HasFailed (disks_of P.disks self.old).faults (disks_of P.disks self.new).faults }
         ensures steady { OnOk result (NoFault (disks_of P.disks self.old) (disks_of P.disks self.new)) }
         ensures quiet { IfErr result (λ r. is_stopped r ≡ false → NoFault (disks_of P.disks self.old) (disks_of P.disks self.new)) }
@@ -390,7 +399,7 @@ impl<P: Parts> Stable<P> {
     }
 
     /// Writes the page of the oldest buffered object with all its buffered objects, and has it in use.
-    #[tactic(auto, using(crate::proofs::Readable::same_has, crate::proofs::Saying::said_same))]
+    #[tactic(auto, using(crate::proofs::Mapping::moves_still, crate::proofs::Readable::same_has, crate::proofs::Saying::said_same))]
     pub fn flush_page(&mut self) -> Result<Flushed, Refusal>
         requires kept { IsKept P.disks self.old }
         ensures kept { IsKept P.disks self.new }
@@ -401,6 +410,7 @@ impl<P: Parts> Stable<P> {
         ensures rests { is_up self.old ≡ true → OnErr result (RestsWith None self.new) }
         ensures held { held_of self.new ≡ record (held_of self.old) { objects = (held_of self.new).objects } }
         ensures limit { (held_of self.new).objects.mob.limit ≡ (held_of self.old).objects.mob.limit }
+        ensures map { StoreMoves P.disks [] self.old self.new }
         ensures says { IsSaid P.disks self.old → IsSaid P.disks self.new }
         ensures buffer { IfOk result (λ f. (held_of self.new).objects.mob.objects ≡ left_by (held_of self.old).objects.mob.objects f) }
         ensures unmoved { OnErr result ((held_of self.new).objects.mob ≡ (held_of self.old).objects.mob) }
@@ -440,6 +450,7 @@ impl<P: Parts> Stable<P> {
         ensures limit { (held_of self.new).objects.mob.limit ≡ (held_of self.old).objects.mob.limit }
         ensures phase { self.new.phase ≡ self.old.phase }
         ensures fault { IfErr result (λ r. is_fault r ≡ true) }
+        ensures map { StoreMoves P.disks [] self.old self.new }
         ensures log { LogSays (disks_of P.disks self.old) log.old (said (held_of self.old)) → OnOk result (LogSays (disks_of P.disks self.new) log.new (said (held_of self.new))) }
         ensures images { LogSays (disks_of P.disks self.old) log.old (said (held_of self.old)) → OnErr result (ImagesSay (disks_of P.disks self.new) (held_of self.new) None) }
         ensures buffer { IfOk result (λ f. (held_of self.new).objects.mob.objects ≡ left_by (held_of self.old).objects.mob.objects f) }
@@ -467,7 +478,7 @@ impl<P: Parts> Stable<P> {
     }
 
     /// Has in use what was flushed, once the log has its record.
-    #[tactic(auto, using(crate::proofs::Saying::images_of_log))]
+    #[tactic(auto, using(crate::proofs::Mapping::moves_itself, crate::proofs::Saying::images_of_log))]
     fn put_flushed(&mut self, log: &mut CommitLog, flushed: Flushed) -> Result<Flushed, Refusal>
         requires opened { IsOpen (disks_of P.disks self.old) log.old (held_of self.old) }
         requires last { IsLastFlush (held_of self.old) flushed }
@@ -478,6 +489,7 @@ impl<P: Parts> Stable<P> {
         ensures limit { (held_of self.new).objects.mob.limit ≡ (held_of self.old).objects.mob.limit }
         ensures phase { self.new.phase ≡ self.old.phase }
         ensures fault { IfErr result (λ r. is_fault r ≡ true) }
+        ensures map { StoreMoves P.disks [] self.old self.new }
         ensures log { LogSays (disks_of P.disks self.old) log.old (said (held_of self.old)) → OnOk result (LogSays (disks_of P.disks self.new) log.new (said (held_of self.new))) }
         ensures images { LogSays (disks_of P.disks self.old) log.old (said (held_of self.old)) → OnErr result (ImagesSay (disks_of P.disks self.new) (held_of self.new) None) }
         ensures buffer { IfOk result (λ f. (held_of self.new).objects.mob.objects ≡ left_by (held_of self.old).objects.mob.objects f) }
@@ -519,6 +531,7 @@ impl<P: Parts> Stable<P> {
         ensures pages { (disks_of P.disks self.new).content 2 ≡ (disks_of P.disks self.old).content 2 }
         ensures clock { (disks_of P.disks self.new).clock ≡ (disks_of P.disks self.old).clock }
         ensures names { IfErr result (λ r. repo_named (held_of self.old).repo r ≡ (held_of self.old).repo) }
+        ensures goes { GoesOn (disks_of P.disks self.old) (disks_of P.disks self.new) }
         ensures stopped { (r : ℕ) → IsErrOf result (IsStopped r) → HasFailed (disks_of P.disks self.old).faults (disks_of P.disks self.new).faults }
         ensures steady { OnOk result (NoFault (disks_of P.disks self.old) (disks_of P.disks self.new)) }
         ensures quiet { IfErr result (λ r. is_stopped r ≡ false → NoFault (disks_of P.disks self.old) (disks_of P.disks self.new)) }

@@ -1,15 +1,19 @@
 -- How a repository of a run stands behind its events.
+use Rattle.disk_trait.specs.Disks.{Disks}
 use Rattle.law_repo_calls.proofs.Phases.{agreement}
 use Rattle.law_repo_calls.proofs.Restarts.{stands_on}
-use Rattle.law_repo_calls.specs.Seen.{StandsRight, seen}
+use Rattle.law_repo_calls.specs.Seen.{StandsRight, phase_from, seen}
 use Rattle.law_repo_calls.specs.Vouching.{WasKept}
-use Rattle.law_repo_memory.specs.Agreeing.{trace_of}
-use Rattle.law_repo_memory.specs.Running.{IsInAgreement}
+use Rattle.law_repo_memory.specs.Agreeing.{HeldAgrees, trace_of}
+use Rattle.law_repo_memory.specs.Running.{IsInAgreement, Repository}
+use Rattle.law_repo_runs.specs.Standing.{MayBeNext, Stands}
 use Rattle.log_entries.specs.declared.entry.Entry.{Entry}
 use Rattle.repo_core.specs.Shown.{Shown}
+use Rattle.repo_durable.specs.Saying.{ImagesSay}
 use Rattle.repo_site.proofs.Writing.{first_so}
 use Rattle.repo_site.specs.Run.{Run}
-use Rattle.repo_site.specs.Sited.{Happens, IsRightTrace, StandsIn}
+use Rattle.repo_site.specs.Sited.{Happens, IsLeftOf, IsRightTrace, StandsIn, recorded}
+use Rattle.repo_trace.specs.Recorded.{Recorded}
 use Rattle.repo_trace.specs.declared.trace.Trace.{Trace}
 use Rattle.spec_history.specs.History.{Base, state}
 use Rattle.spec_history.specs.Sound.{sound}
@@ -18,7 +22,8 @@ use Rattle.spec_trace.specs.Calls.{is_forgotten}
 use Rattle.spec_trace.specs.Exact.{exact}
 use Rattle.spec_trace.specs.Trace.{entries, items}
 use Rattle.spec_trace.specs.declared.kept_item.KeptItem.{KeptItem}
-use Rattle.std.proofs.Common.{List, arith, length, refl, subst, sym, true, ℕ, ◌+◌, ◌<◌, ◌∙◌, ◌≡◌, ◌≤◌}
+use Rattle.std.proofs.Common.{Bool, List, None, Option, arith, false, length, refl, subst, sym, true, ℕ, ◌+◌, ◌<◌, ◌∙◌, ◌≡◌, ◌≤◌}
+use Rattle.std.specs.Option.{IfSome}
 use Rattle.std.specs.Prelude.{not, ◌≢◌}
 use Rattle.thor_value.specs.FiniteMap.{get, has}
 use Rattle.thor_value.specs.declared.names.Ts.{Ts}
@@ -49,6 +54,34 @@ closed run number repos x t k history marks = record {
       subst (λ (H : List Entry). exact (run.base number) (items H t.marks)) (sym history)
       (subst (λ (m : List KeptItem). exact (run.base number) (items x.trace.history m)) (sym marks) (is_exact run number repos x k based));
 }
+
+-- ---- and what its disks say then
+
+-- whether it is up or down, what is held says what the history says, and what was being written may come next
+may_come : (b : Base) (x : Repository) (up torn : Bool) (pending : Option Entry) → torn ≡ false → (up ≡ true → pending ≡ None) → Stands b x (phase_from up torn pending) → HeldAgrees b x.trace x.held x.memory.requested × IfSome pending (MayBeNext b x.trace x.held)
+may_come b x true torn pending whole none stands = (stands.0.held, subst (λ (p : Option Entry). IfSome p (MayBeNext b x.trace x.held)) (sym (none refl)) tt)
+may_come b x false false pending whole none stands = (stands.0, stands.2)
+may_come b x false true pending whole none stands = absurd (let no : true ≡ false = whole in cc)
+
+recorded_is : (r : Recorded) (t : Trace) → t.history ≡ r.history → t.marks ≡ r.marks → r ≡ recorded t
+recorded_is r t history marks =
+    subst (λ (H : List Entry). r ≡ record r { history = H; marks = t.marks }) (sym history)
+    (subst (λ (m : List KeptItem). r ≡ record r { marks = m }) (sym marks) refl)
+
+pub left : (run : Run) (number repos : ℕ) (x : Shown) (disks : Disks) (t : Trace) → StandsIn run number repos x → t.history ≡ x.trace.history → t.marks ≡ x.trace.marks
+    → (x.is_torn ≡ false → ImagesSay disks x.held x.pending) → (x.is_up ≡ true → x.pending ≡ None) → x.is_torn ≡ false → IsLeftOf run number disks t
+left run number repos x disks t k history marks says none whole = λ based.
+    let b = run.base number in
+    let stood = may_come b (seen x) x.is_up x.is_torn x.pending whole none (k.right based).right.stands in
+    let same = recorded_is x.trace t history marks in
+    record {
+      held = x.held;
+      pending = x.pending;
+      requested = x.memory.requested;
+      says = subst (λ (r : Recorded). HeldAgrees b r x.held x.memory.requested) same stood.0;
+      next = subst (λ (r : Recorded). IfSome x.pending (MayBeNext b r x.held)) same stood.1;
+      images = says whole;
+    }
 
 pub same_number : (b : Base) (x : Shown) → StandsRight b x → x.is_up ≡ true → x.held.repo ≡ b.repo
 same_number b x k up = (agreement b x k up).held.repo

@@ -2,7 +2,7 @@
 
 ghost use Rattle.repo_core.specs.Shown.{Shown, faults_of};
 ghost use Rattle.repo_durable.specs.Failing.{NoneFell};
-ghost use Rattle.repo_site.specs.Sited.{Happens, IsRightTrace, StandsIn};
+ghost use Rattle.repo_site.specs.Sited.{Happens, IsRightTrace, StandsIn, IsLeftOf};
 ghost use Rattle.std.specs.Prelude.{OnErr, OnOk, ◌≡◌, false, true};
 ghost use Rattle.repo_refusals.specs.declared.refusal.Refusal.TheVariants.{Down as IsDown, NoMemory as IsNoMemory};
 ghost use Rattle.std.specs.Prelude.{IfErr};
@@ -61,10 +61,11 @@ impl<P: Parts, O: Opening> Site<P, O> {
         repo
     }
 
-    /// Ends it. Its parts come back with its trace.
+    /// Ends it. Its parts come back with its trace. Where it isn't torn, their disks say what was recorded.
     #[tactic(auto, using(crate::proofs::Standing::closed))]
     pub fn close(self) -> (P, Trace)
-        ensures { IsRightTrace O.run self.number result.1 }
+        ensures right { IsRightTrace O.run self.number result.1 }
+        ensures left { self.shown.is_torn ≡ false → IsLeftOf O.run self.number (P.disks result.0) result.1 }
     {
         let Site { repo, .. } = self;
         repo.close()
@@ -91,6 +92,13 @@ impl<P: Parts, O: Opening> Site<P, O> {
         ensures { result ≡ self.now.shown.is_up }
     {
         self.repo.is_up()
+    }
+
+    /// Whether there was no memory for an entry that its log has. It is down then, and doesn't come up again.
+    pub fn is_torn(&self) -> bool
+        ensures { result ≡ self.now.shown.is_torn }
+    {
+        self.repo.is_torn()
     }
 
     /// Refuses a call on a repository that is down.

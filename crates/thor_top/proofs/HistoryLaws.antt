@@ -1,6 +1,6 @@
 -- What is told of the repositories of a run, and what is replied of it.
-use Rattle.cluster_threads.specs.Histories.{AreHistories, AreHistoriesIf}
-use Rattle.cluster_threads.specs.Seated.{AreRight, IsFound, run_of}
+use Rattle.cluster_threads.specs.Histories.{AreHistories, AreHistoriesIf, EndsAs}
+use Rattle.cluster_threads.specs.Seated.{AreLeft, AreRight, IsFound, run_of}
 use Rattle.cluster_threads.specs.declared.Finished.{Finished}
 use Rattle.cluster_threads.specs.declared.Ran.{Ran}
 use Rattle.cluster_threads.specs.declared.Start.{Start}
@@ -49,6 +49,23 @@ module _ {P : Type 0} (disks : P → Disks) (given : List P) (places : List (Clo
   pub of_told : {E : Type 0} (played : Result (Finished P) E) → WasMade played → AreTracesOf played traces → IfOk played (λ f. IfOk f.ran (λ r. AreRight (run_of places mob s) 0 r.traces)) → IfOk played (λ f. IfOk f.ran (λ r. length r.traces ≡ n)) → IfOk played (λ _. IsFound disks places s) → AreHistories disks given traces
   of_told (Err e) made is right many stands = absurd made
   of_told (Ok f) made is right many stands = of_told_ran f.ran made is right many stands
+
+  -- ---- and what the disks of the parts say that come back
+
+  ended_made : (ended : List P) (r : Ran) → traces ≡ r.traces → AreRight (run_of places mob s) 0 r.traces → length r.traces ≡ n → AreLeft disks (run_of places mob s) 0 ended r.traces → IsFound disks places s → EndsAs disks given ended traces
+  ended_made ended r is right many left stands = record {
+    histories = record { places = places; mob = mob; start = s; count = ap length is ∙ (many ∙ as_many); seated = seated; found = stands; right = subst (AreRight (run_of places mob s) 0) (sym is) right };
+    left = subst (AreLeft disks (run_of places mob s) 0 ended) (sym is) left;
+  }
+
+  ended_ran : {E : Type 0} (ended : List P) (ran : Result Ran E) → IsOk ran → TracesOf ran traces → IfOk ran (λ r. AreRight (run_of places mob s) 0 r.traces) → IfOk ran (λ r. length r.traces ≡ n) → IfOk ran (λ r. AreLeft disks (run_of places mob s) 0 ended r.traces) → IsFound disks places s → EndsAs disks given ended traces
+  ended_ran ended (Err e) made is right many left stands = absurd (let no : false ≡ true = made in cc)
+  ended_ran ended (Ok r) made is right many left stands = ended_made ended r is right many left stands
+
+  pub of_ended : {E V : Type 0} (parts : V) (of_ok : Finished P → V) (items : V → List P) (played : Result (Finished P) E) → IfOk played (λ f. parts ≡ of_ok f) → WasMade played → AreTracesOf played traces → IfOk played (λ f. IfOk f.ran (λ r. AreRight (run_of places mob s) 0 r.traces)) → IfOk played (λ f. IfOk f.ran (λ r. length r.traces ≡ n))
+      → IfOk played (λ f. IfOk f.ran (λ r. AreLeft disks (run_of places mob s) 0 (items (of_ok f)) r.traces)) → IfOk played (λ _. IsFound disks places s) → EndsAs disks given (items parts) traces
+  of_ended parts of_ok items (Err e) same made is right many left stands = absurd made
+  of_ended parts of_ok items (Ok f) same made is right many left stands = subst (λ (v : _). EndsAs disks given (items v) traces) (sym same) (ended_ran (items (of_ok f)) f.ran made is right many left stands)
 
 -- as many parts come back
 pub many_of : {A B V : Type 0} (len : V → ℕ) (of_ok : A → V) (of_err : B → V) (played : Result A B) (parts : V) (n : ℕ) → IfOk played (λ f. len (of_ok f) ≡ n) → IfErr played (λ f. len (of_err f) ≡ n) → IfOk played (λ f. parts ≡ of_ok f) → IfErr played (λ f. parts ≡ of_err f) → len parts ≡ n

@@ -1,7 +1,7 @@
 //! The answer to a plan, on one thread or on several, and to words.
 
 ghost use Rattle.cluster_threads.specs.Committed.{committed_lines};
-ghost use Rattle.cluster_threads.specs.Histories.{AreHistories, AreHistoriesIf};
+ghost use Rattle.cluster_threads.specs.Histories.{AreHistories, AreHistoriesIf, EndsAs};
 ghost use Rattle.repo_opening.specs.Same.{AreSame};
 ghost use Rattle.std.specs.Prelude.{IfOk, Ok, Some, [], vec_len, ℕ, ◌≡◌};
 ghost use Rattle.store_opening.specs.Failing.{FailsAt};
@@ -42,6 +42,7 @@ pub(crate) fn answer_in_turn<S: Source, P: Parts, G: Gate>(
     ensures kept { WritesNothing plan.now.command result.reply → AreSame P.disks parts.items result.parts.items }
     ensures histories { AreHistoriesIf P.disks parts.items result.traces }
     ensures reported { TellsRunBy result.reply → AreHistories P.disks parts.items result.traces }
+    ensures left { TellsRunBy result.reply → EndsAs P.disks parts.items result.parts.items result.traces }
     ensures committed { IfOk result.reply (SaysLines (committed_lines result.traces) (ReadAll P.disks parts.items) (IsHanded plan.now (vec_len parts)) (told_by S.left S.faults source.old) (told_by S.left S.faults source.new)) }
 {
     match begin(alloc, plan, source, parts) {
@@ -103,6 +104,7 @@ fn answer_plan<R: Threads + Wait + Sync, S: Source, P: Parts + Send, G: Gate + S
     ensures kept { WritesNothing plan.now.command result.reply → AreSame P.disks parts.items result.parts.items }
     ensures histories { IsInTurn plan.now.command → AreHistoriesIf P.disks parts.items result.traces }
     ensures reported { IsInTurn plan.now.command → TellsRunBy result.reply → AreHistories P.disks parts.items result.traces }
+    ensures left { IsInTurn plan.now.command → TellsRunBy result.reply → EndsAs P.disks parts.items result.parts.items result.traces }
     ensures committed { IfOk result.reply (SaysLines (committed_lines result.traces) (ReadAll P.disks parts.items) (IsHanded plan.now (vec_len parts)) (told_by S.left S.faults source.old) (told_by S.left S.faults source.new)) }
 {
     match plan.command {
@@ -129,6 +131,7 @@ pub(crate) fn answer<R: Threads + Wait + Sync, S: Source, P: Parts + Send, G: Ga
     ensures audited { (plan : Plan) → plan_of words.now ≡ Some plan → plan.command ≡ Audit → AreSame P.disks parts.items result.parts.items }
     ensures histories { (plan : Plan) → plan_of words.now ≡ Some plan → IsInTurn plan.command → AreHistoriesIf P.disks parts.items result.traces }
     ensures reported { (plan : Plan) → plan_of words.now ≡ Some plan → IsInTurn plan.command → TellsRunBy result.reply → AreHistories P.disks parts.items result.traces }
+    ensures left { (plan : Plan) → plan_of words.now ≡ Some plan → IsInTurn plan.command → TellsRunBy result.reply → EndsAs P.disks parts.items result.parts.items result.traces }
     ensures committed { IfOk result.reply (SaysLines (committed_lines result.traces) (ReadAll P.disks parts.items) (IsPlan words.now (vec_len parts)) (told_by S.left S.faults source.old) (told_by S.left S.faults source.new)) }
 {
     match read_words(alloc, words) {

@@ -1,7 +1,7 @@
 //! A plan is performed, and the reply written.
 
 ghost use Rattle.cluster_threads.specs.Committed.{committed_lines};
-ghost use Rattle.cluster_threads.specs.Histories.{AreHistories, AreHistoriesIf};
+ghost use Rattle.cluster_threads.specs.Histories.{AreHistories, AreHistoriesIf, EndsAs};
 ghost use Rattle.outside.specs.Faults.{Rose};
 ghost use Rattle.repo_opening.specs.Same.{AreSame};
 ghost use Rattle.std.specs.Prelude.{IfOk, Ok, vec_len, ℕ, ◌≡◌};
@@ -57,6 +57,9 @@ pub fn perform<S: Source, K: Sink, P: Parts>(
     ensures histories { AreHistoriesIf P.disks parts.repositories.items result.traces }
     // Where a run is told, each repository has such a history.
     ensures reported { TellsRunBy result.reply → AreHistories P.disks parts.repositories.items result.traces }
+    // What each part's disks say then is what was recorded there: each image that a crash may leave of them says what the history says,
+    // but for the objects, or that with one entry that may come next.
+    ensures left { TellsRunBy result.reply → EndsAs P.disks parts.repositories.items result.parts.repositories.items result.traces }
     // The history that is told is what the repositories have committed, by their traces.
     ensures committed { IfOk result.reply (SaysLines (committed_lines result.traces) (ReadAll P.disks parts.repositories.items) (IsHanded plan (vec_len parts.repositories)) (told_by S.left S.faults source.old) (told_by S.left S.faults source.new)) }
 {

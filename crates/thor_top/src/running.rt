@@ -1,7 +1,7 @@
 //! A run is made and told.
 
 ghost use Rattle.cluster_threads.specs.Committed.{committed_lines};
-ghost use Rattle.cluster_threads.specs.Histories.{AreHistories, AreHistoriesIf};
+ghost use Rattle.cluster_threads.specs.Histories.{AreHistories, AreHistoriesIf, EndsAs};
 ghost use Rattle.repo_opening.specs.declared.unopened.Unopened.TheVariants.{Failed};
 ghost use Rattle.std.specs.Prelude.{IfErr, IfOk, List, Ok, vec_len, ℕ, ◌≡◌};
 ghost use Rattle.store_opening.specs.Failing.{AreCalled, FailsAt};
@@ -53,6 +53,7 @@ pub(crate) fn run_in_turn<P: Parts, G: Gate>(
     ensures failed { (given : List P) (repo : ℕ) → AreCalled P.disks given run.found.places.items → result.reply ≡ Ok (DiskFault repo) → FailsAt P.disks given result.parts.items repo }
     ensures histories { (given : List P) → HasParts P.disks given run.found → AreHistoriesIf P.disks given result.traces }
     ensures reported { (given : List P) → HasParts P.disks given run.found → TellsRunBy result.reply → AreHistories P.disks given result.traces }
+    ensures left { (given : List P) → HasParts P.disks given run.found → TellsRunBy result.reply → EndsAs P.disks given result.parts.items result.traces }
     ensures committed { TellsRunBy result.reply → IfOk result.reply (IsToldWith (committed_lines result.traces) run.expected) }
 {
     let FoundRun {

@@ -1,6 +1,6 @@
 ghost use Rattle.audit_check.specs.declared.disagreement.Disagreement.{Disagreement};
 ghost use Rattle.cluster_threads.specs.Committed.{committed_lines};
-ghost use Rattle.cluster_threads.specs.Histories.{AreHistories, AreHistoriesIf};
+ghost use Rattle.cluster_threads.specs.Histories.{AreHistories, AreHistoriesIf, EndsAs};
 ghost use Rattle.outside.specs.Faults.{Rose};
 ghost use Rattle.repo_opening.specs.Same.{AreSame};
 ghost use Rattle.script_parse.specs.declared.refusal.Refusal.{Refusal};
@@ -86,6 +86,9 @@ pub fn thor<R: Threads + Wait + Sync, S: Source, K: Sink, P: Parts + Send, G: Ga
     ensures histories { (plan : Plan) → plan_of words.now ≡ Some plan → IsInTurn plan.command → AreHistoriesIf P.disks parts.repositories.items result.traces }
     // Where a run is told that was made on one thread, each repository has such a history.
     ensures reported { (plan : Plan) → plan_of words.now ≡ Some plan → IsInTurn plan.command → TellsRunBy result.reply → AreHistories P.disks parts.repositories.items result.traces }
+    // What each part's disks say then is what was recorded there: each image that a crash may leave of them says what the history says,
+    // but for the objects, or that with one entry that may come next.
+    ensures left { (plan : Plan) → plan_of words.now ≡ Some plan → IsInTurn plan.command → TellsRunBy result.reply → EndsAs P.disks parts.repositories.items result.parts.repositories.items result.traces }
     // The history that is told of a run is what the repositories have committed, by their traces.
     ensures committed { IfOk result.reply (SaysLines (committed_lines result.traces) (ReadAll P.disks parts.repositories.items) (IsPlan words.now (vec_len parts.repositories)) (told_by S.left S.faults source.old) (told_by S.left S.faults source.new)) }
 {

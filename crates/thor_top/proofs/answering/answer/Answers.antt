@@ -80,3 +80,12 @@ pub returns-in-Err-NoMemory-clause-committed : goal.returns-in-Err-NoMemory-clau
 returns-in-Err-NoMemory-clause-committed g c =
     let before : Told = told_by g.S.Source.left g.S.Source.faults c.args.source.now in
     none_said (committed_lines c.untouched-in-Err-NoMemory.result.traces) (ReadAll g.P.Parts.disks c.args.parts.items) (IsPlan c.args.words.now (vec_len c.args.parts)) before before c.untouched-in-Err-NoMemory.result.reply (subst (λ (q : Result Reply NoMemory). TellsNoRun q) (sym c.untouched-in-Err-NoMemory.ensures.reply) (λ tells. tells))
+
+pub returns-in-Ok-clause-left : goal.returns-in-Ok-clause-left
+returns-in-Ok-clause-left g c = λ p is turn. c.answer_plan.ensures.left (one_in_turn c.args.words.now c.in-Ok.plan p c.in-Ok.ensures is turn)
+
+pub returns-in-Err-Words-clause-left : goal.returns-in-Err-Words-clause-left
+returns-in-Err-Words-clause-left g c = λ p is turn tells. absurd (subst (λ (q : Result Reply NoMemory). TellsRunBy q) c.untouched.ensures.reply tells)
+
+pub returns-in-Err-NoMemory-clause-left : goal.returns-in-Err-NoMemory-clause-left
+returns-in-Err-NoMemory-clause-left g c = λ p is turn tells. absurd (subst (λ (q : Result Reply NoMemory). TellsRunBy q) c.untouched-in-Err-NoMemory.ensures.reply tells)

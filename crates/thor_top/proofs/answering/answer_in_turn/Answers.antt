@@ -47,3 +47,9 @@ returns-in-Ok-clause-failed g c = λ repo is. c.run_in_turn.ensures.failed c.arg
 
 pub returns-in-Err-clause-failed : goal.returns-in-Err-clause-failed
 returns-in-Err-clause-failed g c = λ repo is. rw c.untold.ensures.parts (c.in-Err.ensures.failed repo (sym c.untold.ensures.reply ∙ is))
+
+pub returns-in-Ok-clause-left : goal.returns-in-Ok-clause-left
+returns-in-Ok-clause-left g c = c.run_in_turn.ensures.left c.args.parts.items c.in-Ok.ensures.found
+
+pub returns-in-Err-clause-left : goal.returns-in-Err-clause-left
+returns-in-Err-clause-left g c = λ tells. absurd (c.in-Err.ensures.untold (subst (λ (q : Result Reply NoMemory). TellsRunBy q) c.untold.ensures.reply tells))

@@ -6,3 +6,6 @@ returns-in-Run-clause-histories g c = λ turn. absurd (not_in_turn c.args.plan.n
 
 pub returns-in-Run-clause-reported : goal.returns-in-Run-clause-reported
 returns-in-Run-clause-reported g c = λ turn. absurd (not_in_turn c.args.plan.now.command c.in-Run.is turn)
+
+pub returns-in-Run-clause-left : goal.returns-in-Run-clause-left
+returns-in-Run-clause-left g c = λ turn. absurd (not_in_turn c.args.plan.now.command c.in-Run.is turn)

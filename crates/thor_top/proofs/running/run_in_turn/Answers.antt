@@ -1,6 +1,6 @@
 use Rattle.std.proofs.Common.{vec_len}
 use Rattle.thor_top.proofs.FailLaws.{failed_played}
-use Rattle.thor_top.proofs.HistoryLaws.{many_of, of_played, of_told}
+use Rattle.thor_top.proofs.HistoryLaws.{many_of, of_played, of_told, of_ended}
 use Rattle.thor_top.proofs.LineLaws.{told_made}
 use Rattle.thor_top.proofs.running.run_in_turn.Goals as goal
 
@@ -22,3 +22,8 @@ returns-clause-committed g c = λ tells.
 pub returns-clause-failed : goal.returns-clause-failed
 returns-clause-failed g c = λ given repo called is.
     failed_played g.P.Parts.disks given c.play-played.result c.replied.result.parts.items repo (c.play-played.ensures.failed given called) (c.replied.ensures.failed repo is) c.replied.ensures.err
+
+pub returns-clause-left : goal.returns-clause-left
+returns-clause-left g c = λ given has tells.
+    of_ended g.P.Parts.disks given c.args.run.found.places.items c.args.run.found.mob c.args.run.run.start has (vec_len c.args.run.found.places) c.args.run.found.places.ok.0 c.replied.result.traces
+    c.replied.result.parts (λ f. f.parts) (λ v. v.items) c.play-played.result c.replied.ensures.ok (c.replied.ensures.ran tells) c.replied.ensures.traces c.play-played.ensures.right c.play-played.ensures.told c.play-played.ensures.left c.play-played.ensures.found

@@ -63,3 +63,7 @@ returns-clause-committed g c = rw c.write_answer.ensures.traces
 pub returns-clause-failed : goal.returns-clause-failed
 returns-clause-failed g c = λ repo is. rw c.write_answer.ensures.parts
     (c.answer-answered.ensures.failed repo (given_as c.answer-answered.result.reply c.write_answer.result.reply (reply.DiskFault repo) c.write_answer.ensures.reply is))
+
+pub returns-clause-left : goal.returns-clause-left
+returns-clause-left g c = λ p is turn tells. rw c.write_answer.ensures.traces (rw c.write_answer.ensures.parts
+    (c.answer-answered.ensures.left p is turn (tells_of c.answer-answered.result.reply c.write_answer.result.reply c.write_answer.ensures.reply tells)))

@@ -1,4 +1,8 @@
 use Rattle.front_end.proofs.client.Client.follow.Goals as goal
+use Rattle.std.proofs.lemmas.Result.{IfOk-weaker}
+
+pub returns-in-GoOn-clause-moves : goal.returns-in-GoOn-clause-moves
+returns-in-GoOn-clause-moves g c = λ w may helps free. IfOk-weaker c.go_on.result _ _ (λ n tries. tries free) (c.go_on.ensures.moves w may)
 
 pub returns-in-Await-clause-as_sent : goal.returns-in-Await-clause-as_sent
 returns-in-Await-clause-as_sent g c = c.await_reply.ensures.as_sent _

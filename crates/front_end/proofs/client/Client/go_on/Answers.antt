@@ -5,7 +5,7 @@ use Rattle.client_state.proofs.Moving.{less_itself}
 use Rattle.client_state.proofs.Writing.{drawn_writes, evaluated_writes, nothing_unsent}
 use Rattle.client_state.specs.Pending.{pending_in}
 use Rattle.client_state.specs.Writing.{unsent as shares_unsent}
-use Rattle.front_end.proofs.Stepping.{by_rest_kept, from_idle, from_phase, sends_from, sends_idle_from}
+use Rattle.front_end.proofs.Stepping.{by_rest_free, from_idle, from_phase, sends_from, sends_idle_from}
 use Rattle.front_end.proofs.client.Client.go_on.Goals as goal
 use Rattle.front_end.specs.declared.client.Client.{Client}
 use Rattle.std.proofs.Common.{ap, inr, refl, sym, ◌∙◌, subst, List}
@@ -23,10 +23,10 @@ pub returns-in-Evaluated-clause-moves : goal.returns-in-Evaluated-clause-moves
 returns-in-Evaluated-clause-moves g c = λ w idle. from_phase _ _ _ _ c.args.self.now c.take_phase.new.self c.join_and_draw.new.self _ _ _ c.take_phase.ensures.rest refl c.join_and_draw.result (sends_from _ _ _ _ c.take_phase.new.self c.join_and_draw.new.self _ c.join_and_draw.result c.join_and_draw.ensures.moves c.join_and_draw.ensures.free c.join_and_draw.ensures.ends c.join_and_draw.ensures.hands)
 
 pub returns-in-Drawn-clause-moves : goal.returns-in-Drawn-clause-moves
-returns-in-Drawn-clause-moves g c = λ w. from_idle _ _ _ _ c.args.self.now _ _ _ _ _ c.take_phase.ensures.rest (ap pending_in (sym c.take_phase.ensures.phase ∙ c.in-Drawn.is)) c.send.result (c.send.ensures.moves _ refl (ap (λ (k : Client). pending_in k.phase) c.take_phase.ensures.rest) (rw (c.take_phase.ensures.rest) (drawn_writes _ _ _ _ (sym c.take_phase.ensures.phase ∙ c.in-Drawn.is) w)))
+returns-in-Drawn-clause-moves g c = λ w. from_idle _ _ _ _ c.args.self.now _ _ _ _ _ c.take_phase.ensures.rest (ap pending_in (sym c.take_phase.ensures.phase ∙ c.in-Drawn.is)) c.send.result (c.send.ensures.moves _ refl (ap (λ (k : Client). k.phase) c.take_phase.ensures.rest) (rw (c.take_phase.ensures.rest) (drawn_writes _ _ _ _ (sym c.take_phase.ensures.phase ∙ c.in-Drawn.is) w)))
 
 pub returns-in-Preparing-clause-moves : goal.returns-in-Preparing-clause-moves
-returns-in-Preparing-clause-moves g c = λ w. from_idle _ _ _ _ c.args.self.now _ _ _ _ _ c.take_phase.ensures.rest (ap pending_in (sym c.take_phase.ensures.phase ∙ c.in-Preparing.is)) c.prepare_or_decide.result (c.prepare_or_decide.ensures.moves _ refl (ap (λ (k : Client). pending_in k.phase) c.take_phase.ensures.rest))
+returns-in-Preparing-clause-moves g c = λ w. from_idle _ _ _ _ c.args.self.now _ _ _ _ _ c.take_phase.ensures.rest (ap pending_in (sym c.take_phase.ensures.phase ∙ c.in-Preparing.is)) c.prepare_or_decide.result (c.prepare_or_decide.ensures.moves _ refl (ap (λ (k : Client). k.phase) c.take_phase.ensures.rest))
 
 pub returns-in-Between-clause-writes : goal.returns-in-Between-clause-writes
 returns-in-Between-clause-writes g c = λ w. c.begin.ensures.writes (ap (λ (k : Client). shares_unsent k.phase) c.take_phase.ensures.rest)
@@ -44,7 +44,7 @@ pub returns-in-Asking-clause-writes : goal.returns-in-Asking-clause-writes
 returns-in-Asking-clause-writes g c = λ w. nothing_unsent _ _ (ap (λ (k : Client). shares_unsent k.phase) c.set_phase.ensures)
 
 pub returns-in-Asking-clause-moves : goal.returns-in-Asking-clause-moves
-returns-in-Asking-clause-moves g c = λ w idle. rw (c.set_phase.ensures, c.take_phase.ensures.rest) (by_rest_kept _ _ _ c.args.self.now.held c.args.self.now.held _ _ _ _ _ (less_itself c.args.self.now.held) (inr (sym (ap pending_in (sym c.take_phase.ensures.phase ∙ c.in-Asking.is)), λ at written. written)) refl refl refl)
+returns-in-Asking-clause-moves g c = λ w idle. rw (c.set_phase.ensures, c.take_phase.ensures.rest) (by_rest_free _ _ _ c.args.self.now.held c.args.self.now.held _ _ _ _ _ (less_itself c.args.self.now.held) (inr (sym (ap pending_in (sym c.take_phase.ensures.phase ∙ c.in-Asking.is)), λ at written. written)) refl refl refl)
 
 pub returns-in-Between-clause-as_sent : goal.returns-in-Between-clause-as_sent
 returns-in-Between-clause-as_sent g c = subst (λ (ls : List Link). IfOk c.begin.result (NewsAsSent ls)) (ap (λ (k : Client). k.held.links.items) c.take_phase.ensures.rest) c.begin.ensures.as_sent

@@ -35,6 +35,9 @@ returns-then-commit-clause-writes c = λ none. nothing_unsent _ _ (ap (λ (k : C
 pub returns-then-commit-clause-free : goal.returns-then-commit-clause-free
 returns-then-commit-clause-free c = λ none. ap (λ (k : Client). pending_in k.phase) c.end_committed.ensures.rest ∙ none
 
+pub returns-clause-over : goal.returns-clause-over
+returns-clause-over c = λ none. c.end_try.ensures.phase
+
 pub returns-clause-free : goal.returns-clause-free
 returns-clause-free c = λ none. ap pending_in c.end_try.ensures.phase
 
@@ -43,6 +46,9 @@ returns-then-commit-clause-own c = subst (λ (b : Bool). EndsAsked b c.args.sent
 
 pub returns-clause-own : goal.returns-clause-own
 returns-clause-own c = subst (λ (b : Bool). EndsAsked b c.args.sent c.end_try.result) (sym c.if-commit.false ∙ c.commit.ensures) (ap is_ended c.end_try.ensures.news)
+
+pub returns-then-commit-clause-over : goal.returns-then-commit-clause-over
+returns-then-commit-clause-over c = λ none. ap (λ (k : Client). k.phase) c.end_committed.ensures.rest ∙ none
 
 pub returns-then-commit-clause-hands : goal.returns-then-commit-clause-hands
 returns-then-commit-clause-hands c = ap (λ (k : Client). k.duties.verdicts) c.end_committed.ensures.rest ∙ (c.in_ok-hand_on.ensures.handed ∙ ap (λ (rs : List ℕ). handed c.args.verdict rs c.args.self.now.duties.verdicts) c.in_ok-others.ensures.all)

@@ -24,7 +24,7 @@ pub returns-in_ok-note_prepared-in-Ok-clause-moves : goal.returns-in_ok-note_pre
 returns-in_ok-note_prepared-in-Ok-clause-moves g c = λ item a more holds of idle. by_prepare_so _ item _ _ c.args.self.now.held c.args.self.now.held _ _ _ _ _ c.args.sending of c.in-Ok.field-0 c.in-Ok.ensures.call (less_itself c.args.self.now.held) (more_pends item c.args.self.now c.args.sending a _ more c.in_ok-note_prepared-in-Ok.ensures.pending) (more_prepared item c.args.self.now c.args.sending a _ more c.in_ok-note_prepared-in-Ok.ensures.pending holds) refl (same_duties c.args.self.now.duties c.args.self.now.duties refl)
 
 pub returns-in-Err-clause-moves : goal.returns-in-Err-clause-moves
-returns-in-Err-clause-moves g c = λ item a more holds of idle. all_if c.end_refused.result (λ n quiet ends keeps. by_prepare_refused_so _ item _ _ c.args.self.now.held c.end_refused.new.self.held _ _ _ _ n c.args.sending of idle c.in-Err.refusal c.in-Err.ensures.call c.end_refused.ensures.learns c.end_refused.ensures.client (inl (ap pending_in ends)) (more_refused item c.args.self.now c.args.sending a (pending_in c.end_refused.new.self.phase) more) quiet keeps) c.end_refused.ensures.ends c.end_refused.ensures.phase c.end_refused.ensures.duties
+returns-in-Err-clause-moves g c = λ item a more holds of idle. all_if c.end_refused.result (λ n quiet ends keeps. by_prepare_refused_so _ item _ _ c.args.self.now.held c.end_refused.new.self.held _ _ _ _ n c.args.sending of idle c.in-Err.refusal c.in-Err.ensures.call c.end_refused.ensures.learns c.end_refused.ensures.client (inl (ap pending_in ends)) (more_refused item c.args.self.now c.args.sending a (pending_in c.end_refused.new.self.phase) more) quiet keeps ends) c.end_refused.ensures.ends c.end_refused.ensures.phase c.end_refused.ensures.duties
 
 pub returns-in_err-note_prepared-in-Ok-clause-writes : goal.returns-in_err-note_prepared-in-Ok-clause-writes
 returns-in_err-note_prepared-in-Ok-clause-writes g c = λ none. nothing_unsent _ _ (c.note_prepared.ensures.shares ∙ none)

@@ -1,12 +1,11 @@
 use Rattle.client_port.specs.Acting.{RefusesPrepare}
 use Rattle.client_state.proofs.Moving.{less_itself}
-use Rattle.client_state.proofs.Pending.{stays_free}
 use Rattle.client_state.proofs.Writing.{nothing_unsent}
-use Rattle.client_state.specs.Pending.{IsPreparing}
+use Rattle.client_state.specs.Pending.{IsPreparing, pending_in}
 use Rattle.client_state.specs.Stepping.{PreparesFirst, RefusesFirst}
 use Rattle.client_state.specs.Writing.{unsent}
 use Rattle.front_end.proofs.Acting.{by_prepare}
-use Rattle.front_end.proofs.Stepping.{both_if, by_prepare_refused_so, by_prepare_so, same_duties}
+use Rattle.front_end.proofs.Stepping.{all_if, by_prepare_refused_so, by_prepare_so, same_duties}
 use Rattle.front_end.proofs.client.Client.prepare_first.Goals as goal
 use Rattle.front_end.specs.declared.client.Client.{Client}
 use Rattle.std.proofs.Common.{List, [], ap, inl, refl, sym, ℕ, ◌∙◌}
@@ -27,7 +26,7 @@ pub returns-in-Ok-clause-moves : goal.returns-in-Ok-clause-moves
 returns-in-Ok-clause-moves g c = λ item none tx drawn held of idle. rw (c.set_phase.ensures) (by_prepare_so _ item _ _ c.args.self.now.held c.args.self.now.held _ _ _ _ _ c.args.sending of c.in-Ok.field-0 c.in-Ok.ensures.call (less_itself c.args.self.now.held) (inl (ap (λ (t : Ts). Some (c.args.sending.at, t)) (sym tx))) (PreparesFirst c.args.transaction drawn (λ there. held) (ap (λ (ps : List ℕ). IsPreparing c.args.sending.at c.args.ts ps c.args.transaction) c.new-prepared.ensures ∙ ap (λ (t : Ts). IsPreparing c.args.sending.at t [] c.args.transaction) (sym tx))) refl (same_duties c.args.self.now.duties c.args.self.now.duties refl))
 
 pub returns-in-Err-clause-moves : goal.returns-in-Err-clause-moves
-returns-in-Err-clause-moves g c = λ item none tx drawn held of idle. both_if c.end_refused.result (λ n quiet keeps. by_prepare_refused_so _ item _ _ c.args.self.now.held c.end_refused.new.self.held _ _ _ _ n c.args.sending of idle c.in-Err.refusal c.in-Err.ensures.call c.end_refused.ensures.learns c.end_refused.ensures.client (inl (stays_free _ _ c.args.self.now.held c.end_refused.new.self.held none c.end_refused.ensures.stays)) (RefusesFirst c.args.transaction drawn) quiet keeps) c.end_refused.ensures.ends c.end_refused.ensures.duties
+returns-in-Err-clause-moves g c = λ item none tx drawn held of idle. all_if c.end_refused.result (λ n quiet keeps over. by_prepare_refused_so _ item _ _ c.args.self.now.held c.end_refused.new.self.held _ _ _ _ n c.args.sending of idle c.in-Err.refusal c.in-Err.ensures.call c.end_refused.ensures.learns c.end_refused.ensures.client (inl (ap pending_in over)) (RefusesFirst c.args.transaction drawn) quiet keeps over) c.end_refused.ensures.ends c.end_refused.ensures.duties c.end_refused.ensures.phase
 
 pub returns-in-Ok-clause-writes : goal.returns-in-Ok-clause-writes
 returns-in-Ok-clause-writes g c = λ none. nothing_unsent _ _ (ap (λ (k : Client). unsent k.phase) c.set_phase.ensures)

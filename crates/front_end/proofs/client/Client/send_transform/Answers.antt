@@ -1,7 +1,7 @@
 use Rattle.client_port.specs.Acting.{RefusesCommit}
 use Rattle.client_state.specs.Stepping.{RefusesTransform}
 use Rattle.front_end.proofs.Acting.{by_commit}
-use Rattle.front_end.proofs.Stepping.{both_if, by_commit_refused_so, by_transform_so, same_duties}
+use Rattle.front_end.proofs.Stepping.{all_if, both_if, by_commit_refused_so, by_transform_so, same_duties}
 use Rattle.front_end.proofs.client.Client.send_transform.Goals as goal
 use Rattle.std.proofs.Common.{inl}
 use Rattle.std.proofs.lemmas.Result.{IfOk-weaker}
@@ -22,4 +22,4 @@ pub returns-in-Ok-clause-moves : goal.returns-in-Ok-clause-moves
 returns-in-Ok-clause-moves g c = λ item none joined sends of writes here held idle. both_if c.end_transform.result (λ n quiet keeps. by_transform_so _ item _ _ c.args.self.now.held c.end_transform.new.self.held _ _ _ _ n (record { at = c.args.at; request = c.args.request }) of idle c.in-Ok.field-0 c.args.oref c.args.made c.in-Ok.ensures.call joined writes here held keeps (c.end_transform.ensures.free none) sends quiet (same_duties _ _ c.end_transform.ensures.duties)) c.end_transform.ensures.ends c.end_transform.ensures.keeps
 
 pub returns-in-Err-clause-moves : goal.returns-in-Err-clause-moves
-returns-in-Err-clause-moves g c = λ item none joined sends of writes here held idle. both_if c.refuse_transform.result (λ n quiet keeps. by_commit_refused_so _ item _ _ c.args.self.now.held c.refuse_transform.new.self.held _ _ _ _ n (record { at = c.args.at; request = c.args.request }) of idle c.in-Err.refusal c.in-Err.ensures.call c.refuse_transform.ensures.learns c.refuse_transform.ensures.client (inl (c.refuse_transform.ensures.free none)) (RefusesTransform sends (c.refuse_transform.ensures.free none)) quiet keeps) c.refuse_transform.ensures.ends c.refuse_transform.ensures.duties
+returns-in-Err-clause-moves g c = λ item none joined sends of writes here held idle. all_if c.refuse_transform.result (λ n quiet keeps over. by_commit_refused_so _ item _ _ c.args.self.now.held c.refuse_transform.new.self.held _ _ _ _ n (record { at = c.args.at; request = c.args.request }) of idle c.in-Err.refusal c.in-Err.ensures.call c.refuse_transform.ensures.learns c.refuse_transform.ensures.client (inl (c.refuse_transform.ensures.free none)) (RefusesTransform sends (c.refuse_transform.ensures.free none)) quiet keeps (λ _. over)) c.refuse_transform.ensures.ends c.refuse_transform.ensures.duties c.refuse_transform.ensures.over

@@ -6,7 +6,7 @@ use Rattle.front_end.proofs.Stepping.{takes_counted}
 use Rattle.front_end.proofs.front_end.FrontEnd.follow_counted.Goals as goal
 use Rattle.front_end.specs.Moving.{held_of, standing_of}
 use Rattle.front_end.specs.Rules.{MayFollow}
-use Rattle.front_end.specs.Stepping.{HelpsBy}
+use Rattle.front_end.specs.Stepping.{GoesOnBy, HelpsBy}
 use Rattle.front_end.specs.declared.client.Client.{Client}
 use Rattle.std.proofs.Common.{refl, subst, sym}
 use Rattle.std.proofs.lemmas.Result.{on_ok_weaker}
@@ -24,7 +24,7 @@ pub returns-clause-rises : goal.returns-clause-rises
 returns-clause-rises g c = subst (λ (h : Held). Rises h (held_of c.make_counted.new.self)) c.count_call.ensures.held c.make_counted.ensures.rises
 
 pub returns-clause-moves : goal.returns-clause-moves
-returns-clause-moves g c = λ may helps. on_ok_weaker c.make_counted.result (λ t. takes_counted _ _ _ c.args.self.now c.count_call.new.self c.make_counted.new.self c.count_call.ensures.client c.count_call.ensures.course c.count_call.ensures.each c.count_call.ensures.tried t) (c.make_counted.ensures.moves (subst (λ (k : Client). MayFollow c.args.rule k.held) (sym c.count_call.ensures.client) may) (subst (λ (k : Client). HelpsBy c.args.rule k.duties.helping) (sym c.count_call.ensures.client) helps))
+returns-clause-moves g c = λ may helps free. on_ok_weaker c.make_counted.result (λ t. takes_counted _ _ _ c.args.self.now c.count_call.new.self c.make_counted.new.self c.count_call.ensures.client c.count_call.ensures.course c.count_call.ensures.each c.count_call.ensures.tried t) (c.make_counted.ensures.moves (subst (λ (k : Client). MayFollow c.args.rule k.held) (sym c.count_call.ensures.client) may) (subst (λ (k : Client). HelpsBy c.args.rule k.duties.helping) (sym c.count_call.ensures.client) helps) (subst (λ (k : Client). GoesOnBy c.args.rule k.duties) (sym c.count_call.ensures.client) free))
 
 pub returns-then-not-count_call-clause-moves : goal.returns-then-not-count_call-clause-moves
-returns-then-not-count_call-clause-moves g c = λ may helps. on_ok_weaker c.run_out_of_calls.result (λ t. takes_counted _ _ _ c.args.self.now c.count_call.new.self c.run_out_of_calls.new.self c.count_call.ensures.client c.count_call.ensures.course c.count_call.ensures.each c.count_call.ensures.tried t) c.run_out_of_calls.ensures.moves
+returns-then-not-count_call-clause-moves g c = λ may helps free. on_ok_weaker c.run_out_of_calls.result (λ t. takes_counted _ _ _ c.args.self.now c.count_call.new.self c.run_out_of_calls.new.self c.count_call.ensures.client c.count_call.ensures.course c.count_call.ensures.each c.count_call.ensures.tried t) c.run_out_of_calls.ensures.moves

@@ -1,4 +1,4 @@
-use Rattle.repo_core.proofs.Failing.{err_before, err_shown, failed_between, failed_same, ok_before, ok_shown}
+use Rattle.repo_core.proofs.Failing.{err_before, err_shown, failed_between, failed_same, fewer_between, fewer_same, fewer_shown, ok_before, ok_shown}
 use Rattle.repo_core.specs.Shown.{Shown, shown}
 use Rattle.repo_durable.specs.Kept.{disks_of}
 use Rattle.std.proofs.Common.{ap, refl, ◌∙◌}
@@ -29,3 +29,11 @@ pub returns-clause-readable : goal.returns-clause-readable
 returns-clause-readable g c = λ has.
     let i = c.self.inside in
     c.checkpoint.ensures.readable (shown_has g.P.Parts.disks i.stable i.memory i.trace i.opened_in c.drop_decisions.new.self c.self.view_is (c.drop_decisions.ensures.readable has))
+
+pub returns-clause-counts : goal.returns-clause-counts
+returns-clause-counts g c =
+    let i = c.self.inside in
+    let y : Shown = c.drop_decisions.new.self in
+    let z : Shown = shown g.P.Parts.disks c.checkpoint.new.self i.memory i.trace i.opened_in in
+    fewer_shown c.args.self.now y z (fewer_same c.args.self.now y c.drop_decisions.ensures.faults)
+    (fewer_between (disks_of g.P.Parts.disks i.stable) (disks_of g.P.Parts.disks c.checkpoint.new.self) y z (ap (λ (s : Shown). s.faults) c.self.view_is) refl c.checkpoint.ensures.goes.faults)

@@ -10,7 +10,7 @@ use Rattle.repo_core.specs.Behind.{alone_entry}
 use Rattle.repo_trace.specs.Recorded.{Recorded, with_entry}
 use Rattle.repo_durable.proofs.Counting.{err_through}
 use Rattle.std.proofs.Common.{rules}
-use Rattle.repo_core.proofs.Failing.{err_before, ok_before}
+use Rattle.repo_core.proofs.Failing.{err_before, fewer_shown, ok_before}
 use Rattle.repo_core.proofs.repo.Repo.commit_one.Goals as goal
 
 pub returns-in_ok-make_room-in-Ok-clause-trace : goal.returns-in_ok-make_room-in-Ok-clause-trace
@@ -45,3 +45,6 @@ returns-in_ok-make_room-in-Ok-clause-quiet g c = err_before c.write.result c.arg
 
 pub returns-in_err-make_room-in-Ok-clause-quiet : goal.returns-in_err-make_room-in-Ok-clause-quiet
 returns-in_err-make_room-in-Ok-clause-quiet g c = err_through c.make_room.result c.from_residual-in_err-make_room-in-Ok.result _ (λ r wrong. search rules) c.make_room.ensures.quiet
+
+pub returns-in_ok-make_room-in-Ok-clause-counts : goal.returns-in_ok-make_room-in-Ok-clause-counts
+returns-in_ok-make_room-in-Ok-clause-counts g c = fewer_shown c.args.self.now c.make_room.new.self c.write.new.self c.make_room.ensures.faults c.write.ensures.counts

@@ -1,7 +1,7 @@
 use Rattle.repo_durable.specs.Kept.{disks_of}
 use Rattle.std.proofs.Common.{IsErrOf, ap, refl, rules}
 use Rattle.repo_core.proofs.Damage.{damage_shown, damaged_memory}
-use Rattle.repo_core.proofs.Failing.{failed_between, stopped_memory}
+use Rattle.repo_core.proofs.Failing.{failed_between, fewer_between, fewer_same, fewer_shown, stopped_memory}
 use Rattle.repo_refusals.specs.declared.refusal.Refusal.TheVariants.{Damaged as IsDamaged, Stopped as IsStopped}
 use Rattle.repo_core.proofs.Refused.{if_err_on, leaves_read}
 use Rattle.repo_core.specs.Shown.{Shown, shown}
@@ -73,3 +73,16 @@ returns-in_err-image-clause-never g c = λ n place is has.
 
 pub returns-clause-never : goal.returns-clause-never
 returns-clause-never g c = λ n place is has. damaged_memory c.mark.result n place _ c.mark.ensures.refusal is
+
+pub returns-in_err-image-clause-counts : goal.returns-in_err-image-clause-counts
+returns-in_err-image-clause-counts g c =
+    let i = c.self.inside in
+    fewer_between (disks_of g.P.Parts.disks i.stable) (disks_of g.P.Parts.disks c.page_image.new.self) c.args.self.now (shown g.P.Parts.disks c.page_image.new.self i.memory i.trace i.opened_in) (ap (λ (s : Shown). s.faults) c.self.view_is) refl c.page_image.ensures.goes.faults
+
+pub returns-clause-counts : goal.returns-clause-counts
+returns-clause-counts g c =
+    let i = c.self.inside in
+    let y : Shown = shown g.P.Parts.disks c.page_image.new.self c.send_page-sent.new.self i.trace i.opened_in in
+    fewer_shown c.args.self.now y c.mark.new.self
+    (fewer_between (disks_of g.P.Parts.disks i.stable) (disks_of g.P.Parts.disks c.page_image.new.self) c.args.self.now y (ap (λ (s : Shown). s.faults) c.self.view_is) refl c.page_image.ensures.goes.faults)
+    (fewer_same y c.mark.new.self c.mark.ensures.faults)

@@ -1,7 +1,7 @@
 use Rattle.std.proofs.Common.{None}
 use Rattle.repo_durable.proofs.Counting.{err_through}
 use Rattle.std.proofs.Common.{rules, ◌∙◌}
-use Rattle.repo_core.proofs.Failing.{err_before}
+use Rattle.repo_core.proofs.Failing.{err_before, fewer_shown}
 use Rattle.repo_core.proofs.repo.Repo.finish.Goals as goal
 
 pub returns-in_err-make_room_for-clause-damaged : goal.returns-in_err-make_room_for-clause-damaged
@@ -15,3 +15,9 @@ returns-clause-steady g c = c.in_ok-place.ensures.steady ∙ c.in_ok-make_room_f
 
 pub returns-in_err-make_room_for-clause-quiet : goal.returns-in_err-make_room_for-clause-quiet
 returns-in_err-make_room_for-clause-quiet g c = err_through c.make_room_for.result c.from_residual-in_err-make_room_for.result _ (λ r wrong. search rules) c.make_room_for.ensures.quiet
+
+pub returns-in_err-place-clause-counts : goal.returns-in_err-place-clause-counts
+returns-in_err-place-clause-counts g c = fewer_shown c.args.self.now c.make_room_for.new.self c.write.new.self c.make_room_for.ensures.faults c.write.ensures.counts
+
+pub returns-clause-counts : goal.returns-clause-counts
+returns-clause-counts g c = fewer_shown c.args.self.now c.make_room_for.new.self c.write.new.self c.make_room_for.ensures.faults c.write.ensures.counts

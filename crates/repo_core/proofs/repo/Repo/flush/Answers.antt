@@ -1,5 +1,5 @@
 use Rattle.repo_core.proofs.Damage.{oldest_shown}
-use Rattle.repo_core.proofs.Failing.{err_shown, failed_between, ok_shown}
+use Rattle.repo_core.proofs.Failing.{err_shown, failed_between, fewer_between, ok_shown}
 use Rattle.repo_core.specs.Shown.{Shown, shown}
 use Rattle.repo_durable.specs.Kept.{disks_of}
 use Rattle.std.proofs.Common.{ap, refl}
@@ -36,3 +36,8 @@ pub returns-clause-never : goal.returns-clause-never
 returns-clause-never g c = λ n place is has.
     let i = c.self.inside in
     c.flush_page.ensures.never n place is (shown_has g.P.Parts.disks i.stable i.memory i.trace i.opened_in c.args.self.now c.self.view_is has)
+
+pub returns-clause-counts : goal.returns-clause-counts
+returns-clause-counts g c =
+    let i = c.self.inside in
+    fewer_between (disks_of g.P.Parts.disks i.stable) (disks_of g.P.Parts.disks c.flush_page.new.self) c.args.self.now (shown g.P.Parts.disks c.flush_page.new.self i.memory i.trace i.opened_in) (ap (λ (s : Shown). s.faults) c.self.view_is) refl c.flush_page.ensures.goes.faults

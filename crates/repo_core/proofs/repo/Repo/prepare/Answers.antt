@@ -5,7 +5,7 @@ use Rattle.repo_core.proofs.Refused.{why_refused}
 use Rattle.repo_core.specs.Calls.{judged}
 use Rattle.repo_durable.proofs.Counting.{err_through}
 use Rattle.std.proofs.Common.{rules}
-use Rattle.repo_core.proofs.Failing.{err_before, ok_before}
+use Rattle.repo_core.proofs.Failing.{err_before, fewer_shown, ok_before}
 use Rattle.log_entries.specs.declared.entry.Entry.TheVariants.{Prepared}
 use Rattle.repo_state.specs.Entering.{entered}
 use Rattle.repo_core.proofs.Moves.{moved_then}
@@ -46,3 +46,6 @@ returns-in_ok-make_room-in-Ok-clause-held g c =
 pub returns-in_ok-make_room-in-Ok-clause-trace : goal.returns-in_ok-make_room-in-Ok-clause-trace
 returns-in_ok-make_room-in-Ok-clause-trace g c =
     subst (λ (t : Recorded). OnOk c.write.result (c.write.new.self.trace ≡ with_entry t (Prepared c.args.request))) c.make_room.ensures.made.trace c.write.ensures.trace
+
+pub returns-in_ok-make_room-in-Ok-clause-counts : goal.returns-in_ok-make_room-in-Ok-clause-counts
+returns-in_ok-make_room-in-Ok-clause-counts g c = fewer_shown c.args.self.now c.make_room.new.self c.write.new.self c.make_room.ensures.faults c.write.ensures.counts

@@ -1,4 +1,4 @@
-use Rattle.repo_core.proofs.Failing.{err_before, failed_same, failed_shown, ok_before}
+use Rattle.repo_core.proofs.Failing.{err_before, failed_same, failed_shown, fewer_same, fewer_shown, ok_before}
 use Rattle.repo_core.specs.Shown.{Shown}
 use Rattle.std.proofs.Common.{◌∙◌}
 use Rattle.repo_durable.proofs.Counting.{err_through}
@@ -20,3 +20,10 @@ returns-clause-quiet g c = err_before c.write_life.result c.args.self.now.faults
 
 pub returns-in_err-take_over-clause-quiet : goal.returns-in_err-take_over-clause-quiet
 returns-in_err-take_over-clause-quiet g c = err_through c.take_over.result c.from_residual.result _ (λ r wrong. search rules) c.take_over.ensures.quiet
+
+pub returns-clause-counts : goal.returns-clause-counts
+returns-clause-counts g c =
+    let y : Shown = c.take_over.new.self in
+    let z : Shown = c.drop_decisions.new.self in
+    let w : Shown = c.write_life.new.self in
+    fewer_shown c.args.self.now y w c.take_over.ensures.faults (fewer_shown y z w (fewer_same y z c.drop_decisions.ensures.faults) c.write_life.ensures.counts)

@@ -1,4 +1,4 @@
-use Rattle.repo_core.proofs.Failing.{failed_between, stopped_memory}
+use Rattle.repo_core.proofs.Failing.{failed_between, fewer_between, stopped_memory}
 use Rattle.repo_refusals.specs.declared.refusal.Refusal.TheVariants.{Stopped as IsStopped}
 use Rattle.log_entries.specs.declared.entry.Entry.TheVariants.{Life, Prepared}
 use Rattle.log_entries.specs.declared.entry.Entry.{Entry}
@@ -23,6 +23,7 @@ use Rattle.repo_core.specs.Telling.{Tells}
 use Rattle.law_repo_memory.specs.Coming.{Moves}
 use Rattle.repo_trace.specs.Recorded.{Recorded}
 use Rattle.std.proofs.Common.{length, ℕ}
+use Rattle.repo_durable.proofs.Failing.{fewer_none, fewer_then}
 use Rattle.repo_core.proofs.repo.Repo.write.Goals as goal
 
 pub returns-clause-ended : goal.returns-clause-ended
@@ -114,3 +115,16 @@ returns-clause-tells g c =
     (subst (λ (n : ℕ). OnOk c.record.result (Tells i.stable.held i.memory.sessions n e m)) at
     (subst (λ (h : Held). OnOk c.record.result (Tells h i.memory.sessions c.place.result e m)) (c.held.ensures ∙ c.append.ensures.held)
     (told_then c.record.result c.tell-told.result (Tells c.held.result.now i.memory.sessions c.place.result e m) c.record.ensures.told c.tell-told.ensures.tells))))
+
+pub returns-in_err-entry-clause-counts : goal.returns-in_err-entry-clause-counts
+returns-in_err-entry-clause-counts g c =
+    let i = c.self.inside in
+    fewer_between (disks_of g.P.Parts.disks i.stable) (disks_of g.P.Parts.disks c.append.new.self) c.args.self.now (shown g.P.Parts.disks c.append.new.self i.memory c.reserve.new.self i.opened_in) (ap (λ (s : Shown). s.faults) c.self.view_is) refl c.append.ensures.goes.faults
+
+pub returns-clause-counts : goal.returns-clause-counts
+returns-clause-counts g c =
+    let i = c.self.inside in
+    let old = disks_of g.P.Parts.disks i.stable in
+    let mid = disks_of g.P.Parts.disks c.append.new.self in
+    let now = disks_of g.P.Parts.disks c.record.new.stable in
+    fewer_between old now c.args.self.now (shown g.P.Parts.disks c.record.new.stable c.tell-told.new.memory c.record.new.trace i.opened_in) (ap (λ (s : Shown). s.faults) c.self.view_is) refl (fewer_then old.faults mid.faults now.faults c.append.ensures.goes.faults (fewer_none mid.faults now.faults c.record.ensures.faults))

@@ -7,7 +7,7 @@ use Rattle.repo_durable.proofs.Saying.{ahead_up, images_written, log_more, said_
 use Rattle.repo_durable.proofs.Staying.{kept_up, taken_follows, taken_open}
 use Rattle.repo_durable.specs.Kept.{disks_of}
 use Rattle.std.specs.Prelude.{Some}
-use Rattle.repo_durable.proofs.Counting.{log_quiet, stays_between}
+use Rattle.repo_durable.proofs.Counting.{goes_between, log_quiet, stays_between}
 use Rattle.repo_durable.specs.Kept.{parts_in}
 use Rattle.std.proofs.Common.{ap, sym, ◌∙◌}
 use Rattle.repo_durable.proofs.Readable.{back_has, out_has, still_has, whole_out}
@@ -76,3 +76,9 @@ returns-in-Err-clause-readable g c = λ has.
     let written = record mid { parts = c.append.new.parts } in
     back_has g.P.Parts.disks written c.set_phase-in-Err.new.self (Down (Some c.args.entry)) c.set_phase-in-Err.ensures whole
     (still_has g.P.Parts.disks mid written c.append.ensures.goes.told c.append.ensures.pages refl (λ whole. whole) was)
+
+pub returns-in-Ok-clause-goes : goal.returns-in-Ok-clause-goes
+returns-in-Ok-clause-goes g c = goes_between g.P.Parts.disks c.args.self.now c.take_log.new.self c.set_phase.new.self c.append.new.parts c.in-Some.ensures.some.1 (ap parts_in c.set_phase.ensures) c.append.ensures.goes
+
+pub returns-in-Err-clause-goes : goal.returns-in-Err-clause-goes
+returns-in-Err-clause-goes g c = goes_between g.P.Parts.disks c.args.self.now c.take_log.new.self c.set_phase-in-Err.new.self c.append.new.parts c.in-Some.ensures.some.1 (ap parts_in c.set_phase-in-Err.ensures) c.append.ensures.goes

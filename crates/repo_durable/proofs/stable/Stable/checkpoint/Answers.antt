@@ -1,8 +1,9 @@
 use Rattle.repo_durable.proofs.Saying.{said_anew, said_begun, said_out}
 use Rattle.repo_durable.proofs.Staying.{taken_open}
-use Rattle.repo_durable.proofs.Counting.{log_quiet, stays_between, stays_taken}
+use Rattle.disk_trait.proofs.Several.{goes_none}
+use Rattle.repo_durable.proofs.Counting.{goes_between, goes_taken, log_quiet, stays_between, stays_taken}
 use Rattle.disk_trait.specs.Fused.{fused_disks}
-use Rattle.repo_durable.specs.Kept.{parts_in}
+use Rattle.repo_durable.specs.Kept.{disks_of, parts_in}
 use Rattle.std.proofs.Common.{ap, sym, ◌∙◌}
 use Rattle.repo_durable.proofs.Readable.{back_has, out_has, still_has, whole_out}
 use Rattle.std.proofs.Common.{refl}
@@ -65,3 +66,19 @@ pub returns-in-Err-clause-readable : goal.returns-in-Err-clause-readable
 returns-in-Err-clause-readable g c = λ has.
     let taken = c.in-Some.ensures.some in
     out_has g.P.Parts.disks c.args.self.now c.take_log.new.self c.in-Some.log taken.0 taken.1 has
+
+pub returns-clause-goes : goal.returns-clause-goes
+returns-clause-goes g c = goes_between g.P.Parts.disks c.args.self.now c.take_log.new.self c.set_phase.new.self c.checkpoint-begun.new.parts c.in-Some.ensures.some.1 (ap parts_in c.set_phase.ensures) c.checkpoint-begun.ensures.goes
+
+pub returns-in-Err-begun-clause-goes : goal.returns-in-Err-begun-clause-goes
+returns-in-Err-begun-clause-goes g c = goes_taken g.P.Parts.disks c.args.self.now c.take_log.new.self (fused_disks g.P.Parts.disks c.checkpoint-begun.new.parts) c.in-Some.ensures.some.1 c.checkpoint-begun.ensures.goes
+
+pub returns-then-sequence-clause-goes : goal.returns-then-sequence-clause-goes
+returns-then-sequence-clause-goes g c =
+    let mid = disks_of g.P.Parts.disks c.take_log.new.self in
+    goes_taken g.P.Parts.disks c.args.self.now c.take_log.new.self mid c.in-Some.ensures.some.1 (goes_none mid)
+
+pub returns-in-Err-clause-goes : goal.returns-in-Err-clause-goes
+returns-in-Err-clause-goes g c =
+    let mid = disks_of g.P.Parts.disks c.take_log.new.self in
+    goes_taken g.P.Parts.disks c.args.self.now c.take_log.new.self mid c.in-Some.ensures.some.1 (goes_none mid)

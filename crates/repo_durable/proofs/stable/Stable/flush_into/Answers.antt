@@ -18,6 +18,10 @@ use Rattle.repo_durable.proofs.Readable.{never_oldest, written_has}
 use Rattle.repo_durable.proofs.Returning.{same_err}
 use Rattle.page_store.specs.declared.fault.StoreFault.{StoreFault}
 use Rattle.repo_refusals.specs.declared.refusal.Refusal.TheVariants.{Damaged as IsDamaged}
+use Rattle.repo_durable.proofs.Mapping.{moves_then, written_moves}
+use Rattle.repo_durable.proofs.Opened.{repo_of}
+use Rattle.repo_durable.specs.Kept.{is_torn_in}
+use Rattle.std.proofs.Common.{[]}
 use Rattle.repo_durable.proofs.stable.Stable.flush_into.Goals as goal
 
 pub put_flushed-requires-clause-opened : goal.put_flushed-requires-clause-opened
@@ -102,3 +106,20 @@ pub returns-in-Err-clause-page : goal.returns-in-Err-clause-page
 returns-in-Err-clause-page g c = λ r place wrong.
     damage_told (disks_of g.P.Parts.disks c.args.self.now) (fused_disks g.P.Parts.disks c.flush_one.new.parts) c.args.self.now.held.objects.pages.sides c.flush_one.new.self.objects.pages.sides c.args.self.now.held.objects.mob.objects c.flush_one.result c.in-Err.fault
     c.of_store.result _ r place c.in-Err.is (c.of_store.ensures.damaged r place) refl wrong c.flush_one.ensures.empty c.flush_one.ensures.damaged c.flush_one.ensures.content c.flush_one.ensures.sides
+
+pub returns-in-Ok-clause-map : goal.returns-in-Ok-clause-map
+returns-in-Ok-clause-map g c =
+    let store = c.args.self.now in
+    let mid = record store { parts = c.flush_one.new.parts; held = c.flush_one.new.self } in
+    let goes = goes_one (disks_of g.P.Parts.disks store) (fused_disks g.P.Parts.disks c.flush_one.new.parts) 2 c.flush_one.ensures.alone in
+    moves_then g.P.Parts.disks [] store mid c.put_flushed.new.self
+    (written_has g.P.Parts.disks store c.flush_one.new.parts c.flush_one.new.self goes.told c.flush_one.ensures.alone c.flush_one.ensures.any_moment c.read_is_left.ensures c.flush_one.ensures.said)
+    (λ whole. sym (ap is_torn_in c.put_flushed.ensures.phase) ∙ whole) (ap repo_of c.flush_one.ensures.held)
+    (written_moves g.P.Parts.disks store c.flush_one.new.parts c.flush_one.new.self goes.told c.flush_one.ensures.alone c.flush_one.ensures.any_moment c.read_is_left.ensures c.flush_one.ensures.said)
+    c.put_flushed.ensures.map
+
+pub returns-in-Err-clause-map : goal.returns-in-Err-clause-map
+returns-in-Err-clause-map g c =
+    let store = c.args.self.now in
+    let goes = goes_one (disks_of g.P.Parts.disks store) (fused_disks g.P.Parts.disks c.flush_one.new.parts) 2 c.flush_one.ensures.alone in
+    written_moves g.P.Parts.disks store c.flush_one.new.parts c.flush_one.new.self goes.told c.flush_one.ensures.alone c.flush_one.ensures.any_moment c.read_is_left-in-Err.ensures c.flush_one.ensures.said

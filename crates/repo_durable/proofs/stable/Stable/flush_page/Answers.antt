@@ -7,6 +7,8 @@ use Rattle.repo_durable.specs.Kept.{disks_of, parts_in}
 use Rattle.repo_durable.proofs.Readable.{back_has, out_has, whole_out}
 use Rattle.repo_durable.specs.Kept.{is_torn_in}
 use Rattle.repo_durable.specs.declared.stable.Phase.TheVariants.{Up}
+use Rattle.repo_durable.proofs.Mapping.{moves_back, moves_out}
+use Rattle.std.proofs.Common.{[]}
 use Rattle.repo_durable.proofs.stable.Stable.flush_page.Goals as goal
 
 pub returns-in-Ok-clause-says : goal.returns-in-Ok-clause-says
@@ -55,3 +57,15 @@ returns-in-Err-clause-never g c = λ r place wrong has.
     let mid = c.take_log.new.self in
     let was = out_has g.P.Parts.disks c.args.self.now mid c.in-Some.log taken.0 taken.1 has in
     c.flush_into.ensures.never r place (c.in-Err.is ∙ wrong) (whole_out c.args.self.now mid taken.1) was
+
+pub returns-in-Ok-clause-map : goal.returns-in-Ok-clause-map
+returns-in-Ok-clause-map g c =
+    let taken = c.in-Some.ensures.some in
+    let mid = c.take_log.new.self in
+    moves_out g.P.Parts.disks [] c.args.self.now mid c.set_phase.new.self c.in-Some.log taken.0 taken.1
+    (moves_back g.P.Parts.disks [] mid c.flush_into.new.self c.set_phase.new.self (Up c.flush_into.new.log) c.set_phase.ensures (ap is_torn_in c.flush_into.ensures.phase ∙ whole_out c.args.self.now mid taken.1) c.flush_into.ensures.map)
+
+pub returns-in-Err-clause-map : goal.returns-in-Err-clause-map
+returns-in-Err-clause-map g c =
+    let taken = c.in-Some.ensures.some in
+    moves_out g.P.Parts.disks [] c.args.self.now c.take_log.new.self c.flush_into.new.self c.in-Some.log taken.0 taken.1 c.flush_into.ensures.map

@@ -13,8 +13,9 @@ use Rattle.std.specs.BTreeMap.{insert_entry}
 use Rattle.std.specs.Ordering.{nat_cmp}
 use Rattle.repo_durable.proofs.Counting.{log_quiet}
 use Rattle.std.proofs.Common.{sym, ◌∙◌}
-use Rattle.repo_durable.proofs.Pages.{page_still}
+use Rattle.repo_durable.proofs.Pages.{agrees_still, page_still}
 use Rattle.repo_durable.proofs.Readable.{put_has, still_has}
+use Rattle.repo_durable.proofs.Mapping.{moves_read, put_moves}
 use Rattle.repo_durable.proofs.stable.Stable.put_flushed.Goals as goal
 
 pub returns-clause-opened : goal.returns-clause-opened
@@ -41,6 +42,7 @@ returns-in-Err-clause-images g c = λ says.
     (reach_still old now (insert_entry nat_cmp c.args.self.now.held.objects.pages.sides c.in-Installed.page c.in-Installed.side) c.installed.ensures.goes c.installed.ensures.still c.installed.ensures.pages
     (reach_flushed old c.args.log.now c.args.self.now.held last.0 c.in-Installed.page c.in-Installed.side c.requires.opened last.1))
     (page_still old now c.args.log.now c.args.self.now.held last.0 c.in-Installed.page c.in-Installed.side c.requires.opened last.1 c.installed.ensures.goes c.installed.ensures.still)
+    (agrees_still old now c.args.log.now c.args.self.now.held c.requires.opened c.installed.ensures.goes c.installed.ensures.still)
 
 pub returns-then-side-ge-SIDES-clause-images : goal.returns-then-side-ge-SIDES-clause-images
 returns-then-side-ge-SIDES-clause-images g c = λ says. images_of_log (disks_of g.P.Parts.disks c.args.self.now) c.args.log.now c.args.self.now.held c.args.self.now.held says refl (reach_open (disks_of g.P.Parts.disks c.args.self.now) c.args.log.now c.args.self.now.held c.requires.opened)
@@ -59,3 +61,13 @@ returns-clause-readable g c = λ has.
 pub returns-in-Err-clause-readable : goal.returns-in-Err-clause-readable
 returns-in-Err-clause-readable g c = λ has.
     still_has g.P.Parts.disks c.args.self.now (record c.args.self.now { parts = c.installed.new.parts }) c.installed.ensures.goes.told c.installed.ensures.pages refl (λ whole. whole) has
+
+pub returns-clause-map : goal.returns-clause-map
+returns-clause-map g c =
+    let last = subst (IsLastFlush c.args.self.now.held) c.in-Installed.is c.requires.last in
+    put_moves g.P.Parts.disks c.args.self.now c.installed.new.parts c.settle.new.self c.args.log.now last.0 c.in-Installed.page c.in-Installed.side c.installed.ensures.pages c.requires.opened last.1 c.settle.ensures.said
+
+pub returns-in-Err-clause-map : goal.returns-in-Err-clause-map
+returns-in-Err-clause-map g c =
+    let store = c.args.self.now in
+    moves_read g.P.Parts.disks store c.installed.new.parts store.held c.installed.ensures.pages refl

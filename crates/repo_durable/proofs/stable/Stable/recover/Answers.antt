@@ -34,7 +34,7 @@ returns-in-Ok-Some-clause-found g c =
     let more = more_then old mid read (more_run old mid c.restart_all.ensures.any_moment) (more_run mid read c.recover-found.ensures.any_moment) in
     let holds = rw c.in-Ok-Some.field-0-is at c.in-Ok-Some.ensures.holds in
     let finds = finds_one old read c.in-Ok-Some.recovered.log held (recorded c.in-Ok-Some.recovered) more holds c.content_is_left.ensures in
-    if_ok_on c.current.result (λ r. said r.state ≡ recorded c.in-Ok-Some.recovered) (λ r. FindsOneOf old now held (said r.state)) (λ r same. subst (λ (s : State). FindsOneOf old now held s) (sym same) (finds_then old read now held (recorded c.in-Ok-Some.recovered) c.current.ensures.crash finds)) c.current.ensures.same
+    if_ok_on c.current.result (λ r. said r.state ≡ recorded c.in-Ok-Some.recovered) (λ r. FindsOneOf old now held (said r.state)) (λ r same. subst (λ (s : State). FindsOneOf old now held s) (sym same) (finds_then old read now held (recorded c.in-Ok-Some.recovered) c.current.ensures.crash c.current.ensures.content finds)) c.current.ensures.same
 
 pub returns-in-Ok-None-clause-crash : goal.returns-in-Ok-None-clause-crash
 returns-in-Ok-None-clause-crash g c =

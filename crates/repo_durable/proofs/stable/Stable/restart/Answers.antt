@@ -15,12 +15,19 @@ use Rattle.repo_durable.specs.declared.stable.Stable.{Stable}
 use Rattle.repo_durable.specs.Taking.{TakesFrom}
 use Rattle.log_entries.specs.declared.entry.Entry.{Entry}
 use Rattle.repo_state.specs.declared.held.Held.{Held}
-use Rattle.std.proofs.Common.{IfErr, IfOk, IsErrOf, Option, ap, false, refl, rules, subst, sym, ◌∙◌, ◌≡◌}
+use Rattle.std.proofs.Common.{IfErr, IfOk, IsErrOf, Option, ap, arith, false, refl, rules, subst, sym, ◌∙◌, ◌≡◌}
 use Rattle.repo_refusals.specs.declared.refusal.Refusal.TheVariants.{Damaged as IsDamaged, Stopped as IsStopped}
 use Rattle.repo_durable.proofs.Counting.{err_through, if_err_any, stays_none}
 use Rattle.disk_trait.specs.AllDisks.{NoFault}
 use Rattle.repo_durable.proofs.Lowered.{none_up}
 use Rattle.repo_durable.proofs.Readable.{armed_has, restarted_has, stayed_has, torn_never}
+use Rattle.repo_durable.proofs.Mapping.{if_ok_three, restart_moves, stay_moves}
+use Rattle.repo_durable.proofs.Readable.{never_torn}
+use Rattle.repo_durable.specs.Agreeing.{held_behind, numbers_of}
+use Rattle.repo_durable.specs.Kept.{is_torn}
+use Rattle.repo_durable.specs.Mapping.{MovesMap, taken_writes}
+use Rattle.repo_durable.specs.Pages.{HasPages}
+use Rattle.std.proofs.Common.{[]}
 use Rattle.repo_durable.proofs.stable.Stable.restart.Goals as goal
 
 pub returns-in_err-recovered-clause-stays_said : goal.returns-in_err-recovered-clause-stays_said
@@ -54,7 +61,9 @@ returns-in-Down-clause-damaged g c = λ r place is said_old tells.
     let is_down = c.take_down.ensures.says (said_armed g.P.Parts.disks c.args.self.now c.disarm.new.self 0 c.disarm.ensures said_old) in
     let told = tells_down g.P.Parts.disks _ c.take_down.new.self c.take_down.ensures.new (tells_armed g.P.Parts.disks c.args.self.now c.disarm.new.self 0 c.disarm.ensures tells) in
     let down = sym c.recover.ensures.phase ∙ (sym c.replace.ensures.value ∙ c.in-Down.is) in
-    c.take_over.ensures.damaged r place is (restart_finds g.P.Parts.disks c.take_down.new.self c.recover.new.self c.in-Down.pending (said c.in_ok-recovered.recovered.state) is_down down c.recover.ensures.held c.in_ok-recovered.ensures.found (c.recover.ensures.crash.goes_on told))
+    let tells = c.recover.ensures.crash.goes_on told in
+    let pages = tells 2 (omega arith) in
+    c.take_over.ensures.damaged r place is pages.0 (restart_finds g.P.Parts.disks c.take_down.new.self c.recover.new.self c.in-Down.pending (said c.in_ok-recovered.recovered.state) is_down down c.recover.ensures.held c.in_ok-recovered.ensures.found tells pages.0 pages.1)
 
 pub returns-in-Down-clause-pending : goal.returns-in-Down-clause-pending
 returns-in-Down-clause-pending g c =
@@ -169,3 +178,59 @@ returns-then-is_torn-clause-readable g c = λ is has. c.take_down.ensures.readab
 
 pub returns-in-Up-clause-stays_said : goal.returns-in-Up-clause-stays_said
 returns-in-Up-clause-stays_said g c = λ is. absurd (none_up c.args.self.now.phase c.in-Up.log (sym (ap phase_of c.take_down.ensures.new) ∙ (sym c.recover.ensures.phase ∙ (sym c.replace.ensures.value ∙ c.in-Up.is))))
+
+pub returns-in-Down-clause-map : goal.returns-in-Down-clause-map
+returns-in-Down-clause-map g c = λ is.
+    let disks = g.P.Parts.disks in
+    let store = c.args.self.now in
+    let lowered_store = c.take_down.new.self in
+    let new = c.take_over.new.self in
+    let is_down = c.take_down.ensures.says (said_armed disks store c.disarm.new.self 0 c.disarm.ensures is) in
+    let down = sym c.recover.ensures.phase ∙ (sym c.replace.ensures.value ∙ c.in-Down.is) in
+    if_ok_three c.take_over.result _ _ _ _ c.take_over.ensures.pending c.take_over.ensures.numbers c.take_over.ensures.objects
+    (λ t from numbers objects.
+    subst (λ (h : Held). MovesMap (HasPages disks store) (is_torn new) (taken_writes h t) ((disks_of disks store).content 2) h ((disks_of disks new).content 2) (held_of new)) (ap held_of c.take_down.ensures.new)
+    (before_down disks store lowered_store c.disarm.new.self (λ (d : Disks). MovesMap (HasPages disks store) (is_torn new) (taken_writes (held_of lowered_store) t) (d.content 2) (held_of lowered_store) ((disks_of disks new).content 2) (held_of new)) c.disarm.ensures c.take_down.ensures.new
+    (restart_moves disks lowered_store c.recover.new.self new (HasPages disks store) c.in-Down.pending c.in_ok-recovered.recovered.state t
+    (λ has. c.take_down.ensures.readable (armed_has disks store c.disarm.new.self 0 c.disarm.ensures has)) c.take_down.ensures.kept is_down down c.recover.ensures.left c.recover.ensures.goes c.in_ok-recovered.ensures.found from
+    (subst (λ (h : Held). numbers_of c.in_ok-recovered.recovered.state ≡ numbers_of (held_behind h t)) c.recover.ensures.held numbers) c.take_over.ensures.parts objects)))
+
+pub returns-in-Down-clause-map_stays : goal.returns-in-Down-clause-map_stays
+returns-in-Down-clause-map_stays g c = λ is.
+    let disks = g.P.Parts.disks in
+    let store = c.args.self.now in
+    let lowered_store = c.take_down.new.self in
+    let new = c.take_over.new.self in
+    let is_down = c.take_down.ensures.says (said_armed disks store c.disarm.new.self 0 c.disarm.ensures is) in
+    on_err_two c.take_over.result _ _ _ c.take_over.ensures.rests c.take_over.ensures.stays
+    (λ held phase.
+    subst (λ (h : Held). MovesMap (HasPages disks store) (is_torn new) [] ((disks_of disks store).content 2) h ((disks_of disks new).content 2) (held_of new)) (ap held_of c.take_down.ensures.new)
+    (before_down disks store lowered_store c.disarm.new.self (λ (d : Disks). MovesMap (HasPages disks store) (is_torn new) [] (d.content 2) (held_of lowered_store) ((disks_of disks new).content 2) (held_of new)) c.disarm.ensures c.take_down.ensures.new
+    (stay_moves disks lowered_store c.recover.new.self new (HasPages disks store) store.phase
+    (λ has. c.take_down.ensures.readable (armed_has disks store c.disarm.new.self 0 c.disarm.ensures has)) is_down (ap phase_of c.take_down.ensures.new) (sym c.is_torn.ensures ∙ c.if-is_torn.false) c.recover.ensures.left c.recover.ensures.goes c.take_over.ensures.parts (held ∙ c.recover.ensures.held))))
+
+pub returns-in_err-recovered-clause-map_stays : goal.returns-in_err-recovered-clause-map_stays
+returns-in_err-recovered-clause-map_stays g c = λ is.
+    let disks = g.P.Parts.disks in
+    let store = c.args.self.now in
+    let lowered_store = c.take_down.new.self in
+    let new = c.recover.new.self in
+    let is_down = c.take_down.ensures.says (said_armed disks store c.disarm.new.self 0 c.disarm.ensures is) in
+    on_err_any c.from_residual.result _
+    (subst (λ (h : Held). MovesMap (HasPages disks store) (is_torn new) [] ((disks_of disks store).content 2) h ((disks_of disks new).content 2) (held_of new)) (ap held_of c.take_down.ensures.new)
+    (before_down disks store lowered_store c.disarm.new.self (λ (d : Disks). MovesMap (HasPages disks store) (is_torn new) [] (d.content 2) (held_of lowered_store) ((disks_of disks new).content 2) (held_of new)) c.disarm.ensures c.take_down.ensures.new
+    (stay_moves disks lowered_store new new (HasPages disks store) store.phase
+    (λ has. c.take_down.ensures.readable (armed_has disks store c.disarm.new.self 0 c.disarm.ensures has)) is_down (ap phase_of c.take_down.ensures.new) (sym c.is_torn.ensures ∙ c.if-is_torn.false) c.recover.ensures.left c.recover.ensures.goes refl c.recover.ensures.held)))
+
+pub returns-then-is_torn-clause-map_stays : goal.returns-then-is_torn-clause-map_stays
+returns-then-is_torn-clause-map_stays g c = λ is.
+    let disks = g.P.Parts.disks in
+    let store = c.args.self.now in
+    let new = c.take_down.new.self in
+    record { moves = λ told whole disk image was now'. absurd (never_torn (sym (sym c.is_torn.ensures ∙ c.if-is_torn.true) ∙ whole)) }
+
+pub returns-in-Up-clause-map_stays : goal.returns-in-Up-clause-map_stays
+returns-in-Up-clause-map_stays g c = λ is. absurd (none_up c.args.self.now.phase c.in-Up.log (sym (ap phase_of c.take_down.ensures.new) ∙ (sym c.recover.ensures.phase ∙ (sym c.replace.ensures.value ∙ c.in-Up.is))))
+
+pub returns-in-Torn-clause-map_stays : goal.returns-in-Torn-clause-map_stays
+returns-in-Torn-clause-map_stays g c = λ is. absurd (torn_never c.take_down.new.self c.in-Torn.entry (sym c.is_torn.ensures ∙ c.if-is_torn.false) (sym c.recover.ensures.phase ∙ (sym c.replace.ensures.value ∙ c.in-Torn.is)))

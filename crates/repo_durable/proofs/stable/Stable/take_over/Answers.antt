@@ -23,14 +23,14 @@ returns-in-WithPending-Some-clause-says g c = λ one.
     returned_pending g.P.Parts.disks c.args.self.now up.new.self c.args.recovered.state c.args.recovered.log c.args.pending c.in-WithPending-Some.entry c.in-WithPending-Some.is-1 up.ensures.parts up.ensures.phase up.ensures.held up.ensures.objects numbers c.requires.stands one
 
 pub returns-in_default-clause-damaged : goal.returns-in_default-clause-damaged
-returns-in_default-clause-damaged g c = λ r place wrong one. elim c.in_default-1.branch [
+returns-in_default-clause-damaged g c = λ r place wrong image one. elim c.in_default-1.branch [
   | in_default-via-in-WithPending+in-None-1 w ↦
       (let found : c.compare-agrees.result ≡ WithPending = search rules in
       let none : c.args.pending ≡ None = search rules in
       none_pending c.args.pending (c.compare-agrees.ensures.was_pending found) none)
   | in_default-via-in-Neither-1 w ↦
       (let found : c.compare-agrees.result ≡ Neither = search rules in
-      neither_of c.args.recovered.state c.args.self.now.held c.args.pending c.requires.rests.keeps (c.compare-agrees.ensures.neither found) (c.compare-agrees.ensures.nor_pending found) one)
+      neither_of c.args.recovered.state c.args.self.now.held c.args.pending image c.requires.rests.keeps (c.compare-agrees.ensures.neither found) (c.compare-agrees.ensures.nor_pending found) one)
 ]
 
 pub returns-in-WithPending-Some-clause-enters : goal.returns-in-WithPending-Some-clause-enters
@@ -49,3 +49,9 @@ returns-in-WithPending-Some-clause-readable g c = λ found held.
 
 pub returns-in_default-clause-readable : goal.returns-in_default-clause-readable
 returns-in_default-clause-readable g c = λ found held. rests_has g.P.Parts.disks c.args.self.now c.set_phase.new.self c.args.pending c.set_phase.ensures held
+
+pub returns-in-AsHeld-default-clause-numbers : goal.returns-in-AsHeld-default-clause-numbers
+returns-in-AsHeld-default-clause-numbers g c = c.compare-agrees.ensures.held c.in-AsHeld-default.is-0
+
+pub returns-in-WithPending-Some-clause-numbers : goal.returns-in-WithPending-Some-clause-numbers
+returns-in-WithPending-Some-clause-numbers g c = subst (λ (p : Option Entry). IfSome p (λ e. numbers_of c.args.recovered.state ≡ numbers_of (entered c.args.self.now.held e))) c.in-WithPending-Some.is-1 (c.compare-agrees.ensures.pending c.in-WithPending-Some.is-0)
