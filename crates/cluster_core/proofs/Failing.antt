@@ -7,14 +7,9 @@ use Rattle.cluster_port.specs.Failing.{HasFailed, NoneFell}
 use Rattle.cluster_port.specs.Sited.{Sited}
 use Rattle.disk_trait.specs.AllDisks.{GoesOn}
 use Rattle.disk_trait.specs.Disks.{Disks, Rose}
-use Rattle.recovery.specs.declared.fault.RecoverFault.TheVariants as recovered
-use Rattle.recovery.specs.declared.fault.RecoverFault.{RecoverFault}
 use Rattle.repo_core.proofs.DiskFaults.{failed_after, failed_before, fell_fewer, fell_then as falls_then}
 use Rattle.repo_core.specs.Shown.{faults_of}
-use Rattle.repo_opening.specs.Told.{fault_of}
 use Rattle.repo_opening.specs.Unsound.{Failing}
-use Rattle.repo_opening.specs.declared.unopened.Unopened.TheVariants.{Damaged, Failed, NoMemory}
-use Rattle.repo_opening.specs.declared.unopened.Unopened.{Unopened}
 use Rattle.std.proofs.Common.{Err, List, Ok, OnOk, Result, [], ap, false, length, refl, slice_get, subst, suc, sym, true, ℕ, ◌++◌, ◌∙◌, ◌∷◌, ◌≡◌}
 use Rattle.std.proofs.lemmas.List.{append-nil}
 use Rattle.std.specs.List.{AllZip}
@@ -139,15 +134,7 @@ failed_settling disks given back old new r each f counted =
       failing = failing_is (disks b.other) (disks a.other) (failed_before (faults_in disks b.other) (faults_of f.behind.shown) (faults_in disks a.other) (failed_after (faults_in disks b.other) (faults_of f.before.shown) (faults_of f.behind.shown) b.holds f.failed) a.holds);
     }
 
--- ---- the fault of a recovery
+-- ---- what was answered
 
 pub same_err : {T E : Type 0} (r : Result T E) (a b : E) → r ≡ Err a → r ≡ Err b → a ≡ b
 same_err r a b is e = cc
-
-pub recover_failed : (number r : ℕ) (fault : RecoverFault) → fault_of number fault ≡ Failed r → (r ≡ number) × ((d : ℕ) × (fault ≡ recovered.Failed d))
-recover_failed number r (recovered.Failed d) is = (sym (same number r is), (d, refl))
-  where
-    same : (a b : ℕ) → Failed a ≡ Failed b → a ≡ b
-    same a b e = cc
-recover_failed number r (recovered.Damaged d place) is = absurd (cc)
-recover_failed number r recovered.NoMemory is = absurd (cc)

@@ -6,9 +6,10 @@ ghost use Rattle.cluster_core.specs.Seated.{AreBegun, AreRecovered, AreSeated, B
 ghost use Rattle.repo_opening.specs.Recovered.{IsRecovered};
 ghost use Rattle.cluster_port.specs.Failing.{NoneFell};
 ghost use Rattle.cluster_port.specs.Sited.{BeginsNew};
+ghost use Rattle.recovery.specs.declared.fault.RecoverFault.TheVariants.{Failed as DiskFailed};
 ghost use Rattle.repo_opening.specs.declared.unopened.Unopened.TheVariants.{Failed};
 ghost use Rattle.store_opening.specs.Failing.{AreCalled, FailsAt};
-ghost use Rattle.std.specs.Prelude.{IfErr, IfOk, IsErrOf, IsOk, IsTrue, List, OnOk, vec_capacity, vec_len, ℕ, ◌≡◌, ◌≤◌, ◌⊎◌};
+ghost use Rattle.std.specs.Prelude.{IfErr, IfOk, IsErrOf, IsOk, IsTrue, List, OnOk, vec_capacity, vec_len, ℕ, ◌<◌, ◌≡◌, ◌≤◌, ◌⊎◌};
 ghost use Rattle.store_opening.specs.Counts.{parts_in};
 
 use crate::cluster::Cluster;
@@ -19,8 +20,8 @@ use class_defs::{Schemas, Setup};
 use cluster_port::{Opening, Site};
 use disk_trait::Parts;
 use front_end::{FrontEnd, Items, Opened};
-use recovery::migrate;
-use repo_opening::{Known, Unopened, fault_of, number_at};
+use recovery::{RecoverFault, migrate};
+use repo_opening::{Known, Unopened, number_at};
 use std::alloc::Global;
 use store_opening::{Closed, ClusterFault, Found};
 use thor_value::{NoMemory, both};
@@ -374,9 +375,34 @@ fn open_known<P: Parts, O: Opening>(
         Ok(recovered) => Seat::of(number, Site::open(alloc, parts, recovered, number, repos)),
         Err(fault) => (
             Seat::Closed(Closed::Parts(parts)),
-            Err(fault_of(number, fault)),
+            Err(unmoved(number, fault)),
         ),
     }
+}
+
+/// What is told of a repository that couldn't be moved into the newer format. It has three disks, and no other fails.
+fn unmoved(number: u8, fault: RecoverFault) -> Unopened
+    ensures { (r : ℕ) → result ≡ Failed r → (r ≡ number) × ((d : ℕ) × ((d < 3) × (fault ≡ DiskFailed d))) }
+{
+    match fault {
+        RecoverFault::Failed { disk } => failed_on(number, disk),
+        RecoverFault::Damaged { disk, place } => Unopened::Damaged {
+            repo: number,
+            disk,
+            place,
+        },
+        RecoverFault::NoMemory => Unopened::NoMemory,
+    }
+}
+
+/// What is told of a repository of which this disk failed.
+fn failed_on(number: u8, disk: u8) -> Unopened
+    ensures { (r : ℕ) → result ≡ Failed r → (r ≡ number) × (disk < 3) }
+{
+    if disk < 3 {
+        return Unopened::Failed { repo: number };
+    }
+    Unopened::NoMemory
 }
 
 /// Formats every repository of a store that was found fresh.

@@ -72,7 +72,6 @@ pub fn migrate<P: Parts>(
     ensures clock { (P.disks parts.new).clock ≡ (P.disks parts.old).clock }
     ensures damaged { (d place : ℕ) → IsErrOf result (Damaged d place) → TellsAll (P.disks parts.old) → ⊥ }
     ensures failed { (d : ℕ) → IsErrOf result (Failed d) → Rose ((P.disks parts.old).faults d) ((P.disks parts.new).faults d) }
-    ensures within { (d : ℕ) → IsErrOf result (Failed d) → d < 3 }
     ensures steady { OnOk result (NoFault (P.disks parts.old) (P.disks parts.new)) }
     ensures wanting { IsErrOf result OutOfMemory → NoFault (P.disks parts.old) (P.disks parts.new) }
 {
@@ -107,7 +106,6 @@ fn move_older<P: Parts>(
     ensures clock { (P.disks parts.new).clock ≡ (P.disks parts.old).clock }
     ensures damaged { (d place : ℕ) → IsErrOf result (Damaged d place) → TellsAll (P.disks parts.old) → ⊥ }
     ensures failed { (d : ℕ) → IsErrOf result (Failed d) → Rose ((P.disks parts.old).faults d) ((P.disks parts.new).faults d) }
-    ensures within { (d : ℕ) → IsErrOf result (Failed d) → d < 3 }
     ensures steady { OnOk result (NoFault (P.disks parts.old) (P.disks parts.new)) }
     ensures wanting { IsErrOf result OutOfMemory → NoFault (P.disks parts.old) (P.disks parts.new) }
 {
@@ -164,7 +162,6 @@ fn begin_older<P: Parts>(
     ensures clock { (P.disks parts.new).clock ≡ (P.disks parts.old).clock }
     ensures damaged { (d place : ℕ) → IsErrOf result (Damaged d place) → ⊥ }
     ensures failed { (d : ℕ) → IsErrOf result (Failed d) → Rose ((P.disks parts.old).faults d) ((P.disks parts.new).faults d) }
-    ensures within { (d : ℕ) → IsErrOf result (Failed d) → d < 3 }
     ensures steady { OnOk result (NoFault (P.disks parts.old) (P.disks parts.new)) }
     ensures wanting { IsErrOf result OutOfMemory → NoFault (P.disks parts.old) (P.disks parts.new) }
 {
@@ -213,7 +210,6 @@ fn begin<P: Parts>(
     ensures clock { (P.disks parts.new).clock ≡ (P.disks parts.old).clock }
     ensures damaged { (d place : ℕ) → IsErrOf result (Damaged d place) → ⊥ }
     ensures failed { (d : ℕ) → IsErrOf result (Failed d) → Rose ((P.disks parts.old).faults d) ((P.disks parts.new).faults d) }
-    ensures within { (d : ℕ) → IsErrOf result (Failed d) → d < 3 }
     ensures steady { OnOk result (NoFault (P.disks parts.old) (P.disks parts.new)) }
     ensures wanting { IsErrOf result OutOfMemory → NoFault (P.disks parts.old) (P.disks parts.new) }
 {
@@ -434,7 +430,6 @@ fn begin_log<P: Parts>(
     ensures clock { (P.disks parts.new).clock ≡ (P.disks parts.old).clock }
     ensures damaged { (d place : ℕ) → IsErrOf result (Damaged d place) → ⊥ }
     ensures failed { (d : ℕ) → IsErrOf result (Failed d) → Rose ((P.disks parts.old).faults d) ((P.disks parts.new).faults d) }
-    ensures within { (d : ℕ) → IsErrOf result (Failed d) → d < 3 }
     ensures steady { OnOk result (NoFault (P.disks parts.old) (P.disks parts.new)) }
     ensures wanting { IsErrOf result OutOfMemory → NoFault (P.disks parts.old) (P.disks parts.new) }
 {

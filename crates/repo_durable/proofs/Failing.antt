@@ -10,9 +10,11 @@ use Rattle.repo_durable.specs.declared.stable.Phase.TheVariants.{Down, Torn, Up}
 use Rattle.repo_durable.specs.declared.stable.Phase.{Phase}
 use Rattle.repo_durable.specs.declared.stable.Stable.{Stable}
 use Rattle.page_store.specs.Store.{IsDamage}
+use Rattle.std.proofs.lemmas.Bool.{cases_lt}
+use Rattle.std.proofs.lemmas.List.Sums.{get_or-le-sum_by}
 use Rattle.std.specs.List.{sum}
 use Rattle.std.specs.Prelude.{slice_get}
-use Rattle.std.proofs.Common.{Bool, IfSome, List, None, [], ap, arith, false, refl, slice_index, subst, suc, sym, true, zero, ℕ, ◌<◌, ◌≤◌, ◌∙◌, ◌∷◌, ◌≡◌}
+use Rattle.std.proofs.Common.{Bool, IfSome, List, None, [], ap, arith, false, inl, inr, length, refl, slice_index, subst, suc, sym, true, zero, ℕ, ◌<◌, ◌≤◌, ◌∙◌, ◌∷◌, ◌≡◌}
 
 -- a disk failed behind calls
 pub failed_behind : (old mid new : ℕ → ℕ) → NoFewer old mid → HasFailed mid new → HasFailed old new
@@ -112,10 +114,16 @@ failed_before old mid new failed then = record {
 pub fell_fused : {P : Type 0} (disks : P → Disks) (parts : P) (fused : Fused P) → parts_of fused ≡ parts → NoneFell (disks parts).faults (fused_disks disks fused).faults
 fell_fused {P = P} disks parts fused same = subst (λ (p : P). NoneFell (disks p).faults (fused_disks disks fused).faults) same (record { each = λ d within small. omega (arith, small) })
 
+past : (falls : List ℕ) (d : ℕ) → length falls ≤ d → slice_index falls d ≡ 0
+past [] d out = refl
+past (n ∷ falls) zero out = absurd (omega (arith, out))
+past (n ∷ falls) (suc d) out = past falls d (omega (arith, out))
+
 none_of : (falls : List ℕ) (d : ℕ) → sum falls ≡ 0 → slice_index falls d ≡ 0
-none_of [] d none = refl
-none_of (n ∷ falls) zero none = omega (arith, none)
-none_of (n ∷ falls) (suc d) none = none_of falls d (omega (arith, none))
+none_of falls d none = elim (cases_lt d (length falls)) [
+  | inl within ↦ (let least : slice_index falls d ≤ sum falls = get_or-le-sum_by (λ n. n) falls d 0 within in omega (arith, least, none))
+  | inr out ↦ past falls d out
+]
 
 -- where it never fell, they are those of the parts
 pub fell_inside : {P : Type 0} (disks : P → Disks) (fused : Fused P) → fell_of fused ≡ 0 → NoneFell (fused_disks disks fused).faults (disks (parts_of fused)).faults

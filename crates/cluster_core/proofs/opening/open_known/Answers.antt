@@ -1,4 +1,4 @@
-use Rattle.cluster_core.proofs.Failing.{goes_fell, recover_failed, same_err}
+use Rattle.cluster_core.proofs.Failing.{goes_fell, same_err}
 use Rattle.cluster_core.proofs.Recovered.{begun_moved}
 use Rattle.cluster_core.specs.Failing.{faults_in}
 use Rattle.cluster_core.specs.Seated.{IsBegunBy}
@@ -44,7 +44,7 @@ pub returns-in-Err-clause-failed : goal.returns-in-Err-clause-failed
 returns-in-Err-clause-failed g c = λ r is.
     let disks = g.P.Parts.disks in
     let was : disks c.args.known.parts ≡ disks c.into_recovered-parts.result.0 = subst (λ p. disks c.args.known.parts ≡ disks p) (sym c.into_recovered-parts.ensures.parts) refl in
-    let told : c.fault_of.result ≡ Failed r = same_err _ c.fault_of.result (Failed r) refl is in
-    let by = recover_failed c.args.number r c.in-Err.fault (sym c.fault_of.ensures ∙ told) in
-    let wrong : IsErrOf c.migrate.result (recovered.Failed by.1.0) = c.in-Err.is ∙ ap (λ (f : RecoverFault). Err f) by.1.1 in
-    (by.0, subst (λ (d : Disks). HasFailed d.faults (disks c.migrate.new.parts).faults) (sym was) (record { disk = by.1.0; within = c.migrate.ensures.within by.1.0 wrong; rose = c.migrate.ensures.failed by.1.0 wrong }))
+    let told : c.unmoved.result ≡ Failed r = same_err _ c.unmoved.result (Failed r) refl is in
+    let by = c.unmoved.ensures r told in
+    let wrong : IsErrOf c.migrate.result (recovered.Failed by.1.0) = c.in-Err.is ∙ ap (λ (f : RecoverFault). Err f) by.1.1.1 in
+    (by.0, subst (λ (d : Disks). HasFailed d.faults (disks c.migrate.new.parts).faults) (sym was) (record { disk = by.1.0; within = by.1.1.0; rose = c.migrate.ensures.failed by.1.0 wrong }))

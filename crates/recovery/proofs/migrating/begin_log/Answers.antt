@@ -1,4 +1,4 @@
-use Rattle.std.proofs.Common.{◌≡◌, Err, Result, ap, arith, refl, subst, sym, ℕ, ◌∙◌}
+use Rattle.std.proofs.Common.{◌≡◌, Err, Result, ap, refl, subst, sym, ℕ, ◌∙◌}
 use Rattle.commit_log.proofs.Checkpoints.{none_keeps}
 use Rattle.commit_log.specs.Holds.{beside}
 use Rattle.disk_trait.proofs.Several.{goes_none}
@@ -33,10 +33,3 @@ pub returns-in-Err-clause-wanting : goal.returns-in-Err-clause-wanting
 returns-in-Err-clause-wanting g c = λ is.
     let e : c.log_fault.result ≡ recovered.NoMemory = same_err _ c.log_fault.result recovered.NoMemory refl is in
     c.checkpoint.ensures.wanting (c.in-Err.is ∙ ap (λ (f : LogFault). Err f) (log_memory _ c.in-Err.fault (sym c.log_fault.ensures ∙ e)))
-
-pub returns-in-Err-clause-within : goal.returns-in-Err-clause-within
-returns-in-Err-clause-within g c = λ d is.
-    let e : c.log_fault.result ≡ recovered.Failed d = same_err _ c.log_fault.result (recovered.Failed d) refl is in
-    let f = log_failed _ c.in-Err.fault d (sym c.log_fault.ensures ∙ e) in
-    let there : beside c.args.log.disk ≡ d = ap beside (sym c.disk-on.ensures.value) ∙ f.0 in
-    omega (arith, there)

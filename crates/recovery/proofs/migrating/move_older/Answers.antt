@@ -1,4 +1,4 @@
-use Rattle.std.proofs.Common.{IsErrOf, arith, refl, rules, subst, sym, ℕ, ◌∙◌}
+use Rattle.std.proofs.Common.{IsErrOf, refl, rules, subst, sym, ℕ, ◌∙◌}
 use Rattle.disk_trait.proofs.Several.{goes_then}
 use Rattle.disk_trait.specs.Disks.{Rose}
 use Rattle.log_codec.specs.declared.state.State.{State}
@@ -103,11 +103,3 @@ returns-in-Err-clause-failed g c = λ d is. (let f = c.moved_state.ensures.faile
 
 pub returns-in-Err-clause-wanting : goal.returns-in-Err-clause-wanting
 returns-in-Err-clause-wanting g c = λ is. reads_steady (g.P.Parts.disks c.args.parts.now) (g.P.Parts.disks c.moved_state.new.parts) c.moved_state.ensures.stays (c.moved_state.ensures.wanting (err_at c.moved_state.result _ c.in-Err.fault NoMemory c.in-Err.is refl is))
-
-pub returns-in_err-state-in-Ok-clause-within : goal.returns-in_err-state-in-Ok-clause-within
-returns-in_err-state-in-Ok-clause-within g c = λ d is.
-    let wrong : IsErrOf c.begin_older.result (Failed d) = search rules in
-    c.begin_older.ensures.within d wrong
-
-pub returns-in-Err-clause-within : goal.returns-in-Err-clause-within
-returns-in-Err-clause-within g c = λ d is. (let f = c.moved_state.ensures.failed d (err_at c.moved_state.result _ c.in-Err.fault (Failed d) c.in-Err.is refl is) in omega (arith, f.0))
