@@ -1,7 +1,9 @@
 //! The system on one thread.
 
+ghost use Rattle.cluster_core.specs.Failing.{HaveCounted};
 ghost use Rattle.cluster_port.specs.Lent.{AreInPlace};
-ghost use Rattle.std.specs.Prelude.{vec_capacity, vec_len, ◌≡◌, ◌≤◌};
+ghost use Rattle.repo_opening.specs.declared.unopened.Unopened.TheVariants.{Failed};
+ghost use Rattle.std.specs.Prelude.{false, vec_capacity, vec_len, ℕ, ◌≡◌, ◌≤◌};
 
 use cluster_port::{Opening, Site};
 use disk_trait::Parts;
@@ -39,7 +41,8 @@ impl<P: Parts, O: Opening> Cluster<P, O> {
 
     /// A store that couldn't be settled, with its parts.
     pub(crate) fn give_back(self, why: Unopened) -> ClusterFault<P>
-        ensures { vec_len result.parts ≡ vec_len self.sites }
+        ensures count { vec_len result.parts ≡ vec_len self.sites }
+        ensures failed { (r : ℕ) → result.why ≡ Failed r → (why ≡ Failed r) × HaveCounted P.disks self.sites.items result.parts.items }
     {
         let Cluster {
             sites,
@@ -50,24 +53,39 @@ impl<P: Parts, O: Opening> Cluster<P, O> {
         } = self;
         drop(clients);
         drop(opened);
-        ClusterFault {
-            parts: give_back(sites, spare),
-            why,
-        }
+        let (parts, why) = give_back(sites, spare, why);
+        ClusterFault { parts, why }
     }
 }
 
-/// The parts of all repositories, put into a vector that is empty and has room for them.
-fn give_back<P: Parts, O: Opening>(sites: Vec<Site<P, O>>, spare: Vec<P>) -> Vec<P>
+/// The parts of all repositories, put into a vector that is empty and has room for them, and why the store wasn't opened.
+fn give_back<P: Parts, O: Opening>(
+    sites: Vec<Site<P, O>>,
+    spare: Vec<P>,
+    why: Unopened,
+) -> (Vec<P>, Unopened)
     requires empty { vec_len spare ≡ 0 }
     requires room { vec_len sites ≤ vec_capacity spare }
-    ensures { vec_len result ≡ vec_len sites }
+    ensures count { vec_len result.0 ≡ vec_len sites }
+    ensures failed { (r : ℕ) → result.1 ≡ Failed r → (why ≡ Failed r) × HaveCounted P.disks sites.items result.0.items }
 {
     let mut parts = spare;
+    let mut why = why;
     for site in sites {
-        let (part, trace) = site.close();
-        drop(trace);
+        let (part, has_fallen) = site.into_parts();
         parts.push_reserved(part);
+        why = unless_fallen(why, has_fallen);
     }
-    parts
+    (parts, why)
+}
+
+/// Why a store wasn't opened. Where a stop fell it isn't the disks' fault: none is armed while a store is opened.
+fn unless_fallen(why: Unopened, has_fallen: bool) -> Unopened
+    ensures same { (r : ℕ) → result ≡ Failed r → why ≡ Failed r }
+    ensures whole { (r : ℕ) → result ≡ Failed r → has_fallen ≡ false }
+{
+    if has_fallen {
+        return Unopened::NoMemory;
+    }
+    why
 }

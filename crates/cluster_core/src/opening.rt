@@ -1,10 +1,15 @@
 //! A store is opened: formatted, or begun with a Life, and then settled.
 
 ghost use Rattle.cluster_core.specs.Counts.{parts_of, schemas_of};
+ghost use Rattle.cluster_core.specs.Failing.{FailedOn, HasFailedOn, NoneFellIn, NoneFellOn, faults_at, faults_in, faults_on};
 ghost use Rattle.cluster_core.specs.Seated.{AreBegun, AreRecovered, AreSeated, Begins, BeginsOver, IsBegun, IsBegunBy, IsFound, IsFoundIn, IsNew, IsRecoveredAt, IsSeatedAt};
 ghost use Rattle.repo_opening.specs.Recovered.{IsRecovered};
+ghost use Rattle.cluster_port.specs.Failing.{NoneFell};
 ghost use Rattle.cluster_port.specs.Sited.{BeginsNew};
-ghost use Rattle.std.specs.Prelude.{IfErr, IfOk, IsOk, IsTrue, OnOk, vec_capacity, vec_len, ℕ, ◌≡◌, ◌≤◌};
+ghost use Rattle.recovery.specs.declared.fault.RecoverFault.TheVariants.{Failed as DiskFailed};
+ghost use Rattle.repo_opening.specs.declared.unopened.Unopened.TheVariants.{Failed};
+ghost use Rattle.store_opening.specs.Failing.{AreCalled, FailsAt};
+ghost use Rattle.std.specs.Prelude.{IfErr, IfOk, IsErrOf, IsOk, IsTrue, List, OnOk, vec_capacity, vec_len, ℕ, ◌<◌, ◌≡◌, ◌≤◌, ◌⊎◌};
 ghost use Rattle.store_opening.specs.Counts.{parts_in};
 
 use crate::cluster::Cluster;
@@ -15,8 +20,8 @@ use class_defs::{Schemas, Setup};
 use cluster_port::{Opening, Site};
 use disk_trait::Parts;
 use front_end::{FrontEnd, Items, Opened};
-use recovery::migrate;
-use repo_opening::{Known, Unopened, fault_of, number_at};
+use recovery::{RecoverFault, migrate};
+use repo_opening::{Known, Unopened, number_at};
 use std::alloc::Global;
 use store_opening::{Closed, ClusterFault, Found};
 use thor_value::{NoMemory, both};
@@ -40,6 +45,7 @@ impl<P: Parts, O: Opening> Cluster<P, O> {
         ensures schemas { IfOk result (λ cluster. schemas_of cluster ≡ plan.schemas) }
         ensures err { IfErr result (λ fault. vec_len fault.parts ≡ parts_in found) }
         ensures found { IfOk result (λ _. IsFoundIn P.disks found plan.start) }
+        ensures failed { (given : List P) → AreCalled P.disks given found.places.items → IfErr result (λ fault. (r : ℕ) → fault.why ≡ Failed r → FailsAt P.disks given fault.parts.items r) }
     {
         let Ok(seats) = Vec::with_capacity(alloc, found.repos()) else {
             return Err(without_room(found, plan));
@@ -54,7 +60,8 @@ impl<P: Parts, O: Opening> Cluster<P, O> {
 
 /// What was found isn't opened, since there is no memory for it.
 fn without_room<P: Parts>(found: Found<P>, plan: Plan) -> ClusterFault<P>
-    ensures { vec_len result.parts ≡ parts_in found }
+    ensures count { vec_len result.parts ≡ parts_in found }
+    ensures failed { (r : ℕ) → result.why ≡ Failed r → ⊥ }
 {
     drop(plan);
     ClusterFault {
@@ -80,6 +87,7 @@ fn open_found<P: Parts, O: Opening>(
     ensures schemas { IfOk result (λ cluster. schemas_of cluster ≡ plan.schemas) }
     ensures err { IfErr result (λ fault. vec_len fault.parts ≡ parts_in found) }
     ensures found { IfOk result (λ _. IsFoundIn P.disks found plan.start) }
+    ensures failed { (given : List P) → AreCalled P.disks given found.places.items → IfErr result (λ fault. (r : ℕ) → fault.why ≡ Failed r → FailsAt P.disks given fault.parts.items r) }
 {
     let (places, spare, mob, stored) = found.into_repositories();
     let Plan {
@@ -116,6 +124,7 @@ fn seated<P: Parts, O: Opening>(
     ensures ok { IfOk result (λ cluster. parts_of cluster ≡ vec_len seats) }
     ensures schemas { IfOk result (λ cluster. schemas_of cluster ≡ opened.schemas) }
     ensures err { IfErr result (λ fault. vec_len fault.parts ≡ vec_len seats) }
+    ensures failed { (given : List P) → NoneFellOn P.disks (faults_in P.disks) given seats.items → IfErr result (λ fault. (r : ℕ) → fault.why ≡ Failed r → FailsAt P.disks given fault.parts.items r) }
 {
     match sites_of(seats, room) {
         Ok(sites) => settled(Cluster {
@@ -141,6 +150,7 @@ fn settled<P: Parts, O: Opening>(cluster: Cluster<P, O>) -> Result<Cluster<P, O>
     ensures ok { IfOk result (λ settled. parts_of settled ≡ parts_of cluster) }
     ensures schemas { IfOk result (λ settled. schemas_of settled ≡ schemas_of cluster) }
     ensures err { IfErr result (λ fault. vec_len fault.parts ≡ parts_of cluster) }
+    ensures failed { (given : List P) → NoneFellIn P.disks given cluster.sites.items → IfErr result (λ fault. (r : ℕ) → fault.why ≡ Failed r → FailsAt P.disks given fault.parts.items r) }
 {
     let mut cluster = cluster;
     match settle_all(&mut cluster.sites) {
@@ -161,6 +171,7 @@ fn told_to(
 ) -> Result<(Opened, Vec<FrontEnd>), Unopened>
     ensures schemas { IfOk result (λ told. told.0.schemas ≡ schemas) }
     ensures opened { OnOk result (IsOk opened) }
+    ensures failed { (r : ℕ) → IsErrOf result (Failed r) → IsErrOf opened (Failed r) }
 {
     let (held, epochs) = both((clients, schemas), opened)?;
     let ((clients, schemas), (repos, epoch)) = both(held, numbers_of(repos, epochs))?;
@@ -192,6 +203,8 @@ fn open_seats<P: Parts, O: Opening>(
     ensures count { vec_len result.0 ≡ vec_len places }
     ensures seated { AreSeated 0 result.0.items }
     ensures found { OnOk result.1 (IsFound P.disks places.items start) }
+    ensures fell { OnOk result.1 (NoneFellOn P.disks (faults_at P.disks) places.items result.0.items) }
+    ensures failed { (r : ℕ) → IsErrOf result.1 (Failed r) → FailedOn P.disks (faults_at P.disks) places.items result.0.items r }
 {
     match start {
         Start::Stored => open_stored(alloc, places, room, stored),
@@ -216,6 +229,8 @@ fn open_stored<P: Parts, O: Opening>(
     ensures count { vec_len result.0 ≡ vec_len places }
     ensures seated { AreSeated 0 result.0.items }
     ensures recovered { OnOk result.1 (AreRecovered P.disks places.items) }
+    ensures fell { OnOk result.1 (NoneFellOn P.disks (faults_at P.disks) places.items result.0.items) }
+    ensures failed { (r : ℕ) → IsErrOf result.1 (Failed r) → FailedOn P.disks (faults_at P.disks) places.items result.0.items r }
 {
     match stored {
         Some(epochs) => {
@@ -228,7 +243,8 @@ fn open_stored<P: Parts, O: Opening>(
 
 /// How many upgrades a store has installed whose repositories were opened.
 fn with(opened: Result<(), Unopened>, epochs: usize) -> Result<usize, Unopened>
-    ensures { OnOk result (IsOk opened) }
+    ensures opened { OnOk result (IsOk opened) }
+    ensures failed { (r : ℕ) → IsErrOf result (Failed r) → IsErrOf opened (Failed r) }
 {
     match opened {
         Ok(()) => Ok(epochs),
@@ -245,6 +261,7 @@ fn seat_closed<P: Parts, O: Opening>(
     requires room { vec_len places ≤ vec_capacity room }
     ensures count { vec_len result ≡ vec_len places }
     ensures seated { AreSeated 0 result.items }
+    ensures fell { NoneFellOn P.disks (faults_at P.disks) places.items result.items }
 {
     let mut seats = room;
     for closed in places {
@@ -265,6 +282,8 @@ fn open_all<P: Parts, O: Opening>(
     ensures count { vec_len result.0 ≡ vec_len places }
     ensures seated { AreSeated 0 result.0.items }
     ensures recovered { OnOk result.1 (AreRecovered P.disks places.items) }
+    ensures fell { OnOk result.1 (NoneFellOn P.disks (faults_at P.disks) places.items result.0.items) }
+    ensures failed { (r : ℕ) → IsErrOf result.1 (Failed r) → FailedOn P.disks (faults_at P.disks) places.items result.0.items r }
 {
     let repos = places.len();
     let mut done = room;
@@ -290,6 +309,8 @@ fn open_behind<P: Parts, O: Opening>(
     ensures seated { IsSeatedAt place result.0 }
     ensures before { OnOk result.1 (IsOk before) }
     ensures recovered { OnOk result.1 (IsRecoveredAt P.disks closed) }
+    ensures fell { OnOk result.1 (NoneFell (faults_at P.disks closed) (faults_on P.disks result.0)) }
+    ensures failed { (r : ℕ) → IsErrOf result.1 (Failed r) → IsErrOf before (Failed r) ⊎ ((r ≡ place) × HasFailedOn P.disks (faults_at P.disks closed) result.0) }
 {
     match before {
         Ok(()) => open_next(alloc, closed, place, repos),
@@ -307,6 +328,8 @@ fn open_next<P: Parts, O: Opening>(
     requires { IsBegun O.run repos place closed }
     ensures seated { IsSeatedAt place result.0 }
     ensures recovered { OnOk result.1 (IsRecoveredAt P.disks closed) }
+    ensures fell { OnOk result.1 (NoneFell (faults_at P.disks closed) (faults_on P.disks result.0)) }
+    ensures failed { (r : ℕ) → IsErrOf result.1 (Failed r) → (r ≡ place) × HasFailedOn P.disks (faults_at P.disks closed) result.0 }
 {
     match (number_at(place), number_at(repos)) {
         (Ok(number), Ok(count)) => open_numbered(alloc, closed, number, count),
@@ -324,6 +347,8 @@ fn open_numbered<P: Parts, O: Opening>(
     requires { IsBegun O.run repos number closed }
     ensures seated { IsSeatedAt number result.0 }
     ensures recovered { OnOk result.1 (IsRecoveredAt P.disks closed) }
+    ensures fell { OnOk result.1 (NoneFell (faults_at P.disks closed) (faults_on P.disks result.0)) }
+    ensures failed { (r : ℕ) → IsErrOf result.1 (Failed r) → (r ≡ number) × HasFailedOn P.disks (faults_at P.disks closed) result.0 }
 {
     match closed {
         Closed::Known(known) => open_known(alloc, known, number, repos),
@@ -342,15 +367,42 @@ fn open_known<P: Parts, O: Opening>(
     requires { IsBegunBy O.run repos number known.recovered.state }
     ensures seated { IsSeatedAt number result.0 }
     ensures recovered { IsRecovered (P.disks known.parts) known.recovered }
+    ensures fell { OnOk result.1 (NoneFell (faults_in P.disks known.parts) (faults_on P.disks result.0)) }
+    ensures failed { (r : ℕ) → IsErrOf result.1 (Failed r) → (r ≡ number) × HasFailedOn P.disks (faults_in P.disks known.parts) result.0 }
 {
     let (mut parts, recovered) = known.into_recovered();
     match migrate(alloc, &mut parts, recovered) {
         Ok(recovered) => Seat::of(number, Site::open(alloc, parts, recovered, number, repos)),
         Err(fault) => (
             Seat::Closed(Closed::Parts(parts)),
-            Err(fault_of(number, fault)),
+            Err(unmoved(number, fault)),
         ),
     }
+}
+
+/// What is told of a repository that couldn't be moved into the newer format. It has three disks, and no other fails.
+fn unmoved(number: u8, fault: RecoverFault) -> Unopened
+    ensures { (r : ℕ) → result ≡ Failed r → (r ≡ number) × ((d : ℕ) × ((d < 3) × (fault ≡ DiskFailed d))) }
+{
+    match fault {
+        RecoverFault::Failed { disk } => failed_on(number, disk),
+        RecoverFault::Damaged { disk, place } => Unopened::Damaged {
+            repo: number,
+            disk,
+            place,
+        },
+        RecoverFault::NoMemory => Unopened::NoMemory,
+    }
+}
+
+/// What is told of a repository of which this disk failed.
+fn failed_on(number: u8, disk: u8) -> Unopened
+    ensures { (r : ℕ) → result ≡ Failed r → (r ≡ number) × (disk < 3) }
+{
+    if disk < 3 {
+        return Unopened::Failed { repo: number };
+    }
+    Unopened::NoMemory
 }
 
 /// Formats every repository of a store that was found fresh.
@@ -369,6 +421,8 @@ fn format_found<P: Parts, O: Opening>(
     ensures count { vec_len result.0 ≡ vec_len places }
     ensures seated { AreSeated 0 result.0.items }
     ensures new { OnOk result.1 (IsNew places.items) }
+    ensures fell { OnOk result.1 (NoneFellOn P.disks (faults_at P.disks) places.items result.0.items) }
+    ensures failed { (r : ℕ) → IsErrOf result.1 (Failed r) → FailedOn P.disks (faults_at P.disks) places.items result.0.items r }
 {
     if !is_new(stored, places.as_slice()) {
         return (seat_closed(places, room), Err(Unopened::NoMemory));
@@ -401,6 +455,8 @@ fn format_all<P: Parts, O: Opening>(
     requires seated { AreSeated 0 seats.items }
     ensures count { vec_len result.0 ≡ vec_len seats }
     ensures seated { AreSeated 0 result.0.items }
+    ensures fell { OnOk result.1 (NoneFellOn P.disks (faults_on P.disks) seats.items result.0.items) }
+    ensures failed { (r : ℕ) → IsErrOf result.1 (Failed r) → FailedOn P.disks (faults_on P.disks) seats.items result.0.items r }
 {
     let count = seats.len();
     match format_from(alloc, seats, 1, count, setup, mob) {
@@ -422,6 +478,8 @@ fn format_from<P: Parts, O: Opening>(
     requires seated { AreSeated 0 seats.items }
     ensures count { vec_len result.0 ≡ vec_len seats }
     ensures seated { AreSeated 0 result.0.items }
+    ensures fell { OnOk result.1 (NoneFellOn P.disks (faults_on P.disks) seats.items result.0.items) }
+    ensures failed { (r : ℕ) → IsErrOf result.1 (Failed r) → FailedOn P.disks (faults_on P.disks) seats.items result.0.items r }
 {
     let repos = seats.len();
     let Ok(mut done) = Vec::with_capacity(alloc, repos) else {
@@ -451,7 +509,10 @@ fn format_behind<P: Parts, O: Opening>(
 ) -> (Seat<P, O>, Result<(), Unopened>)
     requires begins { BeginsNew O.run place repos setup.now mob }
     requires seated { IsSeatedAt place seat }
-    ensures { IsSeatedAt place result.0 }
+    ensures seated { IsSeatedAt place result.0 }
+    ensures before { OnOk result.1 (IsOk before) }
+    ensures fell { OnOk result.1 (NoneFell (faults_on P.disks seat) (faults_on P.disks result.0)) }
+    ensures failed { (r : ℕ) → IsErrOf result.1 (Failed r) → IsErrOf before (Failed r) ⊎ ((r ≡ place) × HasFailedOn P.disks (faults_on P.disks seat) result.0) }
 {
     match before {
         Ok(()) if named => format_next(alloc, seat, place, repos, setup, mob),
@@ -470,7 +531,9 @@ fn format_next<P: Parts, O: Opening>(
 ) -> (Seat<P, O>, Result<(), Unopened>)
     requires begins { BeginsNew O.run place repos setup.now mob }
     requires seated { IsSeatedAt place seat }
-    ensures { IsSeatedAt place result.0 }
+    ensures seated { IsSeatedAt place result.0 }
+    ensures fell { OnOk result.1 (NoneFell (faults_on P.disks seat) (faults_on P.disks result.0)) }
+    ensures failed { (r : ℕ) → IsErrOf result.1 (Failed r) → (r ≡ place) × HasFailedOn P.disks (faults_on P.disks seat) result.0 }
 {
     match (number_at(place), number_at(repos)) {
         (Ok(number), Ok(count)) => format_numbered(alloc, seat, number, count, setup, mob),
@@ -489,7 +552,9 @@ fn format_numbered<P: Parts, O: Opening>(
 ) -> (Seat<P, O>, Result<(), Unopened>)
     requires begins { BeginsNew O.run number repos setup.now mob }
     requires seated { IsSeatedAt number seat }
-    ensures { IsSeatedAt number result.0 }
+    ensures seated { IsSeatedAt number result.0 }
+    ensures fell { OnOk result.1 (NoneFell (faults_on P.disks seat) (faults_on P.disks result.0)) }
+    ensures failed { (r : ℕ) → IsErrOf result.1 (Failed r) → (r ≡ number) × HasFailedOn P.disks (faults_on P.disks seat) result.0 }
 {
     match seat {
         Seat::Closed(closed) => format_closed(alloc, closed, number, repos, setup, mob),
@@ -507,7 +572,9 @@ fn format_closed<P: Parts, O: Opening>(
     mob: u32,
 ) -> (Seat<P, O>, Result<(), Unopened>)
     requires { BeginsNew O.run number repos setup.now mob }
-    ensures { IsSeatedAt number result.0 }
+    ensures seated { IsSeatedAt number result.0 }
+    ensures fell { OnOk result.1 (NoneFell (faults_at P.disks closed) (faults_on P.disks result.0)) }
+    ensures failed { (r : ℕ) → IsErrOf result.1 (Failed r) → (r ≡ number) × HasFailedOn P.disks (faults_at P.disks closed) result.0 }
 {
     match closed.into_settled() {
         Ok(settled) => Seat::of(

@@ -2,9 +2,11 @@
 
 ghost use Rattle.cluster_core.specs.Committed.{committed_lines};
 ghost use Rattle.cluster_core.specs.Counts.{parts_of};
-ghost use Rattle.cluster_core.specs.Seated.{AreLeft, AreRight, IsFoundIn, run_found};
-ghost use Rattle.std.specs.Prelude.{IfErr, IfOk, IsErr, length, vec_len, ◌≡◌};
+ghost use Rattle.cluster_core.specs.Seated.{AreRight, IsFoundIn, run_found, AreLeft};
+ghost use Rattle.repo_opening.specs.declared.unopened.Unopened.TheVariants.{Failed};
+ghost use Rattle.std.specs.Prelude.{IfErr, IfOk, IsErr, List, length, vec_len, ℕ, ◌≡◌};
 ghost use Rattle.store_opening.specs.Counts.{parts_in};
+ghost use Rattle.store_opening.specs.Failing.{AreCalled, FailsAt};
 
 use crate::cluster::Cluster;
 use crate::finishing::Finished;
@@ -32,6 +34,7 @@ pub fn play<P: Parts, G: Gate>(
 ) -> Result<Finished<P>, ClusterFault<P>>
     ensures parts { IfOk result (λ finished. vec_len finished.parts ≡ parts_in found) }
     ensures err { IfErr result (λ fault. vec_len fault.parts ≡ parts_in found) }
+    ensures failed { (given : List P) → AreCalled P.disks given found.places.items → IfErr result (λ fault. (r : ℕ) → fault.why ≡ Failed r → FailsAt P.disks given fault.parts.items r) }
     // What was recorded at each repository is right by what was found there, where nothing has still to be settled.
     ensures right { IfOk result (λ finished. IfOk finished.ran (λ ran. AreRight (run_found found plan.start) 0 ran.traces)) }
     ensures told { IfOk result (λ finished. IfOk finished.ran (λ ran. length ran.traces ≡ parts_in found)) }
@@ -55,6 +58,7 @@ fn played<P: Parts, O: Opening, G: Gate>(
     requires { O.run ≡ run_found found plan.start }
     ensures parts { IfOk result (λ finished. vec_len finished.parts ≡ parts_in found) }
     ensures err { IfErr result (λ fault. vec_len fault.parts ≡ parts_in found) }
+    ensures failed { (given : List P) → AreCalled P.disks given found.places.items → IfErr result (λ fault. (r : ℕ) → fault.why ≡ Failed r → FailsAt P.disks given fault.parts.items r) }
     ensures right { IfOk result (λ finished. IfOk finished.ran (λ ran. AreRight O.run 0 ran.traces)) }
     ensures told { IfOk result (λ finished. IfOk finished.ran (λ ran. length ran.traces ≡ parts_in found)) }
     ensures left { IfOk result (λ finished. IfOk finished.ran (λ ran. AreLeft P.disks O.run 0 finished.parts.items ran.traces)) }

@@ -1,15 +1,24 @@
 //! A repository's place in a store.
 
+ghost use Rattle.cluster_core.specs.Failing.{GivesPart, HasFailedOn, IsSite, faults_on};
 ghost use Rattle.cluster_core.specs.Seated.{AreOpen, AreSeated, IsOpen, IsSeatedAt};
+ghost use Rattle.cluster_port.specs.Failing.{HasFailed, NoneFell};
+ghost use Rattle.repo_core.specs.Shown.{faults_of};
+ghost use Rattle.repo_core.specs.declared.OpenCause.TheVariants.{Failed as DiskFailed};
+ghost use Rattle.repo_opening.specs.declared.unopened.Unopened.TheVariants.{Failed};
+ghost use Rattle.std.specs.List.{AllZip};
 ghost use Rattle.cluster_port.specs.Lent.{AreInPlace};
 ghost use Rattle.cluster_port.specs.Sited.{Sited};
-ghost use Rattle.std.specs.Prelude.{IfErr, IfOk, IsTrue, vec_capacity, vec_len, ℕ, ◌≡◌, ◌≤◌};
+ghost use Rattle.std.specs.Prelude.{IfErr, IfOk, IsErrOf, IsTrue, OnOk, vec_capacity, vec_len, ℕ, ◌≡◌, ◌≤◌};
 
 use cluster_port::{Opening, Site};
 use disk_trait::Parts;
 use repo_core::{OpenCause, OpenFault};
 use repo_opening::Unopened;
 use store_opening::Closed;
+
+/// The number of the disk of pages.
+const PAGES: u8 = 2;
 
 /// What stands at a repository's place, while a store is opened and while its repositories are apart from it.
 #[derive(Drop)]
@@ -22,7 +31,9 @@ pub enum Seat<P: Parts, O: Opening> {
 
 impl<P: Parts, O: Opening> Seat<P, O> {
     /// The parts.
-    pub(crate) fn into_parts(self) -> P {
+    pub(crate) fn into_parts(self) -> P
+        ensures { GivesPart self result }
+    {
         match self {
             Seat::Closed(closed) => closed.into_parts(),
             Seat::Open(site) => {
@@ -39,7 +50,9 @@ impl<P: Parts, O: Opening> Seat<P, O> {
         opened: Result<Site<P, O>, OpenFault<P>>,
     ) -> (Seat<P, O>, Result<(), Unopened>)
         requires { IfOk opened (λ site. site.number ≡ repo) }
-        ensures { IsSeatedAt repo result.0 }
+        ensures seated { IsSeatedAt repo result.0 }
+        ensures fell { (before : ℕ → ℕ) → IfOk opened (λ site. NoneFell before (faults_of site.shown)) → OnOk result.1 (NoneFell before (faults_on P.disks result.0)) }
+        ensures failed { (before : ℕ → ℕ) (r : ℕ) → IfErr opened (λ fault. fault.cause ≡ DiskFailed → HasFailed before (P.disks fault.parts).faults) → IsErrOf result.1 (Failed r) → (r ≡ repo) × HasFailedOn P.disks before result.0 }
     {
         match opened {
             Ok(site) => (Seat::Open(site), Ok(())),
@@ -60,9 +73,17 @@ impl<P: Parts, O: Opening> Seat<P, O> {
     }
 }
 
-fn why(repo: u8, cause: OpenCause) -> Unopened {
+/// What is told of a repository that wasn't opened.
+fn why(repo: u8, cause: OpenCause) -> Unopened
+    ensures { (r : ℕ) → result ≡ Failed r → (r ≡ repo) × (cause ≡ DiskFailed) }
+{
     match cause {
         OpenCause::Failed => Unopened::Failed { repo },
+        OpenCause::Changed => Unopened::Damaged {
+            repo,
+            disk: PAGES,
+            place: 0,
+        },
         OpenCause::NoMemory => Unopened::NoMemory,
     }
 }
@@ -71,7 +92,8 @@ fn why(repo: u8, cause: OpenCause) -> Unopened {
 pub(crate) fn give_back<P: Parts, O: Opening>(seats: Vec<Seat<P, O>>, spare: Vec<P>) -> Vec<P>
     requires empty { vec_len spare ≡ 0 }
     requires room { vec_len seats ≤ vec_capacity spare }
-    ensures { vec_len result ≡ vec_len seats }
+    ensures count { vec_len result ≡ vec_len seats }
+    ensures gives { AllZip GivesPart seats.items result.items }
 {
     let mut parts = spare;
     for seat in seats {
@@ -102,6 +124,7 @@ pub(crate) fn sites_of<P: Parts, O: Opening>(
     requires seated { AreSeated 0 seats.items }
     ensures count { IfOk result (λ sites. vec_len sites ≡ vec_len seats) }
     ensures placed { IfOk result (λ sites. AreInPlace sites.items) }
+    ensures same { IfOk result (λ sites. AllZip IsSite seats.items sites.items) }
     ensures err { IfErr result (λ left. vec_len left ≡ vec_len seats) }
 {
     if are_open(seats.as_slice()) {
@@ -120,6 +143,7 @@ fn take_all<P: Parts, O: Opening>(seats: Vec<Seat<P, O>>, room: Vec<Site<P, O>>)
     requires open { AreOpen seats.items }
     ensures count { vec_len result ≡ vec_len seats }
     ensures placed { AreInPlace result.items }
+    ensures same { AllZip IsSite seats.items result.items }
 {
     let mut sites = room;
     for seat in seats {
@@ -133,7 +157,8 @@ fn take_all<P: Parts, O: Opening>(seats: Vec<Seat<P, O>>, room: Vec<Site<P, O>>)
 fn take<P: Parts, O: Opening>(seat: Seat<P, O>, place: usize) -> Site<P, O>
     requires seated { IsSeatedAt place seat }
     requires open { IsOpen seat }
-    ensures { result.number ≡ place }
+    ensures number { result.number ≡ place }
+    ensures same { IsSite seat result }
 {
     let _ = place;
     match seat {

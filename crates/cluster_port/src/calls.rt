@@ -2,7 +2,9 @@
 
 ghost use Rattle.client_port.specs.Works.{AskWork, CommitWork, ConnectWork, DecideWork, Does, DrawWork, FetchWork, FinishWork, ForgetWork, GrantWork, PrepareWork, ReceiveWork};
 ghost use Rattle.cluster_port.specs.Lent.{AreInPlace, view_of};
-ghost use Rattle.std.specs.Prelude.{true, vec_len, ℕ, ◌≡◌};
+ghost use Rattle.std.specs.Prelude.{IsErrOf, OnOk, true, vec_len, ℕ, ◌≡◌};
+ghost use Rattle.cluster_port.specs.Counting.{FailedAt, HaveSameFaults};
+ghost use Rattle.repo_refusals.specs.declared.refusal.Refusal.TheVariants.{Stopped as IsStopped};
 
 use disk_trait::Parts;
 use log_entries::Request;
@@ -160,6 +162,8 @@ pub fn finish<P: Parts, O: Opening>(
     ensures placed { AreInPlace sites.new.items }
     ensures count { vec_len sites.new ≡ vec_len sites.old }
     ensures does { O.run.based ≡ true → (c : ℕ) → Does (view_of O.run c sites.old.items) (view_of O.run c sites.new.items) repo result (FinishWork verdict.now.tx verdict.now.commit result) }
+    ensures stopped { (n : ℕ) → IsErrOf result (IsStopped n) → FailedAt repo sites.old.items sites.new.items }
+    ensures steady { OnOk result (HaveSameFaults sites.old.items sites.new.items) }
 {
     match sites.get_mut(usize::from(repo)) {
         Some(site) => site.finish(verdict),
@@ -185,6 +189,7 @@ pub fn forget<P: Parts, O: Opening>(
 }
 
 /// Asks a coordinator for its verdict.
+#[tactic(auto, using(crate::proofs::Counting::same_none))]
 pub fn ask<P: Parts, O: Opening>(
     sites: &mut Vec<Site<P, O>>,
     repo: u8,
@@ -194,6 +199,8 @@ pub fn ask<P: Parts, O: Opening>(
     ensures placed { AreInPlace sites.new.items }
     ensures count { vec_len sites.new ≡ vec_len sites.old }
     ensures does { O.run.based ≡ true → (c : ℕ) → Does (view_of O.run c sites.old.items) (view_of O.run c sites.new.items) repo result (AskWork tx result) }
+    ensures never { (n : ℕ) → IsErrOf result (IsStopped n) → ⊥ }
+    ensures counts { HaveSameFaults sites.old.items sites.new.items }
 {
     match sites.get_mut(usize::from(repo)) {
         Some(site) => site.ask(tx),

@@ -1,3 +1,4 @@
+pub use Rattle.repo_durable.proofs.Failing as DiskFaults
 pub mod Alike
 pub mod Asking
 pub mod Begun
@@ -16,4 +17,5 @@ pub mod Stamps
 pub mod Stopped
 pub mod Taking
 pub mod Told
+pub mod Unbegun
 pub mod Written

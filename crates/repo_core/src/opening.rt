@@ -1,6 +1,6 @@
 //! A repository is opened.
 
-ghost use Rattle.std.specs.Prelude.{◌≡◌, ◌+◌, ◌≤◌, IfOk, List, Some, true, ℕ};
+ghost use Rattle.std.specs.Prelude.{◌≡◌, ◌+◌, ◌≤◌, IfErr, IfOk, List, Some, false, true, ℕ};
 ghost use Rattle.log_entries.specs.declared.entry.Entry.TheVariants.{Life as ALife};
 ghost use Rattle.disk_trait.specs.AllDisks.{AllSettled, TellsAll};
 ghost use Rattle.repo_state.specs.Keeps.{Keeps};
@@ -15,7 +15,9 @@ ghost use Rattle.repo_trace.specs.Recorded.{nothing, with_entry};
 ghost use Rattle.repo_core.specs.Restarting.{Begins, IsNew};
 ghost use Rattle.disk_trait.specs.Disks.{WhereTold};
 ghost use Rattle.repo_durable.specs.Pages.{ArePages, HasPages};
-ghost use Rattle.repo_core.specs.Shown.{ShowsPages};
+ghost use Rattle.repo_core.specs.Shown.{ShowsPages, faults_of};
+ghost use Rattle.repo_durable.specs.Failing.{HasFailed, NoneFell, is_stopped};
+ghost use Rattle.repo_durable.specs.declared.fault.OpenCause.TheVariants.{Failed};
 
 use crate::repo::Repo;
 use class_defs::Setup;
@@ -41,6 +43,8 @@ impl<P: Parts> Repo<P> {
         ensures trace { IfOk result (λ repo. repo.trace ≡ with_entry nothing (ALife (recovered.state.life + 1))) }
         ensures begins { IfOk result (λ repo. Begins recovered.state repo) }
         ensures clock { IfOk result (λ repo. repo.clock ≡ (P.disks parts).clock) }
+        ensures fell { IfOk result (λ repo. NoneFell (P.disks parts).faults (faults_of repo)) }
+        ensures failed { IfErr result (λ fault. fault.cause ≡ Failed → HasFailed (P.disks parts).faults (P.disks fault.parts).faults) }
     {
         let stable = Stable::open(parts, recovered)?;
         begin(alloc, stable)
@@ -63,9 +67,29 @@ impl<P: Parts> Repo<P> {
         ensures begins { IfOk result (λ x. IsNew repo repos setup.now mob x) }
         ensures roots { IfOk result (λ x. (disk : List ℕ) → x.pages ≡ Some disk → HasRoots repo setup.now x.held.objects.pages.sides disk) }
         ensures clock { IfOk result (λ x. (P.disks parts).clock ≤ x.clock) }
+        ensures fell { IfOk result (λ x. NoneFell (P.disks parts).faults (faults_of x)) }
+        ensures failed { IfErr result (λ fault. fault.cause ≡ Failed → HasFailed (P.disks parts).faults (P.disks fault.parts).faults) }
     {
         let stable = format(alloc, parts, repo, repos, setup, mob)?;
         begin(alloc, stable)
+    }
+
+    /// Ends it. Its parts come back, and whether a stop fell in one of its calls. Where none did, the faults that it has counted
+    /// are those of its disks.
+    pub fn into_parts(self) -> (P, bool)
+        ensures { result.1 ≡ false → NoneFell (faults_of self) (P.disks result.0).faults }
+    {
+        let Repo {
+            alloc: _,
+            stable,
+            memory,
+            trace,
+            opened_in: _,
+        } = self;
+        drop(memory);
+        drop(trace);
+        let has_fallen = stable.parts().fell() != 0;
+        (stable.into_parts(), has_fallen)
     }
 }
 
@@ -81,6 +105,8 @@ fn begin<P: Parts>(alloc: Global, stable: Stable<P>) -> Result<Repo<P>, OpenFaul
     ensures begins { IfOk result (λ repo. Begins (held_of stable) repo) }
     ensures pages { IfOk result (λ repo. repo.pages ≡ (disks_of P.disks stable).content 2) }
     ensures clock { IfOk result (λ repo. repo.clock ≡ (disks_of P.disks stable).clock) }
+    ensures fell { IfOk result (λ repo. NoneFell (disks_of P.disks stable).faults (faults_of repo)) }
+    ensures failed { IfErr result (λ fault. fault.cause ≡ Failed → HasFailed (disks_of P.disks stable).faults (P.disks fault.parts).faults) }
 {
     let Some(opened_in) = stable.held().life().checked_add(1) else {
         return Err(OpenFault {
@@ -106,17 +132,38 @@ fn begin<P: Parts>(alloc: Global, stable: Stable<P>) -> Result<Repo<P>, OpenFaul
     };
     match repo.write_life() {
         Ok(()) => Ok(repo),
-        Err(refusal) => Err(OpenFault {
-            parts: repo.close().0,
-            cause: cause_of(refusal),
-        }),
+        Err(refusal) => Err(unbegun(repo, refusal)),
+    }
+}
+
+/// What is told of a repository whose first Life was refused, with its parts.
+fn unbegun<P: Parts>(repo: Repo<P>, refusal: Refusal) -> OpenFault<P>
+    ensures { result.cause ≡ Failed → (is_stopped refusal ≡ true) × NoneFell (faults_of repo) (P.disks result.parts).faults }
+{
+    let (parts, has_fallen) = repo.into_parts();
+    OpenFault {
+        parts,
+        cause: cause_of(refusal, has_fallen),
     }
 }
 
 /// Why a repository wasn't opened whose first Life was refused.
-fn cause_of(refusal: Refusal) -> OpenCause {
+fn cause_of(refusal: Refusal, has_fallen: bool) -> OpenCause
+    ensures { result ≡ Failed → (is_stopped refusal ≡ true) × (has_fallen ≡ false) }
+{
     match refusal {
-        Refusal::NoMemory => OpenCause::NoMemory,
-        _ => OpenCause::Failed,
+        Refusal::Stopped { repo: _ } => cause_of_stop(has_fallen),
+        Refusal::Damaged { repo: _, place: _ } => OpenCause::Changed,
+        Refusal::NoMemory | Refusal::Down { repo: _ } | Refusal::Reason(_) => OpenCause::NoMemory,
     }
+}
+
+/// Why it wasn't where a disk call failed. A stop that fell in one isn't the disk's: none is armed while a repository is opened.
+fn cause_of_stop(has_fallen: bool) -> OpenCause
+    ensures { result ≡ Failed → has_fallen ≡ false }
+{
+    if has_fallen {
+        return OpenCause::NoMemory;
+    }
+    OpenCause::Failed
 }

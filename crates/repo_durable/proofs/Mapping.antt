@@ -121,7 +121,6 @@ entered_objects h (Prepared q) = refl
 entered_objects h (Upgraded q) = refl
 entered_objects h (Decided t commit) = by commit (open_at h.table t)
   where
-
     by : (c : Bool) (o : Option Request) → (decided_by h t c o).objects ≡ with_writes h.objects (writes_if c o)
     by false None = refl
     by false (Some q) = refl

@@ -7,7 +7,7 @@ use Rattle.page_store.specs.declared.fault.StoreFault.TheVariants as store
 use Rattle.page_store.specs.declared.fault.StoreFault.{StoreFault}
 use Rattle.recovery.specs.declared.fault.RecoverFault.TheVariants as recover
 use Rattle.recovery.specs.declared.fault.RecoverFault.{RecoverFault}
-use Rattle.repo_durable.specs.declared.fault.OpenCause.TheVariants.{Failed, NoMemory}
+use Rattle.repo_durable.specs.declared.fault.OpenCause.TheVariants.{Changed, Failed, NoMemory}
 use Rattle.repo_durable.specs.declared.fault.OpenCause.{OpenCause}
 use Rattle.std.specs.Prelude.{Bool, false, true}
 
@@ -15,15 +15,15 @@ abbrev pub cause_of_outage : Outage → OpenCause
 cause_of_outage outage.Failed = Failed
 cause_of_outage outage.NoMemory = NoMemory
 
--- a disk that is damaged failed
+-- a disk that is damaged has changed since it was recovered
 abbrev pub cause_of_store : StoreFault → OpenCause
 cause_of_store store.Failed = Failed
-cause_of_store (store.Damaged place) = Failed
+cause_of_store (store.Damaged place) = Changed
 cause_of_store store.NoMemory = NoMemory
 
 abbrev pub cause_of_log : LogFault → OpenCause
 cause_of_log log.Failed = Failed
-cause_of_log (log.Damaged place) = Failed
+cause_of_log (log.Damaged place) = Changed
 cause_of_log log.NoMemory = NoMemory
 
 -- ---- which faults of the layers below tell of a disk that failed

@@ -21,8 +21,10 @@ use thor_value::NoMemory;
 /// Why a repository wasn't opened.
 #[derive(Clone, Copy, Debug, PartialEq, Eq)]
 pub enum OpenCause {
-    /// A disk failed.
+    /// A disk failed. Its count of faults rose.
     Failed,
+    /// A disk gave other bytes than as it was recovered.
+    Changed,
     /// Memory was not there.
     NoMemory,
 }
@@ -52,7 +54,8 @@ impl From<StoreFault> for OpenCause {
     fn from(fault: StoreFault) -> OpenCause {
         match fault {
             StoreFault::NoMemory => OpenCause::NoMemory,
-            StoreFault::Failed | StoreFault::Damaged { .. } => OpenCause::Failed,
+            StoreFault::Failed => OpenCause::Failed,
+            StoreFault::Damaged { .. } => OpenCause::Changed,
         }
     }
 }
@@ -63,7 +66,8 @@ impl From<LogFault> for OpenCause {
     fn from(fault: LogFault) -> OpenCause {
         match fault {
             LogFault::NoMemory => OpenCause::NoMemory,
-            LogFault::Failed | LogFault::Damaged { .. } => OpenCause::Failed,
+            LogFault::Failed => OpenCause::Failed,
+            LogFault::Damaged { .. } => OpenCause::Changed,
         }
     }
 }

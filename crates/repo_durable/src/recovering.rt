@@ -12,12 +12,13 @@ ghost use Rattle.page_store.specs.Sides.{ReachesSides};
 ghost use Rattle.recovery.specs.Found.{recorded};
 ghost use Rattle.repo_durable.specs.Agreeing.{CanEnter, IsTaken};
 ghost use Rattle.disk_trait.specs.Fused.{armed};
-ghost use Rattle.repo_durable.specs.Failing.{HasFailed, is_stopped};
+ghost use Rattle.repo_durable.specs.Failing.{HasFailed, NoneFell, is_stopped};
 ghost use Rattle.repo_durable.specs.Kept.{IsKept, IsOpen, IsResting, disks_of, held_of, is_fault, is_torn, is_up, lowered, parts_in, pending};
 ghost use Rattle.repo_durable.specs.Agreeing.{held_behind, numbers_of};
 ghost use Rattle.repo_durable.specs.Mapping.{StoreMoves, taken_writes};
 ghost use Rattle.repo_durable.specs.Pages.{ArePages, HasPages, PagesTold};
 ghost use Rattle.repo_durable.specs.Saying.{FindsOneOf, ImagesSay, IsOneOf, IsSaid, LeavesNoMore, ReadIsLeft, SaysTaken};
+ghost use Rattle.repo_durable.specs.declared.fault.OpenCause.TheVariants.{Failed as DiskFailed};
 ghost use Rattle.repo_durable.specs.declared.stable.Phase.TheVariants.{Down as IsDown, Up as IsUp};
 ghost use Rattle.repo_durable.specs.Taking.{AgreesWhere, CanTake, TakesFrom};
 ghost use Rattle.commit_log.specs.Holds.{Holds};
@@ -47,8 +48,8 @@ pub enum Taken {
 }
 
 impl<P: Parts> Stable<P> {
-    /// A repository of what was recovered from its disks, which is up. `Failed`, too, where its disk of pages
-    /// doesn't reach the installed sides.
+    /// A repository of what was recovered from its disks, which is up. `Changed` where its disk of pages doesn't reach the
+    /// installed sides any more.
     pub fn open(mut parts: P, recovered: Recovered) -> Result<Stable<P>, OpenFault<P>>
         requires holds { Holds (P.disks parts) recovered.log (said recovered.state) }
         requires keeps { Keeps recovered.state }
@@ -60,11 +61,21 @@ impl<P: Parts> Stable<P> {
         ensures says { Holds (P.disks parts) recovered.log (said recovered.state) → IfOk result (IsSaid P.disks) }
         ensures clock { IfOk result (λ stable. (disks_of P.disks stable).clock ≡ (P.disks parts).clock) }
         ensures content { IfOk result (λ stable. SameContent (P.disks parts) (disks_of P.disks stable)) }
+        ensures fell { IfOk result (λ stable. NoneFell (P.disks parts).faults (disks_of P.disks stable).faults) }
+        ensures failed { IfErr result (λ fault. fault.cause ≡ DiskFailed → HasFailed (P.disks parts).faults (P.disks fault.parts).faults) }
     {
         let Recovered { state, log, .. } = recovered;
         match reaches(&mut parts, state.objects().pages().sides()) {
             Ok(true) => Ok(Stable::new(parts, log, state)),
-            Ok(false) | Err(Outage::Failed) => {
+            Ok(false) => {
+                drop(log);
+                drop(state);
+                Err(OpenFault {
+                    parts,
+                    cause: OpenCause::Changed,
+                })
+            }
+            Err(Outage::Failed) => {
                 drop(log);
                 drop(state);
                 Err(OpenFault {

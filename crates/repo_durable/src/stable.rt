@@ -15,7 +15,7 @@ ghost use Rattle.log_codec.specs.declared.body.Body.TheVariants.{Entry as AnEntr
 ghost use Rattle.page_store.specs.Objects.{HasObjects};
 ghost use Rattle.page_store.specs.Store.{IsDamage};
 ghost use Rattle.repo_durable.specs.Kept.{GoesOnUp, IsKept, IsOpen, RestsWith, StandsAfter, disks_of, down, down_with, held_of, is_fault, is_torn, is_up, lowered, parts_in, repo_named, torn};
-ghost use Rattle.repo_durable.specs.Failing.{HasFailed, is_stopped};
+ghost use Rattle.repo_durable.specs.Failing.{HasFailed, NoneFell, is_stopped};
 ghost use Rattle.repo_durable.specs.Flushes.{IsLastFlush, IsOldest, left_by};
 ghost use Rattle.repo_durable.specs.Mapping.{StoreMoves};
 ghost use Rattle.repo_durable.specs.Pages.{ArePages, HasPages};
@@ -83,6 +83,7 @@ impl<P: Parts> Stable<P> {
         ensures says { LogSays (P.disks parts) log (said held) → IsSaid P.disks result }
         ensures clock { (disks_of P.disks result).clock ≡ (P.disks parts).clock }
         ensures content { SameContent (P.disks parts) (disks_of P.disks result) }
+        ensures fell { NoneFell (P.disks parts).faults (disks_of P.disks result).faults }
     {
         Stable {
             parts: Fused::new(parts),

@@ -1,4 +1,5 @@
 pub mod Closed
 pub mod Empty
+pub mod Failed
 pub mod First
 pub mod Roots

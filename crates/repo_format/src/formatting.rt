@@ -1,17 +1,19 @@
 //! A fresh repository is formatted.
 
 ghost use Rattle.std.specs.List.{AllByRecursion};
-ghost use Rattle.std.specs.Prelude.{◌≡◌, ◌≤◌, IfOk, None, OnOk, true};
+ghost use Rattle.std.specs.Prelude.{◌≡◌, ◌≤◌, IfErr, IfOk, IsErrOf, None, OnOk, true};
 ghost use Rattle.disk_trait.specs.AllDisks.{AllSettled, GoesOn, TellsAll};
 ghost use Rattle.disk_trait.specs.Disks.{Disks, WhereTold};
 ghost use Rattle.repo_state.specs.Keeps.{Keeps};
 ghost use Rattle.repo_state.specs.Said.{said};
 ghost use Rattle.log_codec.specs.Checkpoint.{RootFits};
 ghost use Rattle.log_frame.specs.Log.{read_log};
+ghost use Rattle.repo_durable.specs.Failing.{HasFailed, NoneFell};
 ghost use Rattle.repo_durable.specs.Kept.{IsKept, disks_of, held_of, is_up};
 ghost use Rattle.repo_durable.specs.Pages.{HasPages};
 ghost use Rattle.repo_durable.specs.Saying.{IsSaid};
 ghost use Rattle.repo_durable.specs.Taking.{AgreesWhere};
+ghost use Rattle.repo_durable.specs.declared.fault.OpenCause.TheVariants.{Failed};
 ghost use Rattle.commit_log.specs.Holds.{Holds};
 ghost use Rattle.repo_format.specs.Fresh.{IsFresh};
 ghost use Rattle.repo_format.specs.Pages.{HasRoots};
@@ -50,6 +52,8 @@ pub fn format<P: Parts>(
     ensures says { IfOk result (IsSaid P.disks) }
     ensures roots { IfOk result (λ stable. WhereTold (disks_of P.disks stable) 2 (HasRoots repo setup.now (held_of stable).objects.pages.sides)) }
     ensures clock { IfOk result (λ stable. (P.disks parts).clock ≤ (disks_of P.disks stable).clock) }
+    ensures fell { IfOk result (λ stable. NoneFell (P.disks parts).faults (disks_of P.disks stable).faults) }
+    ensures failed { IfErr result (λ fault. fault.cause ≡ Failed → HasFailed (P.disks parts).faults (P.disks fault.parts).faults) }
 {
     match put_store(alloc, &mut parts, repo, repos, setup, mob) {
         Ok(recovered) => Stable::open(parts, recovered),
@@ -74,6 +78,8 @@ fn put_store<P: Parts>(
     ensures roots { IfOk result (λ r. WhereTold (P.disks parts.new) 2 (HasRoots repo setup.now r.state.objects.pages.sides)) }
     ensures clock { (P.disks parts.old).clock ≤ (P.disks parts.new).clock }
     ensures told { OnOk result (TellsAll (P.disks parts.old) → TellsAll (P.disks parts.new)) }
+    ensures fell { OnOk result (NoneFell (P.disks parts.old).faults (P.disks parts.new).faults) }
+    ensures failed { IsErrOf result Failed → HasFailed (P.disks parts.old).faults (P.disks parts.new).faults }
 {
     if !have_names(setup.roots.as_slice()) {
         return Err(OpenCause::NoMemory);
@@ -107,6 +113,7 @@ fn begin_log<P: Parts>(
     ensures stays { (P.disks parts.new).content 2 ≡ (P.disks parts.old).content 2 }
     ensures clock { (P.disks parts.old).clock ≤ (P.disks parts.new).clock }
     ensures goes { GoesOn (P.disks parts.old) (P.disks parts.new) }
+    ensures failed { IsErrOf result Failed → HasFailed (P.disks parts.old).faults (P.disks parts.new).faults }
 {
     let state = first_state(alloc, repo, repos, setup, installed)?;
     let log = CommitLog::format(alloc, parts, &state)?;

@@ -1,7 +1,7 @@
 //! The pages of a new repository, with its roots.
 
 ghost use Rattle.std.specs.List.{AllByRecursion};
-ghost use Rattle.std.specs.Prelude.{◌≡◌, ◌<◌, IfOk, OnOk, Some};
+ghost use Rattle.std.specs.Prelude.{◌≡◌, ◌<◌, IfOk, IsErrOf, OnOk, Some};
 ghost use Rattle.disk_trait.specs.AllDisks.{AllSettled};
 ghost use Rattle.disk_trait.specs.Disks.{Disks, IsSettled, OnDisk, WhereTold};
 ghost use Rattle.log_codec.specs.Checkpoint.{RootFits};
@@ -9,6 +9,8 @@ ghost use Rattle.object_codec.specs.Spelling.{ObjFits};
 ghost use Rattle.page_store.specs.Objects.{HasObjects};
 ghost use Rattle.mob_flusher.specs.Images.{overlaid};
 ghost use Rattle.page_store.specs.Store.{Agrees};
+ghost use Rattle.repo_durable.specs.Failing.{HasFailed};
+ghost use Rattle.repo_durable.specs.declared.fault.OpenCause.TheVariants.{Failed};
 ghost use Rattle.repo_format.specs.Pages.{HasRoots, PutsPage, first_page, with_root};
 
 use crate::objects::first_object;
@@ -35,6 +37,7 @@ pub(crate) fn put_roots<P: Parts>(
     ensures alone { OnDisk (P.disks parts.old) (P.disks parts.new) 2 }
     ensures settled { OnOk result (AllSettled (P.disks parts.new)) }
     ensures roots { IfOk result (λ sides. WhereTold (P.disks parts.new) 2 (HasRoots repo setup.now sides)) }
+    ensures failed { IsErrOf result Failed → HasFailed (P.disks parts.old).faults (P.disks parts.new).faults }
 {
     let mut store = PageStore::new(alloc, &Sides::new(alloc))?;
     for page in 0..page_count(repo, setup.roots.as_slice()) {
@@ -59,6 +62,7 @@ fn put_page<P: Parts>(
     ensures settled { OnOk result (IsSettled (P.disks parts.new) 2) }
     ensures agrees { OnOk result (WhereTold (P.disks parts.new) 2 (Agrees store.new)) }
     ensures put { OnOk result (PutsPage (P.disks parts.old) (P.disks parts.new) store.old.sides store.new.sides page (first_page repo setup.now page)) }
+    ensures failed { IsErrOf result Failed → HasFailed (P.disks parts.old).faults (P.disks parts.new).faults }
 {
     let roots = page_of_roots(alloc, repo, setup, page)?;
     let side = store.install(parts, &roots)?;

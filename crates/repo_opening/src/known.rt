@@ -84,7 +84,9 @@ impl<P: Parts> Known<P> {
     }
 
     /// The parts, to be formatted.
-    pub fn into_settled(self) -> Settled<P> {
+    pub fn into_settled(self) -> Settled<P>
+        ensures { result ≡ self.parts }
+    {
         let Known {
             parts,
             recovered,

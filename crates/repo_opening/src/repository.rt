@@ -54,7 +54,7 @@ fn damaged(recovered: &Recovered, repo: u8) -> Unopened
 /// once its pages are read, where its log prepares what it keeps as decided, or its checkpoint says another
 /// repository or store size. A page that is damaged is told before that, and before a log of the format that can't be taken
 /// into memory.
-#[tactic(auto, using(crate::proofs::Syncing::same_then, crate::proofs::Reading::same_on))]
+#[tactic(auto, using(crate::proofs::Syncing::same_then, crate::proofs::Reading::same_on, disk_trait::proofs::Several::goes_then))]
 pub fn read_repository<P: Parts>(
     alloc: Global,
     parts: &mut P,
@@ -65,6 +65,7 @@ pub fn read_repository<P: Parts>(
 ) -> Result<Option<(Recovered, u32)>, Unopened>
     ensures found { IfOk result (Finds (P.disks parts.new)) }
     ensures same { Same (P.disks parts.old) (P.disks parts.new) }
+    ensures goes { GoesOn (P.disks parts.old) (P.disks parts.new) }
     ensures stored { (images : ℕ → List ℕ) → ReadsAs (P.disks parts.old) images → OnOk result (PutsStored images objects.old objects.new) }
     ensures fresh { (images : ℕ → List ℕ) → ReadsAs (P.disks parts.old) images → result ≡ Ok None → IsFresh images }
     ensures reopens { (images : ℕ → List ℕ) → ReadsAs (P.disks parts.old) images → IfOk result (λ found. IfSome found (λ r. reopens images ≡ false)) }

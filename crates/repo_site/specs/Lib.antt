@@ -2,6 +2,7 @@ pub use Rattle.law_client_views.specs.Standing
 pub use Rattle.law_repo_calls.specs.Seen
 pub use Rattle.law_repo_memory.specs.Agreeing
 pub use Rattle.repo_core.specs.Shown
+pub use Rattle.repo_durable.specs.Failing
 pub mod Begun
 pub mod Happening
 pub mod Run

@@ -3,11 +3,14 @@
 ghost use Rattle.commit_log.specs.Holds.{Holds};
 ghost use Rattle.disk_trait.specs.AllDisks.{AllSettled};
 ghost use Rattle.log_codec.specs.declared.state.State.{State as AState};
+ghost use Rattle.repo_durable.specs.Failing.{HasFailed, NoneFell};
 ghost use Rattle.repo_durable.specs.Taking.{AgreesWhere};
+ghost use Rattle.repo_durable.specs.declared.fault.OpenCause.TheVariants.{Failed};
+ghost use Rattle.repo_core.specs.Shown.{faults_of};
 ghost use Rattle.repo_site.specs.Sited.{BeginsAs, BeginsNew, StandsIn};
 ghost use Rattle.repo_state.specs.Keeps.{Keeps};
 ghost use Rattle.repo_state.specs.Said.{said};
-ghost use Rattle.std.specs.Prelude.{IfOk, true, ◌≡◌};
+ghost use Rattle.std.specs.Prelude.{IfErr, IfOk, true, ◌≡◌};
 
 use crate::opening::Opening;
 use crate::site::Site;
@@ -33,6 +36,8 @@ impl<P: Parts, O: Opening> Site<P, O> {
         requires begins { BeginsAs O.run number repos recovered.state }
         ensures number { IfOk result (λ site. site.number ≡ number) }
         ensures up { IfOk result (λ site. site.shown.is_up ≡ true) }
+        ensures fell { IfOk result (λ site. NoneFell (P.disks parts).faults (faults_of site.shown)) }
+        ensures failed { IfErr result (λ fault. fault.cause ≡ Failed → HasFailed (P.disks parts).faults (P.disks fault.parts).faults) }
     {
         match open_repo::<P, O>(alloc, parts, recovered, number, repos) {
             Ok(repo) => Ok(Site::new(number, repos, repo)),
@@ -53,6 +58,8 @@ impl<P: Parts, O: Opening> Site<P, O> {
         requires begins { BeginsNew O.run number repos setup.now mob }
         ensures number { IfOk result (λ site. site.number ≡ number) }
         ensures up { IfOk result (λ site. site.shown.is_up ≡ true) }
+        ensures fell { IfOk result (λ site. NoneFell (P.disks parts).faults (faults_of site.shown)) }
+        ensures failed { IfErr result (λ fault. fault.cause ≡ Failed → HasFailed (P.disks parts).faults (P.disks fault.parts).faults) }
     {
         match format_repo::<P, O>(alloc, parts, number, repos, setup, mob) {
             Ok(repo) => Ok(Site::new(number, repos, repo)),
@@ -76,6 +83,8 @@ fn open_repo<P: Parts, O: Opening>(
     requires begins { BeginsAs O.run number repos recovered.state }
     ensures stands { IfOk result (StandsIn O.run number repos) }
     ensures up { IfOk result (λ repo. repo.is_up ≡ true) }
+    ensures fell { IfOk result (λ repo. NoneFell (P.disks parts).faults (faults_of repo)) }
+    ensures failed { IfErr result (λ fault. fault.cause ≡ Failed → HasFailed (P.disks parts).faults (P.disks fault.parts).faults) }
 {
     let _ = number;
     let _ = repos;
@@ -95,6 +104,8 @@ fn format_repo<P: Parts, O: Opening>(
     requires begins { BeginsNew O.run number repos setup.now mob }
     ensures stands { IfOk result (StandsIn O.run number repos) }
     ensures up { IfOk result (λ repo. repo.is_up ≡ true) }
+    ensures fell { IfOk result (λ repo. NoneFell (P.disks parts).faults (faults_of repo)) }
+    ensures failed { IfErr result (λ fault. fault.cause ≡ Failed → HasFailed (P.disks parts).faults (P.disks fault.parts).faults) }
 {
     Repo::format(alloc, parts, number, repos, setup, mob)
 }

@@ -4,7 +4,10 @@ ghost use Rattle.client_port.specs.Works.{AskWork, CommitWork, ConnectWork, Deci
 ghost use Rattle.law_repo_calls.specs.Vouching.{IsCounted};
 ghost use Rattle.repo_core.specs.Calls.{MayRequest};
 ghost use Rattle.repo_site.specs.Working.{AnyBase, Halts, HasRepos, RunsBy, WorksBy};
-ghost use Rattle.std.specs.Prelude.{IsTrue, true, ◌≡◌};
+ghost use Rattle.std.specs.Prelude.{IsErrOf, IsTrue, OnOk, true, ℕ, ◌≡◌};
+ghost use Rattle.repo_core.specs.Shown.{faults_of};
+ghost use Rattle.repo_durable.specs.Failing.{HasFailed};
+ghost use Rattle.repo_refusals.specs.declared.refusal.Refusal.TheVariants.{Stopped as IsStopped};
 
 use crate::made;
 use crate::sessions::is_there;
@@ -21,6 +24,7 @@ fn fail<P: Parts>(repo: &mut Repo<P>)
     requires up { repo.old.is_up ≡ true }
     ensures runs { RunsBy AnyBase repo.old repo.new }
     ensures halts { Halts repo.old repo.new }
+    ensures counts { repo.new.faults ≡ repo.old.faults }
 {
     repo.stop_after(0);
 }
@@ -87,6 +91,8 @@ pub(crate) fn finish<P: Parts>(
     requires up { repo.old.is_up ≡ true }
     ensures runs { RunsBy AnyBase repo.old repo.new }
     ensures works { WorksBy AnyBase repo.old repo.new (FinishWork verdict.now.tx verdict.now.commit result) }
+    ensures stopped { (n : ℕ) → IsErrOf result (IsStopped n) → HasFailed (faults_of repo.old) (faults_of repo.new) }
+    ensures steady { OnOk result (repo.new.faults ≡ repo.old.faults) }
 {
     if !repo.is_open(verdict.tx()) {
         return Ok(None);
@@ -100,6 +106,8 @@ fn learn<P: Parts>(repo: &mut Repo<P>, verdict: &Verdict) -> Result<Option<u64>,
     requires up { repo.old.is_up ≡ true }
     ensures runs { RunsBy AnyBase repo.old repo.new }
     ensures works { WorksBy AnyBase repo.old repo.new (FinishWork verdict.now.tx verdict.now.commit result) }
+    ensures stopped { (n : ℕ) → IsErrOf result (IsStopped n) → HasFailed (faults_of repo.old) (faults_of repo.new) }
+    ensures steady { OnOk result (repo.new.faults ≡ repo.old.faults) }
 {
     if !may_finish(repo, verdict.tx()) {
         fail(repo);
@@ -128,6 +136,8 @@ pub(crate) fn ask<P: Parts>(repo: &mut Repo<P>, tx: Ts) -> Result<Asked, Refusal
     requires up { repo.old.is_up ≡ true }
     ensures runs { RunsBy AnyBase repo.old repo.new }
     ensures works { WorksBy AnyBase repo.old repo.new (AskWork tx result) }
+    ensures never { (n : ℕ) → IsErrOf result (IsStopped n) → ⊥ }
+    ensures counts { repo.new.faults ≡ repo.old.faults }
 {
     if !is_here(repo, tx) {
         fail(repo);

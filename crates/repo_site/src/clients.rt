@@ -3,7 +3,10 @@
 ghost use Rattle.client_port.specs.Works.{AskWork, CommitWork, ConnectWork, DecideWork, DrawWork, FetchWork, FinishWork, ForgetWork, GrantWork, PrepareWork, ReceiveWork};
 ghost use Rattle.repo_site.specs.Sited.{Happens};
 ghost use Rattle.repo_site.specs.Working.{SiteDoes};
-ghost use Rattle.std.specs.Prelude.{ℕ};
+ghost use Rattle.std.specs.Prelude.{IsErrOf, OnOk, ℕ, ◌≡◌};
+ghost use Rattle.repo_core.specs.Shown.{faults_of};
+ghost use Rattle.repo_durable.specs.Failing.{HasFailed};
+ghost use Rattle.repo_refusals.specs.declared.refusal.Refusal.TheVariants.{Stopped as IsStopped};
 
 use crate::opening::Opening;
 use crate::site::Site;
@@ -118,6 +121,8 @@ impl<P: Parts, O: Opening> Site<P, O> {
     pub fn finish(&mut self, verdict: &Verdict) -> Result<Option<u64>, Refusal>
         ensures happens { Happens O.run self.old self.new }
         ensures shows { (c : ℕ) → SiteDoes O.run c self.old self.new result (FinishWork verdict.now.tx verdict.now.commit result) }
+        ensures stopped { (n : ℕ) → IsErrOf result (IsStopped n) → HasFailed (faults_of self.old.shown) (faults_of self.new.shown) }
+        ensures steady { OnOk result (self.new.shown.faults ≡ self.old.shown.faults) }
     {
         if !self.repo.is_up() {
             return Err(Refusal::Down { repo: self.number });
@@ -142,6 +147,8 @@ impl<P: Parts, O: Opening> Site<P, O> {
     pub fn ask(&mut self, tx: Ts) -> Result<Asked, Refusal>
         ensures happens { Happens O.run self.old self.new }
         ensures shows { (c : ℕ) → SiteDoes O.run c self.old self.new result (AskWork tx result) }
+        ensures never { (n : ℕ) → IsErrOf result (IsStopped n) → ⊥ }
+        ensures counts { self.new.shown.faults ≡ self.old.shown.faults }
     {
         if !self.repo.is_up() {
             return Err(Refusal::Down { repo: self.number });

@@ -6,7 +6,10 @@ ghost use Rattle.repo_core.specs.Behind.{has_prepared};
 ghost use Rattle.repo_core.specs.Calls.{MayRequest};
 ghost use Rattle.repo_site.specs.Testing.{IsTestedIf};
 ghost use Rattle.repo_site.specs.Working.{AnyBase, HasRepos, RunsBy, WorksBy};
-ghost use Rattle.std.specs.Prelude.{false, is_some, length, not, true, ◌||◌, ◌≡◌, ◌≢◌, ◌≤◌};
+ghost use Rattle.std.specs.Prelude.{IsErrOf, OnOk, false, is_some, length, not, true, ℕ, ◌||◌, ◌≡◌, ◌≢◌, ◌≤◌};
+ghost use Rattle.repo_core.specs.Shown.{faults_of};
+ghost use Rattle.repo_durable.specs.Failing.{HasFailed};
+ghost use Rattle.repo_refusals.specs.declared.refusal.Refusal.TheVariants.{Stopped as IsStopped};
 ghost use Rattle.thor_value.specs.FiniteMap.{get};
 ghost use Rattle.two_phase.specs.Contents.{keeps, open_at};
 
@@ -135,6 +138,8 @@ pub(crate) fn finish<P: Parts>(
     requires counted { IsCounted repo.old }
     ensures runs { RunsBy AnyBase repo.old repo.new }
     ensures works { WorksBy AnyBase repo.old repo.new (FinishWork verdict.now.tx verdict.now.commit result) }
+    ensures stopped { (n : ℕ) → IsErrOf result (IsStopped n) → HasFailed (faults_of repo.old) (faults_of repo.new) }
+    ensures steady { OnOk result (repo.new.faults ≡ repo.old.faults) }
 {
     repo.finish(verdict)
 }
@@ -156,6 +161,8 @@ pub(crate) fn ask<P: Parts>(repo: &mut Repo<P>, tx: Ts) -> Result<Asked, Refusal
     requires here { tx.repo ≡ repo.old.held.repo }
     ensures runs { RunsBy AnyBase repo.old repo.new }
     ensures works { WorksBy AnyBase repo.old repo.new (AskWork tx result) }
+    ensures never { (n : ℕ) → IsErrOf result (IsStopped n) → ⊥ }
+    ensures counts { repo.new.faults ≡ repo.old.faults }
 {
     repo.ask(tx)
 }

@@ -1,7 +1,8 @@
 //! A repository of a run.
 
-ghost use Rattle.repo_core.specs.Shown.{Shown};
-ghost use Rattle.repo_site.specs.Sited.{Happens, IsLeftOf, IsRightTrace, StandsIn};
+ghost use Rattle.repo_core.specs.Shown.{Shown, faults_of};
+ghost use Rattle.repo_durable.specs.Failing.{NoneFell};
+ghost use Rattle.repo_site.specs.Sited.{Happens, IsRightTrace, StandsIn, IsLeftOf};
 ghost use Rattle.std.specs.Prelude.{OnErr, OnOk, ◌≡◌, false, true};
 ghost use Rattle.repo_refusals.specs.declared.refusal.Refusal.TheVariants.{Down as IsDown, NoMemory as IsNoMemory};
 ghost use Rattle.std.specs.Prelude.{IfErr};
@@ -68,6 +69,15 @@ impl<P: Parts, O: Opening> Site<P, O> {
     {
         let Site { repo, .. } = self;
         repo.close()
+    }
+
+    /// Ends it. Its parts come back, and whether a stop fell in one of its calls. Where none did, the faults that it has counted
+    /// are those of its disks.
+    pub fn into_parts(self) -> (P, bool)
+        ensures { result.1 ≡ false → NoneFell (faults_of self.shown) (P.disks result.0).faults }
+    {
+        let Site { repo, .. } = self;
+        repo.into_parts()
     }
 
     /// The repository.

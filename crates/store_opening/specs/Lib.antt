@@ -1,6 +1,7 @@
 pub mod Bringing
 pub mod Counts
 pub mod Examples
+pub mod Failing
 pub mod Fitting
 pub mod Joined
 pub mod Limits

@@ -4,7 +4,7 @@ use Rattle.disk_trait.specs.AllDisks.{ReadsAs}
 use Rattle.disk_trait.specs.Disks.{Disks}
 use Rattle.repo_opening.specs.Same.{Same}
 use Rattle.std.specs.List.{AllZip}
-use Rattle.std.specs.Prelude.{List, None, Option, Some, ℕ}
+use Rattle.std.specs.Prelude.{List, None, Option, Some, ℕ, ◌≡◌}
 use Rattle.store_opening.specs.declared.closed.Closed.TheVariants.{Fresh, Known, Parts}
 use Rattle.store_opening.specs.declared.closed.Closed.{Closed}
 
@@ -25,6 +25,18 @@ IsSeated disks part (Known k) = Same (disks part) (disks k.parts)
 
 abbrev pub AreSeated : {P : Type 0} → (P → Disks) → List P → List (Closed P) → Type 0
 AreSeated disks parts places = AllZip (IsSeated disks) parts places
+
+-- what stands at a place are these parts
+abbrev pub HasPart : {P : Type 0} → Closed P → P → Type 0
+HasPart (Parts p) q = q ≡ p
+HasPart (Fresh p) q = q ≡ p
+HasPart (Known k) q = q ≡ k.parts
+
+-- their disks
+abbrev pub disks_at : {P : Type 0} → (P → Disks) → Closed P → Disks
+disks_at disks (Parts p) = disks p
+disks_at disks (Fresh p) = disks p
+disks_at disks (Known k) = disks k.parts
 
 -- what comes back from a place are its parts
 abbrev pub Gives : {P : Type 0} → (P → Disks) → Closed P → P → Type 0

@@ -4,9 +4,9 @@ ghost use Rattle.std.specs.List.{AllZip};
 ghost use Rattle.std.specs.Prelude.{vec_capacity, vec_len, ◌≡◌, ◌≤◌};
 ghost use Rattle.disk_trait.specs.AllDisks.{ReadsAs};
 ghost use Rattle.commit_log.specs.Recovered.{stands};
-ghost use Rattle.std.specs.Prelude.{IfSome, List, Some, ℕ};
+ghost use Rattle.std.specs.Prelude.{IfOk, IfSome, List, Some, ℕ};
 ghost use Rattle.store_opening.specs.Joined.{IsKept, state_of};
-ghost use Rattle.store_opening.specs.Seated.{Gives, IsSeated};
+ghost use Rattle.store_opening.specs.Seated.{Gives, HasPart, IsSeated};
 ghost use Rattle.store_opening.specs.Unsound.{IsLogOn};
 
 use disk_trait::Parts;
@@ -26,7 +26,8 @@ pub enum Closed<P: Parts> {
 impl<P: Parts> Closed<P> {
     /// The parts.
     pub fn into_parts(self) -> P
-        ensures { Gives P.disks self result }
+        ensures gives { Gives P.disks self result }
+        ensures part { HasPart self result }
     {
         match self {
             Closed::Parts(parts) => parts,
@@ -36,7 +37,9 @@ impl<P: Parts> Closed<P> {
     }
 
     /// Its parts, to be formatted; the place itself where its disks weren't read.
-    pub fn into_settled(self) -> Result<Settled<P>, Closed<P>> {
+    pub fn into_settled(self) -> Result<Settled<P>, Closed<P>>
+        ensures part { IfOk result (HasPart self) }
+    {
         match self {
             Closed::Fresh(settled) => Ok(settled),
             Closed::Known(known) => Ok(known.into_settled()),
@@ -64,6 +67,7 @@ pub fn give_back<P: Parts>(places: Vec<Closed<P>>, spare: Vec<P>) -> Vec<P>
     requires room { vec_len places ≤ vec_capacity spare }
     ensures count { vec_len result ≡ vec_len places }
     ensures gives { AllZip (Gives P.disks) places.items result.items }
+    ensures parts { AllZip HasPart places.items result.items }
 {
     let mut parts = spare;
     for place in places {

@@ -2,12 +2,15 @@
 
 ghost use Rattle.repo_opening.specs.Recovered.{Finds};
 ghost use Rattle.repo_opening.specs.Same.{Same};
-ghost use Rattle.store_opening.specs.Seated.{AreSeated, FindsFresh, IsFreshOn, IsSeated};
+ghost use Rattle.disk_trait.specs.AllDisks.{GoesOn};
+ghost use Rattle.repo_opening.specs.Unsound.{Failing};
+ghost use Rattle.store_opening.specs.Failing.{AreCalled, FailsAt, FailsIn};
+ghost use Rattle.store_opening.specs.Seated.{AreSeated, FindsFresh, IsFreshOn, IsSeated, disks_at};
 ghost use Rattle.commit_log.specs.Opening.{IsFresh};
 ghost use Rattle.std.specs.Option.{IfSome};
 ghost use Rattle.disk_trait.specs.AllDisks.{ReadsAs};
 ghost use Rattle.repo_opening.specs.Paged.{PutsStored};
-ghost use Rattle.repo_opening.specs.declared.unopened.Unopened.TheVariants.{Damaged};
+ghost use Rattle.repo_opening.specs.declared.unopened.Unopened.TheVariants.{Damaged, Failed};
 ghost use Rattle.std.specs.Prelude.{IfErr, IfOk, IsErrOf, IsOk, List, Ok, OnOk, length, true, vec_capacity, vec_len, ◌≡◌, ◌≤◌, ◌⊎◌, ℕ};
 ghost use Rattle.store_opening.specs.Unsound.{BehindOpen, HaveLogs, IsCheckpoint, IsNoRepository, IsNoStore, Represents};
 ghost use Rattle.store_opening.specs.Joined.{AreKept, read_states};
@@ -83,6 +86,8 @@ impl<P: Parts> Found<P> {
         ensures spelled { (images : List (ℕ → List ℕ)) → ReadAll P.disks parts.items images → IfOk result (λ found. AreSpelledIn images found.store) }
         ensures fit { (images : List (ℕ → List ℕ)) → ReadAll P.disks parts.items images → IfOk result (λ found. FitIn images found.store) }
         ensures damaged { (images : List (ℕ → List ℕ)) (r d place : ℕ) → ReadAll P.disks parts.items images → IfErr result (λ fault. fault.why ≡ Damaged r d place → IsNoStore images r d place) }
+        ensures called { IfOk result (λ found. AreCalled P.disks parts.items found.places.items) }
+        ensures failed { (r : ℕ) → IfErr result (λ fault. fault.why ≡ Failed r → FailsAt P.disks parts.items fault.parts.items r) }
     {
         let Ok(spare) = Vec::with_capacity(alloc, parts.len()) else {
             return Err(unread(parts));
@@ -270,6 +275,7 @@ fn is_count_above<P: Parts>(places: &[Closed<P>], limit: u64) -> bool
 fn unread<P>(parts: Vec<P>) -> ClusterFault<P>
     ensures parts { result.parts ≡ parts }
     ensures damaged { (r d place : ℕ) → result.why ≡ Damaged r d place → ⊥ }
+    ensures failed { (r : ℕ) → result.why ≡ Failed r → ⊥ }
 {
     ClusterFault {
         parts,
@@ -293,6 +299,8 @@ fn read_all<P: Parts>(
     ensures seated { AreSeated P.disks parts.items result.0.items }
     ensures put { (images : List (ℕ → List ℕ)) → ReadAll P.disks parts.items images → OnOk result.1 (PutsAll images objects.old objects.new) }
     ensures damaged { (images : List (ℕ → List ℕ)) (r d place : ℕ) → ReadAll P.disks parts.items images → IsErrOf result.1 (Damaged r d place) → IsNoStore images r d place }
+    ensures called { AreCalled P.disks parts.items result.0.items }
+    ensures failed { (r : ℕ) → IsErrOf result.1 (Failed r) → FailsIn P.disks parts.items result.0.items r }
 {
     let repos = parts.len();
     let mut places = places;
@@ -306,6 +314,7 @@ fn read_all<P: Parts>(
 }
 
 /// Reads the repository behind others, where all of them were read.
+#[tactic(auto, using(disk_trait::proofs::Several::goes_none))]
 fn read_next<P: Parts>(
     alloc: Global,
     before: Result<(), Unopened>,
@@ -318,6 +327,8 @@ fn read_next<P: Parts>(
     ensures seated { IsSeated P.disks part result.0 }
     ensures put { (images : ℕ → List ℕ) → ReadsAs (P.disks part) images → OnOk result.1 (IsOk before × PutsStored images objects.old objects.new) }
     ensures damaged { (image : ℕ → List ℕ) (r d place : ℕ) → ReadsAs (P.disks part) image → IsErrOf result.1 (Damaged r d place) → IsErrOf before (Damaged r d place) ⊎ ((r ≡ length places.now) × IsNoRepository P.disks places.now repos image r d place) }
+    ensures goes { GoesOn (P.disks part) (disks_at P.disks result.0) }
+    ensures failed { (r : ℕ) → IsErrOf result.1 (Failed r) → IsErrOf before (Failed r) ⊎ ((r ≡ length places.now) × Failing (P.disks part) (disks_at P.disks result.0)) }
 {
     match before {
         Ok(()) => read_behind(alloc, part, places, repos, mob, objects),
@@ -326,6 +337,7 @@ fn read_next<P: Parts>(
 }
 
 /// Reads the repository behind those that were read.
+#[tactic(auto, using(disk_trait::proofs::Several::goes_none))]
 fn read_behind<P: Parts>(
     alloc: Global,
     part: P,
@@ -337,6 +349,8 @@ fn read_behind<P: Parts>(
     ensures seated { IsSeated P.disks part result.0 }
     ensures put { (images : ℕ → List ℕ) → ReadsAs (P.disks part) images → OnOk result.1 (PutsStored images objects.old objects.new) }
     ensures damaged { (image : ℕ → List ℕ) (r d place : ℕ) → ReadsAs (P.disks part) image → IsErrOf result.1 (Damaged r d place) → (r ≡ length places.now) × IsNoRepository P.disks places.now repos image r d place }
+    ensures goes { GoesOn (P.disks part) (disks_at P.disks result.0) }
+    ensures failed { (r : ℕ) → IsErrOf result.1 (Failed r) → (r ≡ length places.now) × Failing (P.disks part) (disks_at P.disks result.0) }
 {
     let (Ok(repo), Ok(repos)) = (number_at(places.len()), number_at(repos)) else {
         return (Closed::Parts(part), Err(Unopened::NoMemory));
@@ -359,6 +373,8 @@ fn placed<P: Parts>(
     requires fresh { FindsFresh (P.disks part) found }
     ensures seated { (given : P) → Same (P.disks given) (P.disks part) → IsSeated P.disks given result.0 }
     ensures damaged { (r d place : ℕ) → IsErrOf result.1 (Damaged r d place) → (r ≡ repo) × (d ≡ 0) × (place ≡ 0) × IsFreshOn (P.disks part) × BehindOpen P.disks places.now }
+    ensures same { disks_at P.disks result.0 ≡ P.disks part }
+    ensures failed { (r : ℕ) → IsErrOf result.1 (Failed r) → ⊥ }
 {
     match found {
         Some((recovered, behind)) => (Closed::Known(Known::new(part, recovered, behind)), Ok(())),
@@ -371,7 +387,8 @@ fn placed<P: Parts>(
 
 /// Whether a repository may be fresh behind those that were read: not where repository 0 is open.
 fn may_be_fresh<P: Parts>(repo: u8, places: &[Closed<P>]) -> Result<(), Unopened>
-    ensures { (r d place : ℕ) → IsErrOf result (Damaged r d place) → (r ≡ repo) × (d ≡ 0) × (place ≡ 0) × BehindOpen P.disks places.now }
+    ensures damaged { (r d place : ℕ) → IsErrOf result (Damaged r d place) → (r ≡ repo) × (d ≡ 0) × (place ≡ 0) × BehindOpen P.disks places.now }
+    ensures failed { (r : ℕ) → IsErrOf result (Failed r) → ⊥ }
 {
     if begins_open(places) {
         return Err(Unopened::Damaged {
@@ -434,6 +451,7 @@ fn store_of<P: Parts>(
     ensures spelled { (parts : List P) (images : List (ℕ → List ℕ)) → AreSeated P.disks parts places.now → ReadAll P.disks parts images → IfOk result (AreSpelledIn images) }
     ensures fit { (parts : List P) (images : List (ℕ → List ℕ)) → AreSeated P.disks parts places.now → ReadAll P.disks parts images → OnOk read (PutsAll images empty objects) → IfOk result (FitIn images) }
     ensures damaged { (parts : List P) (images : List (ℕ → List ℕ)) (r d place : ℕ) → AreSeated P.disks parts places.now → ReadAll P.disks parts images → OnOk read (PutsAll images empty objects) → (IsErrOf read (Damaged r d place) → IsNoStore images r d place) → IsErrOf result (Damaged r d place) → IsNoStore images r d place }
+    ensures failed { (r : ℕ) → IsErrOf result (Failed r) → IsErrOf read (Failed r) }
 {
     let (objects, _) = both(objects, read)?;
     if begins_fresh(places) {
@@ -476,6 +494,7 @@ fn open_store(alloc: Global, reads: &[Read<'_>], paged: OrefMap<Obj>) -> Result<
     ensures spelled { (images : List (ℕ → List ℕ)) → StandFor images (read_states reads.now) → IfOk result (AreSpelledIn images) }
     ensures fit { (images : List (ℕ → List ℕ)) → StandFor images (read_states reads.now) → PutsAll images empty paged → IfOk result (FitIn images) }
     ensures damaged { (r d place : ℕ) → IsErrOf result (Damaged r d place) → IsCheckpoint reads.now r d place × IsMisfit (read_states reads.now) paged r }
+    ensures failed { (r : ℕ) → IsErrOf result (Failed r) → ⊥ }
 {
     let (paged, roots) = both(paged, roots_of(reads))?;
     let fit = fitted(reads, check_store(alloc, reads, paged));
@@ -503,6 +522,7 @@ fn open_store(alloc: Global, reads: &[Read<'_>], paged: OrefMap<Obj>) -> Result<
 fn fitted<T: Drop>(reads: &[Read<'_>], checked: Result<T, Misfit>) -> Result<T, Unopened>
     ensures ok { IfOk result (λ found. checked ≡ Ok found) }
     ensures damaged { (r d place : ℕ) → IsErrOf result (Damaged r d place) → IsCheckpoint reads.now r d place × IsErrOf checked (Of r) }
+    ensures failed { (r : ℕ) → IsErrOf result (Failed r) → ⊥ }
 {
     match checked {
         Ok(found) => Ok(found),
@@ -513,7 +533,8 @@ fn fitted<T: Drop>(reads: &[Read<'_>], checked: Result<T, Misfit>) -> Result<T, 
 
 /// What is told where a repository doesn't fit: the place of its checkpoint. Of one that the store hasn't, it is byte 0 of disk 0.
 fn misfit_at(reads: &[Read<'_>], repo: u8) -> Unopened
-    ensures { (r d place : ℕ) → result ≡ Damaged r d place → IsCheckpoint reads.now r d place × (r ≡ repo) }
+    ensures damaged { (r d place : ℕ) → result ≡ Damaged r d place → IsCheckpoint reads.now r d place × (r ≡ repo) }
+    ensures failed { (r : ℕ) → result ≡ Failed r → ⊥ }
 {
     match reads.get(usize::from(repo)) {
         Some(read) => read.damaged(repo),

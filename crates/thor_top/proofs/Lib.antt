@@ -1,3 +1,4 @@
+pub mod FailLaws
 pub mod HistoryLaws
 pub mod LineLaws
 pub mod ReplyLaws

@@ -70,3 +70,7 @@ one_check words plan p is is_p check = subst (λ (q : Plan). q.command ≡ Check
 -- what is true of the reply that was written, where it is this one
 pub gives : (made written : Result Reply NoMemory) (w : Reply) (Of : Reply → Type 0) → IfOk written (λ r. made ≡ Ok r) → IfOk made Of → written ≡ Ok w → Of w
 gives made written w Of same says is = subst (λ (x : Result Reply NoMemory). IfOk x Of) is (said_of made written Of same says)
+
+-- it was made so
+pub given_as : (made written : Result Reply NoMemory) (w : Reply) → IfOk written (λ r. made ≡ Ok r) → written ≡ Ok w → made ≡ Ok w
+given_as made written w same is = subst (λ (x : Result Reply NoMemory). IfOk x (λ r. made ≡ Ok r)) is same

@@ -3,7 +3,9 @@
 ghost use Rattle.cluster_threads.specs.Committed.{committed_lines};
 ghost use Rattle.cluster_threads.specs.Histories.{AreHistories, AreHistoriesIf, EndsAs};
 ghost use Rattle.repo_opening.specs.Same.{AreSame};
-ghost use Rattle.std.specs.Prelude.{IfOk, Some, [], vec_len, ◌≡◌};
+ghost use Rattle.std.specs.Prelude.{IfOk, Ok, Some, [], vec_len, ℕ, ◌≡◌};
+ghost use Rattle.store_opening.specs.Failing.{FailsAt};
+ghost use Rattle.top_reply.specs.declared.reply.Reply.TheVariants.{DiskFault};
 ghost use Rattle.store_opening.specs.Reading.{ReadAll};
 ghost use Rattle.thor_top.specs.Stages.{IsInTurn};
 ghost use Rattle.top_statement.specs.Kept.{RefusesBy, WritesNothing};
@@ -36,6 +38,7 @@ pub(crate) fn answer_in_turn<S: Source, P: Parts, G: Gate>(
 ) -> Answered<P>
     ensures reply { IfOk result.reply (Says (ReadAll P.disks parts.items) (IsHanded plan.now (vec_len parts)) (IsForOthers plan.now (vec_len parts)) (told_by S.left S.faults source.old) (told_by S.left S.faults source.new)) }
     ensures parts { vec_len result.parts ≡ vec_len parts }
+    ensures failed { (repo : ℕ) → result.reply ≡ Ok (DiskFault repo) → FailsAt P.disks parts.items result.parts.items repo }
     ensures kept { WritesNothing plan.now.command result.reply → AreSame P.disks parts.items result.parts.items }
     ensures histories { AreHistoriesIf P.disks parts.items result.traces }
     ensures reported { TellsRunBy result.reply → AreHistories P.disks parts.items result.traces }
@@ -77,6 +80,7 @@ fn answer_on_threads<R: Threads + Wait + Sync, S: Source, P: Parts + Send, G: Ga
 ) -> Answered<P>
     ensures reply { IfOk result.reply (Says (ReadAll P.disks parts.items) (IsHanded plan.now (vec_len parts)) (IsForOthers plan.now (vec_len parts)) (told_by S.left S.faults source.old) (told_by S.left S.faults source.new)) }
     ensures parts { vec_len result.parts ≡ vec_len parts }
+    ensures failed { (repo : ℕ) → result.reply ≡ Ok (DiskFault repo) → FailsAt P.disks parts.items result.parts.items repo }
     ensures kept { WritesNothing plan.now.command result.reply → AreSame P.disks parts.items result.parts.items }
     ensures committed { IfOk result.reply (SaysLines (committed_lines result.traces) (ReadAll P.disks parts.items) (IsHanded plan.now (vec_len parts)) (told_by S.left S.faults source.old) (told_by S.left S.faults source.new)) }
 {
@@ -96,6 +100,7 @@ fn answer_plan<R: Threads + Wait + Sync, S: Source, P: Parts + Send, G: Gate + S
 ) -> Answered<P>
     ensures reply { IfOk result.reply (Says (ReadAll P.disks parts.items) (IsHanded plan.now (vec_len parts)) (IsForOthers plan.now (vec_len parts)) (told_by S.left S.faults source.old) (told_by S.left S.faults source.new)) }
     ensures parts { vec_len result.parts ≡ vec_len parts }
+    ensures failed { (repo : ℕ) → result.reply ≡ Ok (DiskFault repo) → FailsAt P.disks parts.items result.parts.items repo }
     ensures kept { WritesNothing plan.now.command result.reply → AreSame P.disks parts.items result.parts.items }
     ensures histories { IsInTurn plan.now.command → AreHistoriesIf P.disks parts.items result.traces }
     ensures reported { IsInTurn plan.now.command → TellsRunBy result.reply → AreHistories P.disks parts.items result.traces }
@@ -120,6 +125,7 @@ pub(crate) fn answer<R: Threads + Wait + Sync, S: Source, P: Parts + Send, G: Ga
 ) -> Answered<P>
     ensures reply { IfOk result.reply (Says (ReadAll P.disks parts.items) (IsPlan words.now (vec_len parts)) (IsNoPlan words.now (vec_len parts)) (told_by S.left S.faults source.old) (told_by S.left S.faults source.new)) }
     ensures parts { vec_len result.parts ≡ vec_len parts }
+    ensures failed { (repo : ℕ) → result.reply ≡ Ok (DiskFault repo) → FailsAt P.disks parts.items result.parts.items repo }
     ensures kept { RefusesBy result.reply → AreSame P.disks parts.items result.parts.items }
     ensures checked { (plan : Plan) → plan_of words.now ≡ Some plan → plan.command ≡ Check → AreSame P.disks parts.items result.parts.items }
     ensures audited { (plan : Plan) → plan_of words.now ≡ Some plan → plan.command ≡ Audit → AreSame P.disks parts.items result.parts.items }

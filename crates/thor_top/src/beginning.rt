@@ -2,11 +2,13 @@
 
 ghost use Rattle.repo_opening.specs.Same.{AreSame};
 ghost use Rattle.script_parse.specs.Script.{HasFew};
-ghost use Rattle.std.specs.Prelude.{IfErr, IfOk, List, length, vec_len, ◌≡◌, ◌≤◌};
+ghost use Rattle.std.specs.Prelude.{IfErr, IfOk, List, Ok, length, vec_len, ℕ, ◌≡◌, ◌≤◌};
+ghost use Rattle.store_opening.specs.Failing.{AreCalled, FailsAt};
 ghost use Rattle.store_opening.specs.Counts.{HasParts, parts_in};
 ghost use Rattle.store_opening.specs.Reading.{ReadAll};
 ghost use Rattle.thor_top.specs.Stages.{Foretells, IsAwaited, IsAwaitedBy, IsForStore, IsPlayed};
 ghost use Rattle.top_judging.specs.Stages.{IsJudged, RepliesUnsettled};
+ghost use Rattle.top_reply.specs.declared.reply.Reply.TheVariants.{DiskFault};
 ghost use Rattle.top_reply.specs.declared.reply.Reply.{Reply as AReply};
 ghost use Rattle.top_statement.specs.Opening.{IsStoredBy};
 ghost use Rattle.top_statement.specs.Kept.{WritesNothing};
@@ -42,6 +44,7 @@ fn checked<P: Parts>(alloc: Global, plan: &Plan, script: &Script, judged: Judged
     requires judged { IsJudged plan.now script.now judged.found.store judged.base }
     ensures reply { (given : List P) → IsStoredBy (ReadAll P.disks given) judged.found.store → IfOk result.reply (RepliesTo (ReadAll P.disks given) plan.now script.now) }
     ensures untold { TellsNoRun result.reply }
+    ensures never { (repo : ℕ) → result.reply ≡ Ok (DiskFault repo) → ⊥ }
     ensures parts { vec_len result.parts ≡ parts_in judged.found }
     ensures same { (given : List P) → HasParts P.disks given judged.found → AreSame P.disks given result.parts.items }
 {
@@ -66,6 +69,7 @@ fn begin_judged<P: Parts>(
     ensures reply { (given : List P) → IsStoredBy (ReadAll P.disks given) judged.found.store → IfErr result (λ a. IfOk a.reply (RepliesTo (ReadAll P.disks given) plan.now script)) }
     ensures untold { IfErr result (λ a. TellsNoRun a.reply) }
     ensures parts { IfErr result (λ a. vec_len a.parts ≡ parts_in judged.found) }
+    ensures never { (repo : ℕ) → IfErr result (λ a. a.reply ≡ Ok (DiskFault repo) → ⊥) }
     ensures kept { (given : List P) → HasParts P.disks given judged.found → IfErr result (λ a. WritesNothing plan.now.command a.reply → AreSame P.disks given a.parts.items) }
 {
     match form_of(plan.command) {
@@ -94,6 +98,8 @@ fn begin_script<P: Parts>(
     ensures played { IfOk result (λ run. IsPlayed plan.now.command) }
     ensures count { IfOk result (λ run. parts_in run.found ≡ vec_len parts) }
     ensures found { IfOk result (λ run. HasParts P.disks parts.items run.found) }
+    ensures called { IfOk result (λ run. AreCalled P.disks parts.items run.found.places.items) }
+    ensures failed { (repo : ℕ) → IfErr result (λ a. a.reply ≡ Ok (DiskFault repo) → FailsAt P.disks parts.items a.parts.items repo) }
     ensures reply { IfErr result (λ a. IfOk a.reply (RepliesTo (ReadAll P.disks parts.items) plan.now script)) }
     ensures untold { IfErr result (λ a. TellsNoRun a.reply) }
     ensures parts { IfErr result (λ a. vec_len a.parts ≡ vec_len parts) }
@@ -122,6 +128,8 @@ pub(crate) fn begin<S: Source, P: Parts>(
     ensures played { IfOk result (λ run. IsPlayed plan.now.command) }
     ensures count { IfOk result (λ run. parts_in run.found ≡ vec_len parts) }
     ensures found { IfOk result (λ run. HasParts P.disks parts.items run.found) }
+    ensures called { IfOk result (λ run. AreCalled P.disks parts.items run.found.places.items) }
+    ensures failed { (repo : ℕ) → IfErr result (λ a. a.reply ≡ Ok (DiskFault repo) → FailsAt P.disks parts.items a.parts.items repo) }
     ensures reply { IfErr result (λ a. IfOk a.reply (Says (ReadAll P.disks parts.items) (IsHanded plan.now (vec_len parts)) (IsForOthers plan.now (vec_len parts)) (told_by S.left S.faults source.old) (told_by S.left S.faults source.new))) }
     ensures untold { IfErr result (λ a. TellsNoRun a.reply) }
     ensures parts { IfErr result (λ a. vec_len a.parts ≡ vec_len parts) }

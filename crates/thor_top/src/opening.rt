@@ -2,7 +2,8 @@
 
 ghost use Rattle.script_check.specs.Upgrading.{extended, upgrades_of};
 ghost use Rattle.serial_model.specs.Replays.{AreMade};
-ghost use Rattle.std.specs.Prelude.{IfErr, IfOk, List, vec_len, ◌≡◌, ℕ};
+ghost use Rattle.std.specs.Prelude.{IfErr, IfOk, List, Ok, vec_len, ◌≡◌, ℕ};
+ghost use Rattle.top_reply.specs.declared.reply.Reply.TheVariants.{DiskFault};
 ghost use Rattle.store_opening.specs.Counts.{parts_in};
 ghost use Rattle.store_opening.specs.Reading.{IsStoredIn, ReadAll};
 ghost use Rattle.thor_top.specs.Stages.{Awaits, Foretells, RepliesRun};
@@ -119,6 +120,7 @@ pub(crate) fn run_on<P: Parts>(
     ensures found { IfOk result (λ run. run.found ≡ judged.found) }
     ensures reply { IfErr result (λ a. IfOk a.reply RepliesUnsettled) }
     ensures parts { IfErr result (λ a. vec_len a.parts ≡ parts_in judged.found) }
+    ensures never { (repo : ℕ) → IfErr result (λ a. a.reply ≡ Ok (DiskFault repo) → ⊥) }
 {
     let Judged { base, found } = judged;
     let prepared = prepared(alloc, plan, &script, &base, &found);

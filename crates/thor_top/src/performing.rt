@@ -4,7 +4,9 @@ ghost use Rattle.cluster_threads.specs.Committed.{committed_lines};
 ghost use Rattle.cluster_threads.specs.Histories.{AreHistories, AreHistoriesIf, EndsAs};
 ghost use Rattle.outside.specs.Faults.{Rose};
 ghost use Rattle.repo_opening.specs.Same.{AreSame};
-ghost use Rattle.std.specs.Prelude.{IfOk, vec_len, ◌≡◌};
+ghost use Rattle.std.specs.Prelude.{IfOk, Ok, vec_len, ℕ, ◌≡◌};
+ghost use Rattle.store_opening.specs.Failing.{FailsAt};
+ghost use Rattle.top_reply.specs.declared.reply.Reply.TheVariants.{DiskFault};
 ghost use Rattle.store_opening.specs.Reading.{ReadAll};
 ghost use Rattle.thor_top.specs.Stages.{IsInTurn};
 ghost use Rattle.top_statement.specs.Kept.{RefusesBy};
@@ -42,6 +44,8 @@ pub fn perform<S: Source, K: Sink, P: Parts>(
     ensures wrote { Wrote result.reply (K.taken sink.old) (K.taken sink.new) (K.faults sink.old) (K.faults sink.new) result.status }
     ensures sink_fault { result.status ≡ Status.SinkFault → Rose (K.faults sink.old) (K.faults sink.new) }
     ensures nothing { result.status ≡ Status.NoMemory → K.taken sink.new ≡ K.taken sink.old }
+    // Where it is of a disk, the count of faults of one of that repository's disks rose.
+    ensures failed { (repo : ℕ) → result.reply ≡ Ok (DiskFault repo) → FailsAt P.disks parts.repositories.items result.parts.repositories.items repo }
     // No part is lost.
     ensures parts { vec_len result.parts.repositories ≡ vec_len parts.repositories }
     // Where something is refused, and after a check or an audit, the disks have what they had.

@@ -2,7 +2,10 @@
 
 ghost use Rattle.cluster_threads.specs.Committed.{committed_lines};
 ghost use Rattle.cluster_threads.specs.Histories.{AreHistories, AreHistoriesIf, EndsAs};
-ghost use Rattle.std.specs.Prelude.{IfErr, IfOk, List, vec_len, ◌≡◌};
+ghost use Rattle.repo_opening.specs.declared.unopened.Unopened.TheVariants.{Failed};
+ghost use Rattle.std.specs.Prelude.{IfErr, IfOk, List, Ok, vec_len, ℕ, ◌≡◌};
+ghost use Rattle.store_opening.specs.Failing.{AreCalled, FailsAt};
+ghost use Rattle.top_reply.specs.declared.reply.Reply.TheVariants.{DiskFault};
 ghost use Rattle.store_opening.specs.Counts.{HasParts, parts_in};
 ghost use Rattle.thor_top.specs.Stages.{IsToldOf, IsToldWith};
 ghost use Rattle.thor_value.specs.FiniteMap.{IsSorted};
@@ -47,6 +50,7 @@ pub(crate) fn run_in_turn<P: Parts, G: Gate>(
     requires { IsSorted run.expected.opened.store.objects }
     ensures reply { IfOk result.reply (IsToldOf run.expected) }
     ensures parts { vec_len result.parts ≡ parts_in run.found }
+    ensures failed { (given : List P) (repo : ℕ) → AreCalled P.disks given run.found.places.items → result.reply ≡ Ok (DiskFault repo) → FailsAt P.disks given result.parts.items repo }
     ensures histories { (given : List P) → HasParts P.disks given run.found → AreHistoriesIf P.disks given result.traces }
     ensures reported { (given : List P) → HasParts P.disks given run.found → TellsRunBy result.reply → AreHistories P.disks given result.traces }
     ensures left { (given : List P) → HasParts P.disks given run.found → TellsRunBy result.reply → EndsAs P.disks given result.parts.items result.traces }
@@ -72,6 +76,7 @@ pub(crate) fn run_on_threads<R: Threads + Wait + Sync, P: Parts + Send, G: Gate 
     requires sorted { IsSorted run.expected.opened.store.objects }
     ensures reply { IfOk result.reply (IsToldOf run.expected) }
     ensures parts { vec_len result.parts ≡ parts_in run.found }
+    ensures failed { (given : List P) (repo : ℕ) → AreCalled P.disks given run.found.places.items → result.reply ≡ Ok (DiskFault repo) → FailsAt P.disks given result.parts.items repo }
     ensures committed { TellsRunBy result.reply → IfOk result.reply (IsToldWith (committed_lines result.traces) run.expected) }
 {
     let FoundRun {
@@ -96,6 +101,7 @@ fn play_on_threads<R: Threads + Wait + Sync, P: Parts + Send, G: Gate + Sync>(
 ) -> Result<Finished<P>, ClusterFault<P>>
     ensures parts { IfOk result (λ finished. vec_len finished.parts ≡ parts_in found) }
     ensures err { IfErr result (λ fault. vec_len fault.parts ≡ parts_in found) }
+    ensures failed { (given : List P) → AreCalled P.disks given found.places.items → IfErr result (λ fault. (r : ℕ) → fault.why ≡ Failed r → FailsAt P.disks given fault.parts.items r) }
     ensures lines { IfOk result (λ finished. IfOk finished.ran (λ ran. ran.lines ≡ committed_lines ran.traces)) }
 {
     match Cluster::<P, Brand>::open(alloc, found, run) {

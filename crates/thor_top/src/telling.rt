@@ -1,16 +1,19 @@
 //! What is replied of a run that was made.
 
-ghost use Rattle.std.specs.Prelude.{IfErr, IfOk, IsOk, Ok, [], ◌≡◌};
+ghost use Rattle.repo_opening.specs.declared.unopened.Unopened.TheVariants.{Failed};
+ghost use Rattle.std.specs.Prelude.{IfErr, IfOk, IsErrAnd, IsOk, Ok, [], ℕ, ◌≡◌};
 ghost use Rattle.thor_top.specs.Stages.{AreTracesOf, IsToldOf, IsToldWith, TracesOf, WasMade};
 ghost use Rattle.top_judging.specs.Stages.{RepliesUnsettled};
 ghost use Rattle.thor_value.specs.FiniteMap.{IsSorted};
 ghost use Rattle.top_reply.specs.Reports.{IsReported};
+ghost use Rattle.top_reply.specs.declared.reply.Reply.TheVariants.{DiskFault};
 ghost use Rattle.top_statement.specs.Telling.{TellsRunBy};
 
 use crate::expected::Expected;
 use cluster_threads::{Finished, Ran};
 use disk_trait::Parts;
 use outside::Gate;
+use repo_opening::Unopened;
 use repo_trace::Traces;
 use std::alloc::Global;
 use std::mem;
@@ -111,18 +114,34 @@ fn told<P: Parts, G: Gate>(
     }
 }
 
-/// What is replied where the store couldn't be opened, with the parts.
-fn unopened<P: Parts>(alloc: Global, expected: Expected, fault: ClusterFault<P>) -> Answered<P>
+/// Tells the gate of a store that wasn't opened since a disk gave other bytes than as it was read.
+fn tell_changed<G: Gate>(gate: &G, why: Unopened) {
+    if let Unopened::Damaged { .. } = why {
+        gate.find_changed();
+    }
+}
+
+/// What is replied where the store couldn't be opened, with the parts. The gate is told where a disk gave other bytes than as the
+/// store was read.
+fn unopened<P: Parts, G: Gate>(
+    alloc: Global,
+    gate: &G,
+    expected: Expected,
+    fault: ClusterFault<P>,
+) -> Answered<P>
     ensures reply { IfOk result.reply RepliesUnsettled }
+    ensures failed { (repo : ℕ) → result.reply ≡ Ok (DiskFault repo) → fault.why ≡ Failed repo }
     ensures parts { result.parts ≡ fault.parts }
     ensures traces { result.traces ≡ [] }
 {
     let ClusterFault { parts, why } = fault;
     drop(expected);
+    tell_changed(gate, why);
     unplayed(alloc, unsettled(why), parts)
 }
 
-/// What is replied where a run was asked for, with the parts. The gate is told of a run whose history didn't pass its check.
+/// What is replied where a run was asked for, with the parts. The gate is told of a run whose history didn't pass its check, and of a
+/// disk that gave other bytes than as the store was read.
 pub(crate) fn replied<P: Parts, G: Gate>(
     alloc: Global,
     gate: &G,
@@ -138,9 +157,11 @@ pub(crate) fn replied<P: Parts, G: Gate>(
     ensures ran { TellsRunBy result.reply → WasMade played }
     // Its history has the lines of that one.
     ensures lines { IfOk played (λ finished. IfOk finished.ran (λ r. IfOk result.reply (IsToldWith r.lines expected))) }
+    // It is of a disk where the store couldn't be opened for that.
+    ensures failed { (repo : ℕ) → result.reply ≡ Ok (DiskFault repo) → IsErrAnd played (λ fault. fault.why ≡ Failed repo) }
 {
     match played {
         Ok(finished) => told(alloc, gate, expected, finished),
-        Err(fault) => unopened(alloc, expected, fault),
+        Err(fault) => unopened(alloc, gate, expected, fault),
     }
 }

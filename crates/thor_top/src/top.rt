@@ -5,6 +5,7 @@ ghost use Rattle.outside.specs.Faults.{Rose};
 ghost use Rattle.repo_opening.specs.Same.{AreSame};
 ghost use Rattle.script_parse.specs.declared.refusal.Refusal.{Refusal};
 ghost use Rattle.std.specs.Prelude.{Bool, IfOk, List, Ok, Some, vec_len, ℕ, ◌≡◌};
+ghost use Rattle.store_opening.specs.Failing.{FailsAt};
 ghost use Rattle.store_opening.specs.Reading.{ReadAll};
 ghost use Rattle.thor_top.specs.Stages.{IsInTurn};
 ghost use Rattle.top_statement.specs.Kept.{RefusesBy};
@@ -57,6 +58,8 @@ pub fn thor<R: Threads + Wait + Sync, S: Source, K: Sink, P: Parts + Send, G: Ga
     // wrong at that place.
     ensures disk { (repo : ℕ) → result.reply ≡ Ok (Reply.DiskFault repo) → SaysDisk (IsPlan words.now (vec_len parts.repositories)) (told_by S.left S.faults source.old) (told_by S.left S.faults source.new) repo }
     ensures damage { (repo disk place : ℕ) → result.reply ≡ Ok (Reply.Damaged repo disk place) → SaysDamaged (ReadAll P.disks parts.repositories.items) (IsPlan words.now (vec_len parts.repositories)) (told_by S.left S.faults source.old) (told_by S.left S.faults source.new) repo disk place }
+    // One of that repository's disks failed: its count of faults rose between what was handed in and what comes back.
+    ensures failed { (repo : ℕ) → result.reply ≡ Ok (Reply.DiskFault repo) → FailsAt P.disks parts.repositories.items result.parts.repositories.items repo }
     // The words are no plan.
     ensures words { result.reply ≡ Ok Reply.Words → SaysWords (IsNoPlan words.now (vec_len parts.repositories)) (told_by S.left S.faults source.old) (told_by S.left S.faults source.new) }
     // The report behind the script is true of it, by `audit`: it tells one serial history of the script's items, which is legal from

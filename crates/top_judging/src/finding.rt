@@ -2,10 +2,12 @@
 
 ghost use Rattle.repo_opening.specs.Same.{AreSame};
 ghost use Rattle.script_parse.specs.Script.{HasFew};
-ghost use Rattle.std.specs.Prelude.{IfErr, IfOk, List, length, vec_len, ◌≡◌, ◌≤◌};
+ghost use Rattle.std.specs.Prelude.{IfErr, IfOk, List, Ok, length, vec_len, ℕ, ◌≡◌, ◌≤◌};
 ghost use Rattle.store_opening.specs.Counts.{HasParts, parts_in};
+ghost use Rattle.store_opening.specs.Failing.{AreCalled, FailsAt};
 ghost use Rattle.store_opening.specs.Reading.{ReadAll};
 ghost use Rattle.top_judging.specs.Stages.{IsJudged, RepliesUnjudged};
+ghost use Rattle.top_reply.specs.declared.reply.Reply.TheVariants.{DiskFault};
 ghost use Rattle.top_statement.specs.Opening.{IsStoredBy};
 ghost use Rattle.top_statement.specs.Telling.{TellsNoRun};
 ghost use Rattle.top_statement.specs.Top.{RepliesTo};
@@ -42,6 +44,7 @@ fn judged_on<P: Parts>(
     ensures reply { (given : List P) → HasParts P.disks given found → IfErr result (λ a. IfOk a.reply (RepliesUnjudged (ReadAll P.disks given) plan.now script.now found.store)) }
     ensures parts { IfErr result (λ a. vec_len a.parts ≡ parts_in found) }
     ensures same { (given : List P) → HasParts P.disks given found → IfErr result (λ a. AreSame P.disks given a.parts.items) }
+    ensures never { (given : List P) (repo : ℕ) → HasParts P.disks given found → IfErr result (λ a. a.reply ≡ Ok (DiskFault repo) → ⊥) }
 {
     match base_in(alloc, plan, script, &found) {
         Ok(base) => Ok(Judged { base, found }),
@@ -69,6 +72,9 @@ pub fn find<P: Parts>(
     ensures untold { IfErr result (λ a. TellsNoRun a.reply) }
     ensures parts { IfErr result (λ a. vec_len a.parts ≡ vec_len parts) }
     ensures same { IfErr result (λ a. AreSame P.disks parts.items a.parts.items) }
+    // What came to the disks, and of which repository one failed.
+    ensures called { IfOk result (λ j. AreCalled P.disks parts.items j.found.places.items) }
+    ensures failed { (repo : ℕ) → IfErr result (λ a. a.reply ≡ Ok (DiskFault repo) → FailsAt P.disks parts.items a.parts.items repo) }
 {
     match Found::read(alloc, parts, plan.mob) {
         Ok(found) => judged_on(alloc, plan, script, found),

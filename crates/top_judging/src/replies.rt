@@ -1,7 +1,9 @@
 //! What the program replies where a store wasn't opened.
 
-ghost use Rattle.std.specs.Prelude.{IfOk};
+ghost use Rattle.repo_opening.specs.declared.unopened.Unopened.TheVariants.{Failed};
+ghost use Rattle.std.specs.Prelude.{IfOk, Ok, ℕ, ◌≡◌};
 ghost use Rattle.top_judging.specs.Stages.{RepliesUnopened, RepliesUnsettled, RepliesWhy};
+ghost use Rattle.top_reply.specs.declared.reply.Reply.TheVariants.{DiskFault};
 
 use repo_opening::Unopened;
 use thor_value::NoMemory;
@@ -19,13 +21,14 @@ pub fn unopened(why: Unopened) -> Result<Reply, NoMemory>
     }
 }
 
-/// The reply where a store that was read couldn't be opened then. Its bytes were a store's, so a disk that gives others now
-/// is one that failed.
+/// The reply where a store that was read couldn't be opened then. Nothing is replied of a disk that gives other bytes than it gave: none
+/// of its faults was counted, and the store's disks may have been written to.
 pub fn unsettled(why: Unopened) -> Result<Reply, NoMemory>
-    ensures { IfOk result RepliesUnsettled }
+    ensures replied { IfOk result RepliesUnsettled }
+    ensures failed { (repo : ℕ) → result ≡ Ok (DiskFault repo) → why ≡ Failed repo }
 {
     match why {
-        Unopened::Failed { repo } | Unopened::Damaged { repo, .. } => Ok(Reply::DiskFault { repo }),
-        Unopened::NoMemory => Err(NoMemory),
+        Unopened::Failed { repo } => Ok(Reply::DiskFault { repo }),
+        Unopened::Damaged { .. } | Unopened::NoMemory => Err(NoMemory),
     }
 }

@@ -1,6 +1,8 @@
+use Rattle.cluster_core.proofs.Failing.{failed_all, failed_last, failed_more, fell_all, fell_next}
+use Rattle.cluster_core.specs.Failing.{faults_at}
 use Rattle.cluster_core.proofs.Seating.{begun_left, length_more, next_one, none_left, none_seated, recovered_all, recovered_next, seated_next}
 use Rattle.cluster_core.specs.Seated.{AreBegun, IsSeatedAt}
-use Rattle.std.proofs.Common.{arith, length, subst, sym, ℕ, ◌≡◌}
+use Rattle.std.proofs.Common.{ap, arith, inl, inr, length, refl, subst, suc, sym, ℕ, ◌∙◌, ◌≡◌}
 use Rattle.std.specs.Vec.Iter.{into_iter_items}
 use Rattle.cluster_core.proofs.opening.open_all.Goals as goal
 
@@ -17,9 +19,25 @@ loop-closed-preserved g c =
       seated_next c.loop-closed.done.items c.push_reserved.new.self.items seat c.push_reserved.ensures.items inv.3 (subst (λ (n : ℕ). IsSeatedAt n seat) place c.open_behind-seat.ensures.seated),
       begun_left g.O.Opening.run c.len-repos.result _ _ (into_iter_items c.loop-closed.closed-iterator) (into_iter_items c.next.new.self) c.in-Some.closed next.0 more inv.4,
       recovered_next g.P.Parts.disks c.loop-closed.opened c.open_behind-seat.result.1 c.loop-closed.yielded c.in-Some.closed inv.5 c.open_behind-seat.ensures.before c.open_behind-seat.ensures.recovered,
+      fell_next g.P.Parts.disks (faults_at g.P.Parts.disks) c.loop-closed.opened c.open_behind-seat.result.1 c.loop-closed.yielded c.loop-closed.done.items c.push_reserved.new.self.items c.in-Some.closed seat c.push_reserved.ensures.items inv.6 c.open_behind-seat.ensures.before c.open_behind-seat.ensures.fell,
+      length_more c.loop-closed.yielded _ c.in-Some.closed refl ∙ (ap suc inv.7 ∙ sym more),
+      λ r is. elim (c.open_behind-seat.ensures.failed r is) [
+        | inl before ↦ failed_more g.P.Parts.disks (faults_at g.P.Parts.disks) c.loop-closed.yielded c.loop-closed.done.items c.push_reserved.new.self.items c.in-Some.closed seat r c.push_reserved.ensures.items (inv.8 r before)
+        | inr here ↦ failed_last g.P.Parts.disks (faults_at g.P.Parts.disks) c.loop-closed.yielded c.loop-closed.done.items c.push_reserved.new.self.items c.in-Some.closed seat r c.push_reserved.ensures.items inv.7 (here.0 ∙ place) here.1
+      ],
     )
 
 pub returns-clause-recovered : goal.returns-clause-recovered
 returns-clause-recovered g c =
     let inv = c.loop-closed.invariant in
     recovered_all g.P.Parts.disks c.loop-closed.opened c.loop-closed.yielded (into_iter_items c.loop-closed.closed-iterator) c.args.places.items inv.2 (none_left c.loop-closed.closed-iterator c.next.new.self c.in-None.ensures.steps) inv.5
+
+pub returns-clause-fell : goal.returns-clause-fell
+returns-clause-fell g c =
+    let inv = c.loop-closed.invariant in
+    fell_all g.P.Parts.disks (faults_at g.P.Parts.disks) c.loop-closed.opened c.loop-closed.yielded (into_iter_items c.loop-closed.closed-iterator) c.args.places.items c.loop-closed.done.items inv.2 (none_left c.loop-closed.closed-iterator c.next.new.self c.in-None.ensures.steps) inv.6
+
+pub returns-clause-failed : goal.returns-clause-failed
+returns-clause-failed g c = λ r is.
+    let inv = c.loop-closed.invariant in
+    failed_all g.P.Parts.disks (faults_at g.P.Parts.disks) c.loop-closed.yielded (into_iter_items c.loop-closed.closed-iterator) c.args.places.items c.loop-closed.done.items r inv.2 (none_left c.loop-closed.closed-iterator c.next.new.self c.in-None.ensures.steps) (inv.8 r is)

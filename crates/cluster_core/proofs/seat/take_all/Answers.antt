@@ -1,7 +1,11 @@
 use Rattle.cluster_core.proofs.Seating.{length_more, none_placed, open_left, placed_next, seated_left}
+use Rattle.cluster_core.specs.Failing.{IsSite}
 use Rattle.cluster_core.specs.Seated.{AreOpen, AreSeated}
-use Rattle.std.proofs.Common.{arith, length, subst, sym, ℕ, ◌≡◌}
+use Rattle.cluster_port.specs.Sited.{Sited}
+use Rattle.std.proofs.Common.{List, [], arith, length, subst, sym, ℕ, ◌≡◌}
+use Rattle.std.specs.List.{AllZip}
 use Rattle.std.specs.Vec.Iter.{into_iter_items}
+use Rattle.store_opening.proofs.Places.{next_one, none_in, none_left, zip_all, zip_more}
 use Rattle.cluster_core.proofs.seat.take_all.Goals as goal
 
 pub loop-seat-init : goal.loop-seat-init
@@ -13,6 +17,8 @@ loop-seat-init g c =
       none_placed c.args.room.items none,
       subst (λ (n : ℕ). AreSeated n (into_iter_items c.into_iter-seat-iterator.result)) (sym none) (subst (AreSeated 0) (sym all.0) c.requires.seated),
       subst AreOpen (sym all.0) c.requires.open,
+      all.0,
+      subst (λ (xs : List Sited). AllZip IsSite [] xs) (sym (none_in c.args.room.items none)) tt,
     )
 
 pub loop-seat-preserved : goal.loop-seat-preserved
@@ -22,7 +28,14 @@ loop-seat-preserved g c =
     let more = length_more c.loop-seat.sites.items c.push_reserved.new.self.items c.take.result c.push_reserved.ensures.items in (
       omega (arith, inv.0, next.1, c.push_reserved.ensures.len),
       omega (arith, inv.1, next.1, c.push_reserved.ensures.len, c.push_reserved.ensures.capacity),
-      placed_next c.loop-seat.sites.items c.push_reserved.new.self.items c.take.result c.push_reserved.ensures.items (omega (arith, c.take.ensures, c.len-place.ensures, c.loop-seat.sites.ok.0)) inv.2,
+      placed_next c.loop-seat.sites.items c.push_reserved.new.self.items c.take.result c.push_reserved.ensures.items (omega (arith, c.take.ensures.number, c.len-place.ensures, c.loop-seat.sites.ok.0)) inv.2,
       seated_left _ _ (into_iter_items c.loop-seat.seat-iterator) (into_iter_items c.next.new.self) c.in-Some.seat next.0 more inv.3,
       open_left (into_iter_items c.loop-seat.seat-iterator) (into_iter_items c.next.new.self) c.in-Some.seat next.0 inv.4,
+      next_one c.loop-seat.yielded (into_iter_items c.loop-seat.seat-iterator) (into_iter_items c.next.new.self) c.args.seats.items c.in-Some.seat inv.5 next.0,
+      zip_more IsSite c.loop-seat.yielded c.loop-seat.sites.items c.push_reserved.new.self.items c.in-Some.seat c.take.result c.push_reserved.ensures.items inv.6 c.take.ensures.same,
     )
+
+pub returns-clause-same : goal.returns-clause-same
+returns-clause-same g c =
+    let inv = c.loop-seat.invariant in
+    zip_all IsSite c.loop-seat.yielded (into_iter_items c.loop-seat.seat-iterator) c.args.seats.items c.loop-seat.sites.items inv.5 (none_left c.loop-seat.seat-iterator c.next.new.self c.in-None.ensures.steps) inv.6

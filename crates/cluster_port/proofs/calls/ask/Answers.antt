@@ -1,4 +1,5 @@
 use Rattle.client_port.specs.Works.{AskWork}
+use Rattle.cluster_port.proofs.Counting.{same_at}
 use Rattle.cluster_port.proofs.Lending.{lent_at, none_at}
 use Rattle.cluster_port.proofs.Placing.{placed_at}
 use Rattle.repo_refusals.specs.declared.refusal.Refusal.TheVariants as refused
@@ -15,3 +16,6 @@ returns-in-Some-clause-does g c = λ based n. lent_at g.O.Opening.run n c.args.s
 
 pub returns-in-None-clause-does : goal.returns-in-None-clause-does
 returns-in-None-clause-does g c = λ based n. none_at g.O.Opening.run n c.args.sites.now.items c.args.repo c.from.result (vec_len c.args.sites.now) c.from.ensures (omega (arith, c.args.sites.now.ok.0)) c.in-None.ensures.variant.1 (Err (refused.Down c.args.repo)) (AskWork c.args.tx (Err (refused.Down c.args.repo))) refl
+
+pub returns-in-Some-clause-counts : goal.returns-in-Some-clause-counts
+returns-in-Some-clause-counts g c = same_at c.args.sites.now.items c.from.result (vec_len c.args.sites.now) c.in-Some.site.now c.ask.new.self (omega (arith, c.args.sites.now.ok.0)) (c.in-Some.ensures.variant.0 refl) c.in-Some.ensures.value c.ask.ensures.counts

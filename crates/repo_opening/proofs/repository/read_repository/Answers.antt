@@ -4,7 +4,7 @@ use Rattle.disk_trait.specs.Disks.{WhereTold}
 use Rattle.recovery.specs.Found.{recorded}
 use Rattle.recovery.specs.Paged.{AreObjectPages, HasSides}
 use Rattle.repo_opening.proofs.Reading.{has_pages, holds_reads, reads_on, recovered_on, same_on, stored_is}
-use Rattle.disk_trait.proofs.Several.{goes_then}
+use Rattle.disk_trait.proofs.Several.{goes_one, goes_then}
 use Rattle.repo_opening.proofs.SaidPages.{has_said, lacks_said, other_is, pages_fail, reopened_as, unsound_of}
 use Rattle.repo_opening.proofs.Syncing.{failing_then, same_then}
 use Rattle.repo_opening.specs.declared.unopened.Unopened.TheVariants.{Damaged, Failed}
@@ -109,3 +109,29 @@ returns-in_err-read-clause-damaged g c = λ images r d place reads is.
     let has = has_said images (recorded recovered) c.args.repo c.sides-sides.result.now c.args.objects.now c.read_pages.new.objects (holds_reads found recovered.log (recorded recovered) known.holds images told) sides (c.in-Ok.ensures.paged (images 2) (told 2 (omega arith))) in
     let other = c.numbered.ensures.damaged r d place wrong in
     (other.0, other_is found images recovered.log (recorded recovered) c.args.repo c.args.repos d place known.holds told other.1 other.2 (reopened_as c.args.repo c.args.repos recovered images reopening other.3) has)
+
+-- ---- calls on the disks
+
+pub returns-clause-goes : goal.returns-clause-goes
+returns-clause-goes g c =
+    let first = g.P.Parts.disks c.args.parts.now in
+    let synced = g.P.Parts.disks c.sync.new.parts in
+    let found = g.P.Parts.disks c.recover_one.new.parts in
+    let new = g.P.Parts.disks c.read_pages.new.parts in
+    goes_then first found new (goes_then first synced found c.sync.ensures.goes c.recover_one.ensures.goes) (goes_one found new 2 c.read_pages.ensures.stays.alone)
+
+pub returns-in-Err-clause-goes : goal.returns-in-Err-clause-goes
+returns-in-Err-clause-goes g c =
+    let first = g.P.Parts.disks c.args.parts.now in
+    let synced = g.P.Parts.disks c.sync.new.parts in
+    let found = g.P.Parts.disks c.recover_one.new.parts in
+    let new = g.P.Parts.disks c.read_pages.new.parts in
+    goes_then first found new (goes_then first synced found c.sync.ensures.goes c.recover_one.ensures.goes) (goes_one found new 2 c.read_pages.ensures.stays.alone)
+
+pub returns-in_err-read-clause-goes : goal.returns-in_err-read-clause-goes
+returns-in_err-read-clause-goes g c =
+    let first = g.P.Parts.disks c.args.parts.now in
+    let synced = g.P.Parts.disks c.sync.new.parts in
+    let found = g.P.Parts.disks c.recover_one.new.parts in
+    let new = g.P.Parts.disks c.read_pages.new.parts in
+    goes_then first found new (goes_then first synced found c.sync.ensures.goes c.recover_one.ensures.goes) (goes_one found new 2 c.read_pages.ensures.stays.alone)

@@ -1,6 +1,9 @@
+use Rattle.store_opening.proofs.Failing.{fails_last, fails_more}
 use Rattle.store_opening.proofs.Misfits.{there, told_behind}
 use Rattle.store_opening.proofs.Places.{next_one, none_left, zip_all, zip_more}
 use Rattle.store_opening.proofs.found.read_all.Goals as goal
+use Rattle.std.proofs.lemmas.Slice.Zip.{AllZip-long}
+use Rattle.store_opening.specs.Failing.{FailsIn, IsCalled}
 use Rattle.store_opening.specs.Seated.{IsSeated}
 use Rattle.disk_trait.specs.AllDisks.{ReadsAs}
 use Rattle.std.proofs.Common.{List, OnOk, ap, arith, inl, inr, subst, sym, ℕ, ◌++◌, ◌∙◌, ◌≡◌, ◌∷◌}
@@ -30,6 +33,13 @@ loop-part-preserved g c =
             | inl before ↦ inv.5 images r d place reads before
             | inr here ↦ told_behind disks c.loop-part.yielded rest c.args.parts.items c.in-Some.part c.as_slice.result.now c.loop-part.places.items images c.len-repos.result r d place c.as_slice.ensures.value whole reads inv.3 (c.len-repos.ensures ∙ c.args.parts.ok.0) t here
           ],
+      zip_more (IsCalled g.P.Parts.disks) c.loop-part.yielded c.loop-part.places.items c.push_reserved.new.self.items c.in-Some.part c.read_next-found.result.0 c.push_reserved.ensures.items inv.6 c.read_next-found.ensures.goes,
+      λ r is.
+          let disks = g.P.Parts.disks in
+          elim (c.read_next-found.ensures.failed r is) [
+            | inl before ↦ fails_more disks c.loop-part.yielded c.loop-part.places.items c.push_reserved.new.self.items c.in-Some.part c.read_next-found.result.0 r c.push_reserved.ensures.items (inv.7 r before)
+            | inr here ↦ fails_last disks c.loop-part.yielded c.loop-part.places.items c.as_slice.result.now c.push_reserved.new.self.items c.in-Some.part c.read_next-found.result.0 r c.push_reserved.ensures.items c.as_slice.ensures.value (sym (AllZip-long (IsSeated disks) c.loop-part.yielded c.loop-part.places.items inv.3)) here.0 here.1
+          ],
     )
 
 pub returns-clause-seated : goal.returns-clause-seated
@@ -43,3 +53,15 @@ returns-clause-put g c = λ images reads.
     let none = none_left c.loop-part.part-iterator c.next.new.self c.in-None.ensures.steps in
     let whole : c.loop-part.yielded ≡ c.args.parts.items = sym (append-nil c.loop-part.yielded) ∙ (ap (λ ps. c.loop-part.yielded ++ ps) (sym none) ∙ inv.2) in
     inv.4 images (subst (λ ps. ReadAll g.P.Parts.disks ps images) (sym whole) reads)
+
+pub returns-clause-called : goal.returns-clause-called
+returns-clause-called g c =
+    let inv = c.loop-part.invariant in
+    zip_all (IsCalled g.P.Parts.disks) c.loop-part.yielded (into_iter_items c.loop-part.part-iterator) c.args.parts.items c.loop-part.places.items inv.2 (none_left c.loop-part.part-iterator c.next.new.self c.in-None.ensures.steps) inv.6
+
+pub returns-clause-failed : goal.returns-clause-failed
+returns-clause-failed g c = λ r is.
+    let inv = c.loop-part.invariant in
+    let none = none_left c.loop-part.part-iterator c.next.new.self c.in-None.ensures.steps in
+    let whole : c.loop-part.yielded ≡ c.args.parts.items = sym (append-nil c.loop-part.yielded) ∙ (ap (λ ps. c.loop-part.yielded ++ ps) (sym none) ∙ inv.2) in
+    subst (λ ps. FailsIn g.P.Parts.disks ps c.loop-part.places.items r) whole (inv.7 r is)

@@ -1,9 +1,10 @@
 use Rattle.repo_opening.specs.Paged.{PutsStored}
 use Rattle.store_opening.proofs.Holding.{always}
 use Rattle.store_opening.proofs.Misfits.{told_as}
-use Rattle.std.proofs.Common.{IsErrOf, Ok, ap, length, rules, ◌∙◌, ◌≡◌}
+use Rattle.std.proofs.Common.{IsErrOf, Ok, ap, length, rules, subst, sym, ◌∙◌, ◌≡◌}
 use Rattle.repo_opening.proofs.Reading.{reads_on}
-use Rattle.repo_opening.specs.declared.unopened.Unopened.TheVariants.{Damaged}
+use Rattle.disk_trait.specs.AllDisks.{GoesOn}
+use Rattle.repo_opening.specs.declared.unopened.Unopened.TheVariants.{Damaged, Failed}
 use Rattle.store_opening.specs.Unsound.{NotOpen, Unsound}
 use Rattle.store_opening.proofs.Freshness.{finds_fresh}
 use Rattle.store_opening.proofs.found.read_behind.Goals as goal
@@ -32,3 +33,13 @@ returns-in-Err-clause-damaged g c = λ image r d place reads is.
     let first : c.in-Ok-Ok.repo ≡ length c.args.places.now = search rules in
     let second : c.in-Ok-Ok.repos ≡ c.args.repos = search rules in
     (told.0 ∙ first, Unsound (told_as c.in-Ok-Ok.repo c.in-Ok-Ok.repos r c.args.repos d place image told.0 second told.1))
+
+pub returns-in-Ok-clause-goes : goal.returns-in-Ok-clause-goes
+returns-in-Ok-clause-goes g c = subst (GoesOn (g.P.Parts.disks c.args.part)) (sym c.placed.ensures.same) c.read_repository.ensures.goes
+
+pub returns-in-Err-clause-failed : goal.returns-in-Err-clause-failed
+returns-in-Err-clause-failed g c = λ r is.
+    let wrong : IsErrOf c.read_repository.result (Failed r) = search rules in
+    let told = c.read_repository.ensures.failed r wrong in
+    let first : c.in-Ok-Ok.repo ≡ length c.args.places.now = search rules in
+    (told.0 ∙ first, told.1)

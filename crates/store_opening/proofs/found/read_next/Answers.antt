@@ -10,3 +10,6 @@ returns-in-Ok-clause-put g c = λ images reads.
 
 pub returns-in-Ok-clause-damaged : goal.returns-in-Ok-clause-damaged
 returns-in-Ok-clause-damaged g c = λ image r d place reads is. inr (c.read_behind.ensures.damaged image r d place reads is)
+
+pub returns-in-Ok-clause-failed : goal.returns-in-Ok-clause-failed
+returns-in-Ok-clause-failed g c = λ r is. inr (c.read_behind.ensures.failed r is)

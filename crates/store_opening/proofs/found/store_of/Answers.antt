@@ -1,5 +1,5 @@
 use Rattle.repo_opening.specs.declared.repository.Read.{Read}
-use Rattle.repo_opening.specs.declared.unopened.Unopened.TheVariants.{Damaged}
+use Rattle.repo_opening.specs.declared.unopened.Unopened.TheVariants.{Damaged, Failed}
 use Rattle.std.proofs.Common.{IsErrOf, List, rules, subst, sym}
 use Rattle.store_opening.proofs.Misfits.{misfit, on_ok_at, some_of}
 use Rattle.store_opening.specs.Joined.{read_states}
@@ -42,3 +42,6 @@ returns-in-Some-clause-damaged g c = λ parts images r d place seated reads put 
     misfit images c.as_slice.result.now c.in_ok-objects-2.objects r d place (subst (λ (rs : List Read). StandFor images (read_states rs)) (sym c.as_slice.ensures.value) stand)
     (subst (λ (o : OrefMap Obj). PutsAll images empty o) (sym c.in_ok-objects-2.ensures.made.0) (subst (λ (o : OrefMap Obj). PutsAll images empty o) (sym c.in_ok-objects.ensures.made.0) first))
     (subst (λ (rs : List Read). HaveLogs images rs) (sym c.as_slice.ensures.value) logs) (c.open_store.ensures.damaged r d place is)
+
+pub returns-in_err-objects-clause-failed : goal.returns-in_err-objects-clause-failed
+returns-in_err-objects-clause-failed g c = λ r is. search rules

@@ -1,4 +1,4 @@
-use Rattle.std.proofs.Common.{Result, inl, subst, sym, vec_len}
+use Rattle.std.proofs.Common.{Result, inl, subst, sym, vec_len, ◌∙◌}
 use Rattle.cluster_threads.specs.Committed.{committed_lines}
 use Rattle.store_opening.specs.Reading.{ReadAll}
 use Rattle.thor_top.proofs.HistoryLaws.{told_says, told_writes_not}
@@ -41,6 +41,12 @@ returns-in-Err-clause-committed g c =
     let before : Told = told_by g.S.Source.left g.S.Source.faults c.args.source.now in
     let after : Told = told_by g.S.Source.left g.S.Source.faults c.begin.new.source in
     none_said (committed_lines c.untold.result.traces) (ReadAll g.P.Parts.disks c.args.parts.items) (IsHanded c.args.plan.now (vec_len c.args.parts)) before after c.untold.result.reply (subst (λ (q : Result Reply NoMemory). TellsNoRun q) (sym c.untold.ensures.reply) c.in-Err.ensures.untold)
+
+pub returns-in-Ok-clause-failed : goal.returns-in-Ok-clause-failed
+returns-in-Ok-clause-failed g c = λ repo is. c.run_in_turn.ensures.failed c.args.parts.items repo c.in-Ok.ensures.called is
+
+pub returns-in-Err-clause-failed : goal.returns-in-Err-clause-failed
+returns-in-Err-clause-failed g c = λ repo is. rw c.untold.ensures.parts (c.in-Err.ensures.failed repo (sym c.untold.ensures.reply ∙ is))
 
 pub returns-in-Ok-clause-left : goal.returns-in-Ok-clause-left
 returns-in-Ok-clause-left g c = c.run_in_turn.ensures.left c.args.parts.items c.in-Ok.ensures.found

@@ -26,3 +26,6 @@ returns-in-Err-clause-committed g c =
     let before : Told = told_by g.S.Source.left g.S.Source.faults c.args.source.now in
     let after : Told = told_by g.S.Source.left g.S.Source.faults c.begin.new.source in
     none_said (committed_lines c.in-Err.answered.traces) (ReadAll g.P.Parts.disks c.args.parts.items) (IsHanded c.args.plan.now (vec_len c.args.parts)) before after c.in-Err.answered.reply c.in-Err.ensures.untold
+
+pub returns-in-Ok-clause-failed : goal.returns-in-Ok-clause-failed
+returns-in-Ok-clause-failed g c = λ repo is. c.run_on_threads.ensures.failed c.args.parts.items repo c.in-Ok.ensures.called is

@@ -1,9 +1,10 @@
-use Rattle.std.proofs.Common.{IfOk, Result, arith, refl, subst, sym, vec_len, ◌≡◌}
+use Rattle.std.proofs.Common.{IfOk, Result, arith, refl, subst, sym, vec_len, ◌∙◌, ◌≡◌}
 use Rattle.store_opening.specs.Reading.{ReadAll}
 use Rattle.thor_top.proofs.LineLaws.{awaited_by}
 use Rattle.thor_top.proofs.StageLaws.{for_store, foretells_map, ok_always}
 use Rattle.thor_top.specs.Stages.{Foretells, IsAwaited, IsAwaitedBy}
 use Rattle.thor_value.specs.declared.memory.NoMemory.{NoMemory}
+use Rattle.top_judging.proofs.DiskLaws.{no_disk, unread_for_disk}
 use Rattle.top_judging.proofs.StageLaws.{err_map, none_says, ok_map, script_says, unsettled_replies}
 use Rattle.top_judging.specs.Stages.{RepliesUnsettled}
 use Rattle.top_judging.specs.Origins.{RepliesUnreadFor}
@@ -111,3 +112,10 @@ returns-in-Err-clause-untold g c =
     let after : Told = told_by g.S.Source.left g.S.Source.faults c.script_of.new.source in
     subst (λ (q : Result Reply NoMemory). TellsNoRun q) (sym c.untouched-in-Err.ensures.reply)
     (none_tell c.in-Err.reply (RepliesUnreadFor (origin_of plan.command) plan before after) (unread_for_tells (origin_of plan.command) plan before after) c.in-Err.ensures.reply)
+
+pub returns-in-Err-clause-failed : goal.returns-in-Err-clause-failed
+returns-in-Err-clause-failed g c = λ repo is.
+    let plan = c.args.plan.now in
+    let before : Told = told_by g.S.Source.left g.S.Source.faults c.args.source.now in
+    let after : Told = told_by g.S.Source.left g.S.Source.faults c.script_of.new.source in
+    absurd (no_disk c.in-Err.reply (RepliesUnreadFor (origin_of plan.command) plan before after) repo (unread_for_disk (origin_of plan.command) plan before after) c.in-Err.ensures.reply (sym c.untouched-in-Err.ensures.reply ∙ is))

@@ -1,4 +1,5 @@
-use Rattle.thor_top.proofs.ReplyLaws.{audit_writes, check_writes, writes_nothing}
+use Rattle.thor_top.proofs.ReplyLaws.{audit_writes, check_writes, given_as, writes_nothing}
+use Rattle.top_reply.specs.declared.reply.Reply.TheVariants.{DiskFault}
 use Rattle.top_statement.proofs.WrittenLaws.{refuses_of, said_of, tells_of}
 use Rattle.thor_top.proofs.performing.perform.Goals as goal
 
@@ -28,6 +29,10 @@ returns-clause-reported g c = λ tells. rw c.write_answer.ensures.traces
 pub returns-clause-committed : goal.returns-clause-committed
 returns-clause-committed g c = rw c.write_answer.ensures.traces
     (said_of c.answer_in_turn-answered.result.reply c.write_answer.result.reply _ c.write_answer.ensures.reply c.answer_in_turn-answered.ensures.committed)
+
+pub returns-clause-failed : goal.returns-clause-failed
+returns-clause-failed g c = λ repo is. rw c.write_answer.ensures.parts
+    (c.answer_in_turn-answered.ensures.failed repo (given_as c.answer_in_turn-answered.result.reply c.write_answer.result.reply (DiskFault repo) c.write_answer.ensures.reply is))
 
 pub returns-clause-left : goal.returns-clause-left
 returns-clause-left g c = λ tells. rw c.write_answer.ensures.traces (rw c.write_answer.ensures.parts

@@ -1,5 +1,6 @@
 use Rattle.std.proofs.Common.{vec_len}
-use Rattle.thor_top.proofs.HistoryLaws.{many_of, of_ended, of_played, of_told}
+use Rattle.thor_top.proofs.FailLaws.{failed_played}
+use Rattle.thor_top.proofs.HistoryLaws.{many_of, of_played, of_told, of_ended}
 use Rattle.thor_top.proofs.LineLaws.{told_made}
 use Rattle.thor_top.proofs.running.run_in_turn.Goals as goal
 
@@ -17,6 +18,10 @@ returns-clause-parts g c = many_of (λ v. vec_len v) (λ f. f.parts) (λ f. f.pa
 pub returns-clause-committed : goal.returns-clause-committed
 returns-clause-committed g c = λ tells.
     told_made c.replied.result.reply c.replied.result.traces c.args.run.expected c.play-played.result (c.replied.ensures.ran tells) c.replied.ensures.traces c.replied.ensures.lines c.play-played.ensures.lines
+
+pub returns-clause-failed : goal.returns-clause-failed
+returns-clause-failed g c = λ given repo called is.
+    failed_played g.P.Parts.disks given c.play-played.result c.replied.result.parts.items repo (c.play-played.ensures.failed given called) (c.replied.ensures.failed repo is) c.replied.ensures.err
 
 pub returns-clause-left : goal.returns-clause-left
 returns-clause-left g c = λ given has tells.

@@ -1,4 +1,4 @@
-use Rattle.thor_top.proofs.ReplyLaws.{gives}
+use Rattle.thor_top.proofs.ReplyLaws.{given_as, gives}
 use Rattle.top_reply.specs.declared.reply.Reply.TheVariants as reply
 use Rattle.top_statement.proofs.WrittenLaws.{refuses_of, said_of, tells_of}
 use Rattle.thor_top.proofs.top.thor.Goals as goal
@@ -59,6 +59,10 @@ returns-clause-reported g c = λ p is turn tells. rw c.write_answer.ensures.trac
 pub returns-clause-committed : goal.returns-clause-committed
 returns-clause-committed g c = rw c.write_answer.ensures.traces
     (said_of c.answer-answered.result.reply c.write_answer.result.reply _ c.write_answer.ensures.reply c.answer-answered.ensures.committed)
+
+pub returns-clause-failed : goal.returns-clause-failed
+returns-clause-failed g c = λ repo is. rw c.write_answer.ensures.parts
+    (c.answer-answered.ensures.failed repo (given_as c.answer-answered.result.reply c.write_answer.result.reply (reply.DiskFault repo) c.write_answer.ensures.reply is))
 
 pub returns-clause-left : goal.returns-clause-left
 returns-clause-left g c = λ p is turn tells. rw c.write_answer.ensures.traces (rw c.write_answer.ensures.parts

@@ -1,10 +1,13 @@
-use Rattle.std.proofs.Common.{IfOk, Result, subst, sym, ℕ, ◌≡◌}
+use Rattle.std.proofs.Common.{IfOk, Ok, Result, subst, sym, ℕ, ◌∙◌, ◌≡◌}
+use Rattle.store_opening.specs.Failing.{FailsAt}
 use Rattle.store_opening.specs.Reading.{ReadAll}
 use Rattle.thor_value.specs.declared.memory.NoMemory.{NoMemory}
+use Rattle.top_judging.proofs.DiskLaws.{why_disk}
 use Rattle.top_judging.proofs.StageLaws.{err_map, ok_map, unjudged_replies, unopened_replies}
 use Rattle.top_judging.proofs.TellingLaws.{none_tell, unjudged_tells, unopened_tells}
 use Rattle.top_judging.specs.Stages.{RepliesUnjudged, RepliesUnopened, RepliesWhy}
 use Rattle.repo_opening.specs.declared.unopened.Unopened.TheVariants.{Damaged}
+use Rattle.top_reply.specs.declared.reply.Reply.TheVariants.{DiskFault}
 use Rattle.top_reply.specs.declared.reply.Reply.{Reply}
 use Rattle.top_statement.specs.Opening.{IsStoredBy}
 use Rattle.top_statement.specs.Telling.{TellsNoRun}
@@ -43,3 +46,12 @@ pub returns-in-Err-clause-untold : goal.returns-in-Err-clause-untold
 returns-in-Err-clause-untold g c =
     subst (λ (q : Result Reply NoMemory). TellsNoRun q) (sym c.unplayed.ensures.reply)
     (none_tell c.unopened.result RepliesUnopened unopened_tells c.unopened.ensures.replied)
+
+pub returns-in-Ok-clause-failed : goal.returns-in-Ok-clause-failed
+returns-in-Ok-clause-failed g c = λ repo.
+    err_map c.judged_on.result (λ a. a.reply ≡ Ok (DiskFault repo) → ⊥) (λ a. a.reply ≡ Ok (DiskFault repo) → FailsAt g.P.Parts.disks c.args.parts.items a.parts.items repo)
+    (λ a never is. absurd (never is)) (c.judged_on.ensures.never c.args.parts.items repo c.in-Ok.ensures.found)
+
+pub returns-in-Err-clause-failed : goal.returns-in-Err-clause-failed
+returns-in-Err-clause-failed g c = λ repo is.
+    rw c.unplayed.ensures.parts (c.in-Err.ensures.failed repo (why_disk c.in-Err.field-0.why c.unopened.result repo c.unopened.ensures.told (sym c.unplayed.ensures.reply ∙ is)))

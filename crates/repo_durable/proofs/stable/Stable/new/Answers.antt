@@ -1,4 +1,5 @@
 use Rattle.repo_state.specs.Said.{said}
+use Rattle.repo_durable.proofs.Failing.{fell_fused}
 use Rattle.repo_durable.proofs.Readable.{fused_has}
 use Rattle.repo_durable.proofs.Saying.{log_fused}
 use Rattle.repo_durable.proofs.Staying.{opened_fused}
@@ -13,3 +14,6 @@ returns-clause-says g c = λ says. record { says = log_fused g.P.Parts.disks c.a
 
 pub returns-clause-readable : goal.returns-clause-readable
 returns-clause-readable g c = λ tells are. fused_has g.P.Parts.disks c.args.parts c.new.result false c.args.held.objects.pages.sides c.new.ensures.parts tells are
+
+pub returns-clause-fell : goal.returns-clause-fell
+returns-clause-fell g c = fell_fused g.P.Parts.disks c.args.parts c.new.result c.new.ensures.parts
