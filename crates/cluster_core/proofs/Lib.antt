@@ -1,4 +1,5 @@
 pub mod Begun
+mod Coming
 mod Ending
 mod Recovered
 mod Seating

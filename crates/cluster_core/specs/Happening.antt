@@ -2,7 +2,7 @@
 use Rattle.cluster_port.specs.Happening.{HappenedAt, IsStopped}
 use Rattle.front_end.specs.Moving.{course_of, steps_left}
 use Rattle.front_end.specs.declared.front_end.FrontEnd.{FrontEnd}
-use Rattle.cluster_port.specs.SiteHappening.{Flushes, GoesOn}
+use Rattle.cluster_port.specs.SiteHappening.{ComesBack, Flushes, GoesOn}
 use Rattle.cluster_port.specs.Sited.{Sited}
 use Rattle.schedule.specs.declared.events.EventKind.TheVariants as event
 use Rattle.schedule.specs.declared.events.EventKind.{EventKind}
@@ -38,3 +38,14 @@ Steps (event.Stop r n) result old new = Unit {0}
 Steps (event.Restart r p) result old new = Unit {0}
 Steps (event.Settle r) result old new = Unit {0}
 Steps event.Unknown result old new = Unit {0}
+
+-- What a restart of the schedule comes to, where memory was there: a repository whose disks tell their bytes is up, or one of them failed.
+abbrev pub Comes : {X E : Type 0} → EventKind → Result X E → List Sited → List Sited → Type 0
+Comes (event.Step c) result old new = Unit {0}
+Comes (event.Deliver c r) result old new = Unit {0}
+Comes (event.Flush r) result old new = Unit {0}
+Comes (event.Checkpoint r) result old new = Unit {0}
+Comes (event.Stop r n) result old new = Unit {0}
+Comes (event.Restart r p) result old new = OnOk result (HappenedAt ComesBack r old new)
+Comes (event.Settle r) result old new = Unit {0}
+Comes event.Unknown result old new = Unit {0}

@@ -1,9 +1,10 @@
 //! The events of a schedule.
 
 ghost use Rattle.cluster_core.specs.Counts.{clients_of, parts_of, sites_in};
-ghost use Rattle.cluster_core.specs.Happening.{Performs, Steps, StepsAt};
+ghost use Rattle.cluster_core.specs.Happening.{Comes, Performs, Steps, StepsAt};
 ghost use Rattle.cluster_port.specs.Lent.{AreInPlace};
-ghost use Rattle.std.specs.Prelude.{OnOk, suc, vec_len, ℕ, ◌≡◌};
+ghost use Rattle.repo_refusals.specs.declared.refusal.Refusal.TheVariants.{NoMemory as IsNoMemory};
+ghost use Rattle.std.specs.Prelude.{IsErr, IsErrOf, OnOk, suc, vec_len, ℕ, ◌≡◌};
 
 use crate::cluster::Cluster;
 use crate::settling::{least, settle};
@@ -15,7 +16,9 @@ use schedule::{Event, EventKind};
 use thor_value::NoMemory;
 
 /// A refusal of an event is no concern of the schedule, but for want of memory.
-pub(crate) fn unless_memory<T: Drop>(answer: Result<T, Refusal>) -> Result<(), NoMemory> {
+pub(crate) fn unless_memory<T: Drop>(answer: Result<T, Refusal>) -> Result<(), NoMemory>
+    ensures { IsErrOf answer IsNoMemory → IsErr result }
+{
     match answer {
         Err(Refusal::NoMemory) => Err(NoMemory),
         Ok(_) | Err(_) => Ok(()),
@@ -26,9 +29,11 @@ impl<P: Parts, O: Opening> Cluster<P, O> {
     /// Performs one event. One that names a client or a repository which isn't there does nothing.
     ///
     /// After `NoMemory` each repository stands as after its events, the last of which may have had none.
+    #[tactic(auto, using(crate::proofs::Coming::unless))]
     pub fn event(&mut self, event: Event) -> Result<(), NoMemory>
         ensures parts { parts_of self.new ≡ parts_of self.old }
         ensures performs { Performs event.kind (sites_in self.old) (sites_in self.new) }
+        ensures comes { Comes event.kind result (sites_in self.old) (sites_in self.new) }
         ensures steps { Steps event.kind result (clients_of self.old) (clients_of self.new) }
     {
         match event.kind {

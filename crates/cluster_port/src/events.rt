@@ -2,8 +2,9 @@
 
 ghost use Rattle.cluster_port.specs.Happening.{HappenedAt, IsStopped};
 ghost use Rattle.cluster_port.specs.Lent.{AreInPlace};
-ghost use Rattle.repo_site.specs.Happening.{Flushes, GoesOn};
-ghost use Rattle.std.specs.Prelude.{vec_len, ◌≡◌};
+ghost use Rattle.repo_refusals.specs.declared.refusal.Refusal.TheVariants.{NoMemory as IsNoMemory};
+ghost use Rattle.repo_site.specs.Happening.{ComesBack, Flushes, GoesOn};
+ghost use Rattle.std.specs.Prelude.{IsErrOf, vec_len, ◌≡◌, ◌⊎◌};
 
 use disk_trait::Parts;
 use repo_refusals::Refusal;
@@ -77,6 +78,7 @@ pub fn restart<P: Parts, O: Opening>(
     ensures placed { AreInPlace sites.new.items }
     ensures count { vec_len sites.new ≡ vec_len sites.old }
     ensures does { HappenedAt GoesOn place sites.old.items sites.new.items }
+    ensures comes { IsErrOf result IsNoMemory ⊎ HappenedAt ComesBack place sites.old.items sites.new.items }
 {
     match sites.get_mut(place) {
         Some(site) => site.restart(pick),

@@ -2,7 +2,8 @@
 use Rattle.mob_flusher.specs.declared.store.Flushed.{Flushed}
 use Rattle.repo_core.specs.Behind.{IsRecovered, IsRestarted, Stands}
 use Rattle.repo_core.specs.Refusing.{CanRefuse, HasNoReason}
-use Rattle.repo_core.specs.Shown.{Shown}
+use Rattle.repo_core.specs.Shown.{Shown, ShowsPages, faults_of}
+use Rattle.repo_durable.specs.Failing.{HasFailed}
 use Rattle.repo_durable.specs.Flushes.{IsOldest, left_by}
 use Rattle.repo_refusals.specs.declared.refusal.Refusal.{Refusal}
 use Rattle.std.specs.Prelude.{IfErr, IfOk, Result, cond, false, nat_eq, true, ℕ, ◌≡◌, ◌⊎◌}
@@ -24,3 +25,8 @@ pub record Stops (calls : ℕ) (x y : Shown) : Type 0 where
 -- A restart: the repository is up, and its trace goes on by a Life; or it is down, and its trace by what was recovered at most.
 abbrev pub GoesOn : Shown → Shown → Type 0
 GoesOn x y = ((y.is_up ≡ true) × IsRestarted x.trace y.trace) ⊎ ((y.is_up ≡ false) × IsRecovered x.trace y.trace)
+
+-- A restart that had memory: where each disk tells its bytes and each side in use is a page of objects, the repository is up, or a disk
+-- failed in it.
+abbrev pub ComesBack : Shown → Shown → Type 0
+ComesBack x y = ShowsPages x → (y.is_up ≡ true) ⊎ HasFailed (faults_of x) (faults_of y)

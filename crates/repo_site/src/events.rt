@@ -1,9 +1,10 @@
 //! The events of a repository of a run that are no client's.
 
-ghost use Rattle.repo_site.specs.Happening.{Flushes, GoesOn, Stops};
+ghost use Rattle.repo_refusals.specs.declared.refusal.Refusal.TheVariants.{NoMemory as IsNoMemory};
+ghost use Rattle.repo_site.specs.Happening.{ComesBack, Flushes, GoesOn, Stops};
 ghost use Rattle.repo_site.specs.Sited.{Happens};
 ghost use Rattle.repo_site.specs.Working.{SiteGrows};
-ghost use Rattle.std.specs.Prelude.{ℕ};
+ghost use Rattle.std.specs.Prelude.{IsErrOf, ℕ, ◌⊎◌};
 
 use crate::happening;
 use crate::opening::Opening;
@@ -51,12 +52,14 @@ impl<P: Parts, O: Opening> Site<P, O> {
         happening::disarm(&mut self.repo);
     }
 
-    /// Restarts it, with the images of its disks that a pick chooses.
+    /// Restarts it, with the images of its disks that a pick chooses. Where its disks tell their bytes it is up then, but where one
+    /// of them failed or memory ran out.
     #[tactic(auto, using(crate::proofs::Sites::happened_any, crate::proofs::Sites::stays_any, crate::proofs::Growing::grown))]
     pub fn restart(&mut self, pick: u64) -> Result<(), Refusal>
         ensures happens { Happens O.run self.old self.new }
         ensures grows { (c : ℕ) → SiteGrows O.run c self.old self.new }
         ensures does { GoesOn self.old.shown self.new.shown }
+        ensures comes { IsErrOf result IsNoMemory ⊎ ComesBack self.old.shown self.new.shown }
     {
         happening::restart(&mut self.repo, pick)
     }

@@ -1,8 +1,10 @@
 //! Events that are no client's: each is a run of events of `law_repo_runs`, and growth for
 //! each client.
 
-ghost use Rattle.repo_site.specs.Happening.{Flushes, GoesOn, Stops};
+ghost use Rattle.repo_refusals.specs.declared.refusal.Refusal.TheVariants.{NoMemory as IsNoMemory};
+ghost use Rattle.repo_site.specs.Happening.{ComesBack, Flushes, GoesOn, Stops};
 ghost use Rattle.repo_site.specs.Working.{AnyBase, GrowsBy, RunsBy};
+ghost use Rattle.std.specs.Prelude.{IsErrOf, ◌⊎◌};
 
 use disk_trait::Parts;
 use mob_flusher::Flushed;
@@ -49,6 +51,7 @@ pub(crate) fn restart<P: Parts>(repo: &mut Repo<P>, pick: u64) -> Result<(), Ref
     ensures runs { RunsBy AnyBase repo.old repo.new }
     ensures grows { GrowsBy repo.old repo.new }
     ensures does { GoesOn repo.old repo.new }
+    ensures comes { IsErrOf result IsNoMemory ⊎ ComesBack repo.old repo.new }
 {
     repo.restart(pick)
 }
