@@ -60,10 +60,10 @@ none_ended disks run ps ts no_part none = record { told = none_told run ts (leng
 -- with one more, which isn't torn
 pub ended_next : {P E : Type 0} (disks : P → Disks) (run : Run) (before after : Result (List Trace) E) (ps qs : List P) (p : P) (t : Trace) (number : ℕ) (torn : Bool) → qs ≡ ps ++ p ∷ [] → IfOk after (λ more. IsOkAnd before (λ ts. more ≡ ts ++ t ∷ [])) → OnOk after (torn ≡ false)
     → number ≡ length ps → IsRightTrace run number t → (torn ≡ false → IsLeftOf run number (disks p) t) → IfOk before (AreEnded disks run ps) → IfOk after (AreEnded disks run qs)
-ended_next disks run before (Err e) ps qs p t number torn parts is whole place right left ended = tt
-ended_next disks run (Err e) (Ok us) ps qs p t number torn parts is whole place right left ended = absurd is
-ended_next disks run (Ok ts) (Ok us) ps qs p t number torn parts is whole place right left ended = record {
-  told = told_next run (Ok ts) (Ok us) (length ps) (length qs) t number is ended.told place (let longer = length_more ps qs p parts in omega (arith, longer)) right;
+ended_next {E = E} disks run before (Err e) ps qs p t number torn parts is whole place right left ended = tt
+ended_next {E = E} disks run (Err e) (Ok us) ps qs p t number torn parts is whole place right left ended = absurd is
+ended_next {E = E} disks run (Ok ts) (Ok us) ps qs p t number torn parts is whole place right left ended = record {
+  told = told_next {E = E} run (Ok ts) (Ok us) (length ps) (length qs) t number is ended.told place (let longer = length_more ps qs p parts in omega (arith, longer)) right;
   left = subst (λ (vs : List Trace). AreLeft disks run 0 qs vs) (sym is)
       (subst (λ (rs : List _). AreLeft disks run 0 rs (ts ++ t ∷ [])) (sym parts)
       (left_more disks run 0 number ps p ts t ended.left (let many = ended.told.count in omega (arith, place, many)) (left whole)));

@@ -65,8 +65,8 @@ may_come b x false true pending whole none stands = absurd (let no : true ≡ fa
 
 recorded_is : (r : Recorded) (t : Trace) → t.history ≡ r.history → t.marks ≡ r.marks → r ≡ recorded t
 recorded_is r t history marks =
-    subst (λ (H : List Entry). r ≡ record { history = H; marks = t.marks }) (sym history)
-    (subst (λ (m : List KeptItem). r ≡ record { history = r.history; marks = m }) (sym marks) refl)
+    subst (λ (H : List Entry). r ≡ record r { history = H; marks = t.marks }) (sym history)
+    (subst (λ (m : List KeptItem). r ≡ record r { marks = m }) (sym marks) refl)
 
 pub left : (run : Run) (number repos : ℕ) (x : Shown) (disks : Disks) (t : Trace) → StandsIn run number repos x → t.history ≡ x.trace.history → t.marks ≡ x.trace.marks
     → (x.is_torn ≡ false → ImagesSay disks x.held x.pending) → (x.is_up ≡ true → x.pending ≡ None) → x.is_torn ≡ false → IsLeftOf run number disks t
