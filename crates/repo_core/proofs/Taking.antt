@@ -120,11 +120,11 @@ pending_falls x y z e whole down is moved memory trace falls recorded objects = 
 pub recovers_so : (x y z : Shown) → Takes x y → y.opened_in ≡ x.opened_in → DropsEarlier y z → z.memory ≡ y.memory → z.trace ≡ y.trace → Recovers x z
 recovers_so x y z takes opened drops memory trace = record { taking = y; takes = takes; opened = opened; drops = drops; memory = memory; trace = trace }
 
-pub comes_up_so : (x y z w : Shown) → Takes x y → y.opened_in ≡ x.opened_in → DropsEarlier y z → z.memory ≡ y.memory → z.trace ≡ y.trace
+pub comes_up_so : (x y z w : Shown) (takes : Takes x y) → y.opened_in ≡ x.opened_in → DropsEarlier y z → z.memory ≡ y.memory → z.trace ≡ y.trace
     → w.held ≡ entered z.held (life_behind z) → BeginsLife z.held z.memory w.memory → w.trace ≡ with_entry z.trace (life_behind z) → ObjectsTake (writes_in x.held takes.taken) x w → ComesUp x w
 comes_up_so x y z w takes opened drops memory trace held begins recorded objects = record { between = z; recovers = recovers_so x y z takes opened drops memory trace; held = held; memory = begins; trace = recorded; objects = objects }
 
-pub fails_so : (x y z w : Shown) → Takes x y → y.opened_in ≡ x.opened_in → DropsEarlier y z → z.memory ≡ y.memory → z.trace ≡ y.trace
+pub fails_so : (x y z w : Shown) (takes : Takes x y) → y.opened_in ≡ x.opened_in → DropsEarlier y z → z.memory ≡ y.memory → z.trace ≡ y.trace
     → GoesDown z w (Some (life_behind z)) → w.trace ≡ z.trace → ObjectsTake (writes_in x.held takes.taken) x w → StaysDown x w
 fails_so x y z w takes opened drops memory trace falls recorded objects = inr (record { between = z; recovers = recovers_so x y z takes opened drops memory trace; falls = falls; trace = recorded; objects = objects })
 
