@@ -117,7 +117,7 @@ pending_falls x y z e whole down is moved memory trace falls recorded objects = 
 
 -- ---- a restart
 
-pub recovers_so : (x y z : Shown) → Takes x y → y.opened_in ≡ x.opened_in → DropsEarlier y z → z.memory ≡ y.memory → z.trace ≡ y.trace → Recovers x z
+abbrev pub recovers_so : (x y z : Shown) → Takes x y → y.opened_in ≡ x.opened_in → DropsEarlier y z → z.memory ≡ y.memory → z.trace ≡ y.trace → Recovers x z
 recovers_so x y z takes opened drops memory trace = record { taking = y; takes = takes; opened = opened; drops = drops; memory = memory; trace = trace }
 
 pub comes_up_so : (x y z w : Shown) (takes : Takes x y) → y.opened_in ≡ x.opened_in → DropsEarlier y z → z.memory ≡ y.memory → z.trace ≡ y.trace

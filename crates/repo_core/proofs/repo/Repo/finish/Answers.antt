@@ -45,9 +45,9 @@ returns-in_err-place-clause-rested g c =
 
 pub returns-clause-objects : goal.returns-clause-objects
 returns-clause-objects g c =
-    objects_written c.args.self.now c.make_room_for.new.self c.write.new.self (Finished c.tx.result c.commit.result) _ c.make_room_for.ensures.readable c.in_ok-make_room_for.ensures.whole c.make_room_for.ensures.made c.make_room_for.ensures.objects (ap (λ (t : Ts). writes_if c.commit.result (open_at c.args.self.now.held.table t)) c.tx.ensures ∙ ap (λ (b : Bool). writes_if b (open_at c.args.self.now.held.table c.args.verdict.now.tx)) c.commit.ensures) c.in_ok-place.ensures.objects
+    objects_written c.args.self.now c.make_room_for.new.self c.write.new.self (Finished c.tx-tx.result c.commit-commit.result) _ c.make_room_for.ensures.readable c.in_ok-make_room_for.ensures.whole c.make_room_for.ensures.made c.make_room_for.ensures.objects (ap (λ (t : Ts). writes_if c.commit-commit.result (open_at c.args.self.now.held.table t)) c.tx-tx.ensures ∙ ap (λ (b : Bool). writes_if b (open_at c.args.self.now.held.table c.args.verdict.now.tx)) c.commit-commit.ensures) c.in_ok-place.ensures.objects
 
 pub returns-then-not-is_open-clause-objects : goal.returns-then-not-is_open-clause-objects
 returns-then-not-is_open-clause-objects g c =
     let x = c.args.self.now in
-    subst (λ (ws : List (Oref × Obj)). ObjectsTake ws x x) (sym (none_open (open_at x.held.table c.args.verdict.now.tx) c.args.verdict.now.commit (sym (c.is_open.ensures.open ∙ ap (λ (t : Ts). is_some (open_at x.held.table t)) c.tx.ensures) ∙ c.if-not-is_open.true))) (objects_itself x)
+    subst (λ (ws : List (Oref × Obj)). ObjectsTake ws x x) (sym (none_open (open_at x.held.table c.args.verdict.now.tx) c.args.verdict.now.commit (sym (c.is_open.ensures.open ∙ ap (λ (t : Ts). is_some (open_at x.held.table t)) c.tx-tx.ensures) ∙ c.if-not-is_open.true))) (objects_itself x)
