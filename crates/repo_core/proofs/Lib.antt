@@ -10,6 +10,7 @@ pub mod Falls
 pub mod Judged
 pub mod Letting
 pub mod Moves
+pub mod Objects
 pub mod Others
 pub mod Readable
 pub mod Refused

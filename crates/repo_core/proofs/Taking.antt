@@ -1,6 +1,7 @@
 -- What a restart takes.
 use Rattle.log_entries.specs.declared.entry.Entry.{Entry}
-use Rattle.repo_state.specs.Entering.{entered}
+use Rattle.repo_core.specs.Objects.{ObjectsTake, TakesOrPends, writes_in}
+use Rattle.repo_state.specs.Entering.{entered, loaded}
 use Rattle.repo_state.specs.declared.held.Held.{Held}
 use Rattle.repo_core.proofs.Refused.{falls_behind, moved_none, moved_on}
 use Rattle.repo_core.specs.Behind.{MovesObjects}
@@ -19,7 +20,7 @@ use Rattle.repo_durable.specs.Taking.{TakesFrom}
 use Rattle.repo_durable.specs.declared.recovering.Taken.TheVariants as taken
 use Rattle.repo_durable.specs.declared.recovering.Taken.{Taken}
 use Rattle.std.proofs.Common.{Bool, Err, List, Ok, OnOk, Option, Result, ap, arith, false, inl, inr, refl, subst, suc, sym, true, zero, ◌<◌, ◌∙◌, ◌≡◌, ℕ}
-use Rattle.std.specs.Prelude.{None, Some, ◌⊎◌}
+use Rattle.std.specs.Prelude.{None, Some, [], ◌⊎◌}
 use Rattle.thor_value.specs.FiniteMap.{Set}
 use Rattle.thor_value.specs.Names.{ts_cmp}
 use Rattle.repo_trace.specs.Recorded.{Recorded, with_entry}
@@ -27,8 +28,8 @@ use Rattle.repo_volatile.proofs.Lasting.{lasts_itself}
 use Rattle.repo_volatile.specs.Volatile.{Memory, Outlasts}
 
 -- nothing beside what was held
-pub takes_held : (x y : Shown) → x.is_torn ≡ false → MovesObjects x.held y.held → y.held.objects.mob.limit ≡ x.held.objects.mob.limit → y.trace ≡ x.trace → y.memory ≡ x.memory → Takes x y
-takes_held x y whole moves limit trace memory = record {
+pub takes_held : (x y : Shown) → x.is_torn ≡ false → MovesObjects x.held y.held → y.held.objects.mob.limit ≡ x.held.objects.mob.limit → y.trace ≡ x.trace → y.memory ≡ x.memory → ObjectsTake [] x y → Takes x y
+takes_held x y whole moves limit trace memory objects = record {
   taken = None;
   was = tt;
   whole = whole;
@@ -39,12 +40,13 @@ takes_held x y whole moves limit trace memory = record {
   requested = ap (λ (m : Memory). m.requested) memory;
   sessions = ap (λ (m : Memory). m.sessions) memory;
   limit = limit;
+  objects = objects;
 }
 
 -- the pending entry, too
 pub takes_pending : (x y z : Shown) (e : Entry) → x.is_torn ≡ false → x.is_up ≡ false → x.pending ≡ Some e → MovesObjects x.held y.held → y.held.objects.mob.limit ≡ x.held.objects.mob.limit → y.trace ≡ x.trace → y.memory ≡ x.memory
-    → z.held ≡ entered y.held e → z.held.objects.mob.limit ≡ y.held.objects.mob.limit → z.trace ≡ with_entry y.trace e → z.memory.requested ≡ came_with y.memory.requested e → z.memory.sessions ≡ y.memory.sessions → Takes x z
-takes_pending x y z e whole down is moves limit trace memory held stays recorded requested sessions = record {
+    → z.held ≡ entered y.held e → z.held.objects.mob.limit ≡ y.held.objects.mob.limit → z.trace ≡ with_entry y.trace e → z.memory.requested ≡ came_with y.memory.requested e → z.memory.sessions ≡ y.memory.sessions → ObjectsTake (loaded x.held e) x z → Takes x z
+takes_pending x y z e whole down is moves limit trace memory held stays recorded requested sessions objects = record {
   taken = Some e;
   was = (down, is);
   whole = whole;
@@ -55,6 +57,7 @@ takes_pending x y z e whole down is moves limit trace memory held stays recorded
   requested = requested ∙ ap (λ (m : Memory). came_with m.requested e) memory;
   sessions = sessions ∙ ap (λ (m : Memory). m.sessions) memory;
   limit = stays ∙ limit;
+  objects = objects;
 }
 
 -- an entry is pending where it is down, and not torn
@@ -83,13 +86,14 @@ pending_before p q is whole = by p is
 
 -- the log wasn't taken over
 pub none_taken : (x y : Shown) (p q : Phase) → q ≡ lowered p → x.is_up ≡ is_up_in p → x.is_torn ≡ is_torn_in p → x.pending ≡ pending_in p → y.is_torn ≡ is_torn_in q → y.pending ≡ pending_in q
-    → y.held ≡ x.held → Outlasts x.memory y.memory → y.trace ≡ x.trace → TakesNone x y
-none_taken x y p q is up torn pending torn' pending' held lasts trace = record {
+    → y.held ≡ x.held → Outlasts x.memory y.memory → y.trace ≡ x.trace → TakesOrPends x y → TakesNone x y
+none_taken x y p q is up torn pending torn' pending' held lasts trace objects = record {
   torn = λ w. torn ∙ torn_before p q is (sym torn' ∙ w);
   held = λ w. moved_none x y held;
   memory = lasts;
   pending = λ w. by (pending_before p q is (sym torn' ∙ w));
   trace = trace;
+  objects = objects;
 }
   where
     by : (pending_in q ≡ None) ⊎ ((is_up_in p ≡ false) × (pending_in q ≡ pending_in p)) → (y.pending ≡ None) ⊎ ((x.is_up ≡ false) × (y.pending ≡ x.pending))
@@ -97,13 +101,14 @@ none_taken x y p q is up torn pending torn' pending' held lasts trace = record {
     by (inr same) = inr (up ∙ same.0, pending' ∙ (same.1 ∙ sym pending))
 
 -- the pending entry wasn't taken
-pub pending_falls : (x y z : Shown) (e : Entry) → x.is_torn ≡ false → x.is_up ≡ false → x.pending ≡ Some e → Moved x y → y.memory ≡ x.memory → y.trace ≡ x.trace → GoesDown y z (Some e) → z.trace ≡ y.trace → TakesNone x z
-pending_falls x y z e whole down is moved memory trace falls recorded = record {
+pub pending_falls : (x y z : Shown) (e : Entry) → x.is_torn ≡ false → x.is_up ≡ false → x.pending ≡ Some e → Moved x y → y.memory ≡ x.memory → y.trace ≡ x.trace → GoesDown y z (Some e) → z.trace ≡ y.trace → TakesOrPends x z → TakesNone x z
+pending_falls x y z e whole down is moved memory trace falls recorded objects = record {
   torn = λ w. whole;
   held = λ w. moved_on x y z moved (falls.held w);
   memory = subst (λ (m : Memory). Outlasts m z.memory) memory falls.memory;
   pending = λ w. by (falls.pending w);
   trace = recorded ∙ trace;
+  objects = objects;
 }
   where
     by : (z.pending ≡ None) ⊎ (z.pending ≡ Some e) → (z.pending ≡ None) ⊎ ((x.is_up ≡ false) × (z.pending ≡ x.pending))
@@ -112,16 +117,16 @@ pending_falls x y z e whole down is moved memory trace falls recorded = record {
 
 -- ---- a restart
 
-pub recovers_so : (x y z : Shown) → Takes x y → y.opened_in ≡ x.opened_in → DropsEarlier y z → z.memory ≡ y.memory → z.trace ≡ y.trace → Recovers x z
+abbrev pub recovers_so : (x y z : Shown) → Takes x y → y.opened_in ≡ x.opened_in → DropsEarlier y z → z.memory ≡ y.memory → z.trace ≡ y.trace → Recovers x z
 recovers_so x y z takes opened drops memory trace = record { taking = y; takes = takes; opened = opened; drops = drops; memory = memory; trace = trace }
 
-pub comes_up_so : (x y z w : Shown) → Takes x y → y.opened_in ≡ x.opened_in → DropsEarlier y z → z.memory ≡ y.memory → z.trace ≡ y.trace
-    → w.held ≡ entered z.held (life_behind z) → BeginsLife z.held z.memory w.memory → w.trace ≡ with_entry z.trace (life_behind z) → ComesUp x w
-comes_up_so x y z w takes opened drops memory trace held begins recorded = record { between = z; recovers = recovers_so x y z takes opened drops memory trace; held = held; memory = begins; trace = recorded }
+pub comes_up_so : (x y z w : Shown) (takes : Takes x y) → y.opened_in ≡ x.opened_in → DropsEarlier y z → z.memory ≡ y.memory → z.trace ≡ y.trace
+    → w.held ≡ entered z.held (life_behind z) → BeginsLife z.held z.memory w.memory → w.trace ≡ with_entry z.trace (life_behind z) → ObjectsTake (writes_in x.held takes.taken) x w → ComesUp x w
+comes_up_so x y z w takes opened drops memory trace held begins recorded objects = record { between = z; recovers = recovers_so x y z takes opened drops memory trace; held = held; memory = begins; trace = recorded; objects = objects }
 
-pub fails_so : (x y z w : Shown) → Takes x y → y.opened_in ≡ x.opened_in → DropsEarlier y z → z.memory ≡ y.memory → z.trace ≡ y.trace
-    → GoesDown z w (Some (life_behind z)) → w.trace ≡ z.trace → StaysDown x w
-fails_so x y z w takes opened drops memory trace falls recorded = inr (record { between = z; recovers = recovers_so x y z takes opened drops memory trace; falls = falls; trace = recorded })
+pub fails_so : (x y z w : Shown) (takes : Takes x y) → y.opened_in ≡ x.opened_in → DropsEarlier y z → z.memory ≡ y.memory → z.trace ≡ y.trace
+    → GoesDown z w (Some (life_behind z)) → w.trace ≡ z.trace → ObjectsTake (writes_in x.held takes.taken) x w → StaysDown x w
+fails_so x y z w takes opened drops memory trace falls recorded objects = inr (record { between = z; recovers = recovers_so x y z takes opened drops memory trace; falls = falls; trace = recorded; objects = objects })
 
 -- ---- behind a pending entry that was taken
 
@@ -134,10 +139,10 @@ taken_from p t e is from = subst (TakesFrom p) is from
 
 pub takes_after : (x y z : Shown) (p : Phase) (t : Taken) (e : Entry) → x.is_torn ≡ is_torn_in p → x.is_up ≡ is_up_in p → x.pending ≡ pending_in p → is_torn_in p ≡ false → TakesFrom (pending_in p) t → t ≡ taken.Pending e
     → MovesObjects x.held y.held → y.held.objects.mob.limit ≡ x.held.objects.mob.limit → y.trace ≡ x.trace → y.memory ≡ x.memory
-    → z.held ≡ entered y.held e → z.held.objects.mob.limit ≡ y.held.objects.mob.limit → z.trace ≡ with_entry y.trace e → z.memory.requested ≡ came_with y.memory.requested e → z.memory.sessions ≡ y.memory.sessions → Takes x z
-takes_after x y z p t e torn up pending whole from is moves limit trace memory held stays recorded requested sessions =
+    → z.held ≡ entered y.held e → z.held.objects.mob.limit ≡ y.held.objects.mob.limit → z.trace ≡ with_entry y.trace e → z.memory.requested ≡ came_with y.memory.requested e → z.memory.sessions ≡ y.memory.sessions → ObjectsTake (loaded x.held e) x z → Takes x z
+takes_after x y z p t e torn up pending whole from is moves limit trace memory held stays recorded requested sessions objects =
     let there : pending_in p ≡ Some e = taken_from (pending_in p) t e is from in
-    takes_pending x y z e (torn ∙ whole) (up ∙ down_with_it p e there whole) (pending ∙ there) moves limit trace memory held stays recorded requested sessions
+    takes_pending x y z e (torn ∙ whole) (up ∙ down_with_it p e there whole) (pending ∙ there) moves limit trace memory held stays recorded requested sessions objects
 
 -- ---- what is told of disks
 

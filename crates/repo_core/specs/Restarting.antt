@@ -6,6 +6,7 @@ use Rattle.repo_state.specs.Entering.{entered}
 use Rattle.repo_state.specs.declared.held.Held.{Held}
 use Rattle.repo_sessions.specs.Sessions.{ended, no_sessions}
 use Rattle.repo_core.specs.Behind.{MovesObjects}
+use Rattle.repo_core.specs.Objects.{ObjectsTake, TakesOrPends, writes_in}
 use Rattle.repo_core.specs.Refusing.{GoesDown, Moved}
 use Rattle.repo_core.specs.Shown.{Shown}
 use Rattle.law_repo_memory.specs.Coming.{BeginsLife}
@@ -33,6 +34,7 @@ pub record Takes (old new : Shown) : Type 0 where
   pub requested : new.memory.requested ≡ requested_with old.memory.requested taken
   pub sessions : new.memory.sessions ≡ old.memory.sessions
   pub limit : new.held.objects.mob.limit ≡ old.held.objects.mob.limit
+  pub objects : ObjectsTake (writes_in old.held taken) old new
 
 -- Of the decisions that are kept those of lives before this one may go.
 pub record LetsGo (life : ℕ) (old new : Contents) : Type 0 where
@@ -76,6 +78,7 @@ pub record ComesUp (old new : Shown) : Type 0 where
   pub held : new.held ≡ entered between.held (life_behind between)
   pub memory : BeginsLife between.held between.memory new.memory
   pub trace : new.trace ≡ with_entry between.trace (life_behind between)
+  pub objects : ObjectsTake (writes_in old.held recovers.takes.taken) old new
 
 -- nothing was taken
 pub record TakesNone (old new : Shown) : Type 0 where
@@ -84,6 +87,7 @@ pub record TakesNone (old new : Shown) : Type 0 where
   pub memory : Outlasts old.memory new.memory
   pub pending : new.is_torn ≡ false → (new.pending ≡ None) ⊎ ((old.is_up ≡ false) × (new.pending ≡ old.pending))
   pub trace : new.trace ≡ old.trace
+  pub objects : TakesOrPends old new
 
 -- the Life behind what was recovered wasn't written, or wasn't taken
 pub record FailsBehind (old new : Shown) : Type 0 where
@@ -91,6 +95,7 @@ pub record FailsBehind (old new : Shown) : Type 0 where
   pub recovers : Recovers old between
   pub falls : GoesDown between new (Some (life_behind between))
   pub trace : new.trace ≡ between.trace
+  pub objects : ObjectsTake (writes_in old.held recovers.takes.taken) old new
 
 -- it stays down
 abbrev pub StaysDown : Shown → Shown → Type 0

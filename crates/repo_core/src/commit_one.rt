@@ -1,6 +1,7 @@
 //! A transaction with one participant commits.
 
-ghost use Rattle.std.specs.Prelude.{◌≡◌, IfErr, IfOk, None, OnOk, Some, false, length, true, IsErrOf, ℕ};
+ghost use Rattle.std.specs.Prelude.{◌≡◌, IfErr, IfOk, None, OnOk, Some, false, length, true, IsErrOf, ℕ, OnErr, []};
+ghost use Rattle.repo_core.specs.Objects.{ObjectsTake};
 ghost use Rattle.repo_core.specs.Behind.{HasMoved, Stands, alone_entry, epoch_of, with_refusal, is_marked};
 ghost use Rattle.repo_core.specs.Calls.{MayRequest, judged};
 ghost use Rattle.repo_core.specs.Moving.{HasRoom};
@@ -22,7 +23,7 @@ use repo_refusals::Refusal;
 impl<P: Parts> Repo<P> {
     /// Commits a transaction that has this one participant, and tells the other sessions. Answer and refusals
     /// are those of `prepare`.
-    #[tactic(auto, using(crate::proofs::Refused::leaves_down, crate::proofs::Refused::leaves_written, crate::proofs::Judged::accepted, crate::proofs::Causes::why_down, crate::proofs::Causes::why_fault, crate::proofs::Causes::why_marked, crate::proofs::Causes::has_fault, crate::proofs::Causes::damaged_none, crate::proofs::Causes::damaged_marked, crate::proofs::Failing::stopped_none, crate::proofs::Failing::stopped_marked, crate::proofs::Failing::failed_shown, crate::proofs::Failing::fewer_same))]
+    #[tactic(auto, using(crate::proofs::Refused::leaves_down, crate::proofs::Refused::leaves_written, crate::proofs::Judged::accepted, crate::proofs::Causes::why_down, crate::proofs::Causes::why_fault, crate::proofs::Causes::why_marked, crate::proofs::Causes::has_fault, crate::proofs::Causes::damaged_none, crate::proofs::Causes::damaged_marked, crate::proofs::Failing::stopped_none, crate::proofs::Failing::stopped_marked, crate::proofs::Failing::failed_shown, crate::proofs::Failing::fewer_same, crate::proofs::Objects::objects_itself, crate::proofs::Objects::objects_held))]
     pub fn commit_one(&mut self, session: u32, request: Request) -> Result<u64, Refusal>
         requires { MayRequest self.old.held self.old.memory request true }
         ensures stands { Stands self.old.is_up result self.new.is_up }
@@ -36,6 +37,8 @@ impl<P: Parts> Repo<P> {
         ensures held { OnOk result (HasMoved self.old.held (alone_entry request.kind request) self.new.held) }
         ensures room { HasRoom self.old.held request.writes → OnOk result (self.new.held ≡ entered_in self.old.held (alone_entry request.kind request)) }
         ensures pages { HasRoom self.old.held request.writes → self.new.pages ≡ self.old.pages }
+        ensures objects { OnOk result (ObjectsTake request.writes self.old self.new) }
+        ensures rested { OnErr result (ObjectsTake [] self.old self.new) }
         ensures limit { OnOk result (self.new.held.objects.mob.limit ≡ self.old.held.objects.mob.limit) }
         ensures memory { OnOk result (Moves self.old.held self.old.memory (alone_entry request.kind request) self.new.memory) }
         ensures tells { OnOk result (Tells self.old.held self.old.memory.sessions (length self.old.trace.history) (alone_entry request.kind request) self.new.memory.sessions) }

@@ -1,15 +1,17 @@
 //! A coordinator decides.
 
-ghost use Rattle.std.specs.Prelude.{◌≡◌, IfOk, OnErr, OnOk, cond, false, true, IfErr, None, Some, length, IsErrOf, ℕ};
+ghost use Rattle.std.specs.Prelude.{◌≡◌, IfOk, OnErr, OnOk, cond, false, true, IfErr, None, Some, length, IsErrOf, ℕ, []};
 ghost use Rattle.log_entries.specs.declared.entry.Entry.TheVariants.{Decided as Decides};
 ghost use Rattle.repo_sessions.specs.Sessions.{has_session};
+ghost use Rattle.repo_core.specs.Objects.{ObjectsTake};
 ghost use Rattle.repo_core.specs.Behind.{HasMoved, IsVerdict, Stands, has_prepared, is_committed};
 ghost use Rattle.law_repo_memory.specs.Coming.{Moves};
 ghost use Rattle.thor_value.specs.FiniteMap.{has};
 ghost use Rattle.repo_core.specs.Shown.{faults_of, ShowsPages};
 ghost use Rattle.repo_durable.specs.Failing.{HasFailed, NoFewer, is_stopped};
 ghost use Rattle.repo_trace.specs.Recorded.{with_entry};
-ghost use Rattle.two_phase.specs.Contents.{standing};
+ghost use Rattle.commit_log.specs.Values.{writes_if};
+ghost use Rattle.two_phase.specs.Contents.{open_at, standing};
 ghost use Rattle.repo_core.specs.Moving.{HasRoomFor};
 ghost use Rattle.repo_core.specs.Refusing.{CanRefuse, GoesDown, IsEnded, IsPageDamage, Leaves};
 ghost use Rattle.repo_core.specs.Telling.{Tells};
@@ -28,13 +30,15 @@ impl<P: Parts> Repo<P> {
     /// Decides a transaction that the session prepared here and that this repository coordinates, also where the session
     /// was given up since. Refusal: `Gone`, exactly where the session has ended. Where it has nothing to decide, the answer
     /// is how the transaction stands.
-    #[tactic(auto, using(crate::proofs::Refused::leaves_down, crate::proofs::Refused::leaves_decided, crate::proofs::Causes::why_down, crate::proofs::Causes::why_reason, crate::proofs::Causes::why_fault, crate::proofs::Causes::damaged_none, crate::proofs::Causes::damaged_gone, crate::proofs::Failing::stopped_none, crate::proofs::Failing::stopped_gone, crate::proofs::Failing::failed_shown, crate::proofs::Failing::fewer_same))]
+    #[tactic(auto, using(crate::proofs::Refused::leaves_down, crate::proofs::Refused::leaves_decided, crate::proofs::Causes::why_down, crate::proofs::Causes::why_reason, crate::proofs::Causes::why_fault, crate::proofs::Causes::damaged_none, crate::proofs::Causes::damaged_gone, crate::proofs::Failing::stopped_none, crate::proofs::Failing::stopped_gone, crate::proofs::Failing::failed_shown, crate::proofs::Failing::fewer_same, crate::proofs::Objects::objects_itself, crate::proofs::Objects::objects_held))]
     pub fn decide(&mut self, session: u32, tx: Ts, commit: bool) -> Result<Verdict, Refusal>
         ensures stands { Stands self.old.is_up result self.new.is_up }
         ensures readable { ShowsPages self.old → ShowsPages self.new }
         ensures never { (n place : ℕ) → IsErrOf result (IsDamaged n place) → ShowsPages self.old → ⊥ }
         ensures unended { OnOk result (has_session self.old.memory.sessions session ≡ true) }
         ensures held { OnOk result (has_prepared self.old.held session tx ≡ true → HasMoved self.old.held (Decides tx commit) self.new.held) }
+        ensures objects { OnOk result (ObjectsTake (cond (has_prepared self.old.held session tx) (writes_if commit (open_at self.old.held.table tx)) []) self.old self.new) }
+        ensures rested { OnErr result (ObjectsTake [] self.old self.new) }
         ensures limit { OnOk result (self.new.held.objects.mob.limit ≡ self.old.held.objects.mob.limit) }
         ensures memory { has_prepared self.old.held session tx ≡ true → has self.old.memory.queue.members tx ≡ true → OnOk result (Moves self.old.held self.old.memory (Decides tx commit) self.new.memory) }
         ensures tells { has_prepared self.old.held session tx ≡ true → OnOk result (Tells self.old.held self.old.memory.sessions (length self.old.trace.history) (Decides tx commit) self.new.memory.sessions) }

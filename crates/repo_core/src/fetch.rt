@@ -1,7 +1,8 @@
 //! A client asks for a page.
 
-ghost use Rattle.std.specs.Prelude.{◌≡◌, OnErr, OnOk, true, IfErr, None, length, IsErrOf, false, ℕ};
+ghost use Rattle.std.specs.Prelude.{◌≡◌, OnErr, OnOk, true, IfErr, None, length, IsErrOf, false, ℕ, []};
 ghost use Rattle.repo_sessions.specs.Sessions.{is_live};
+ghost use Rattle.repo_core.specs.Objects.{ObjectsTake, SendsObjects};
 ghost use Rattle.repo_core.specs.Behind.{MovesObjects, Stands};
 ghost use Rattle.spec_trace.specs.declared.mark.Mark.TheVariants.{Fetched as Fetches};
 ghost use Rattle.repo_core.specs.Shown.{faults_of, ShowsPages};
@@ -20,7 +21,7 @@ use spec_trace::Mark;
 impl<P: Parts> Repo<P> {
     /// Puts a page into the session's outbox, as it stands behind all entries. The messages below `upto` are
     /// acknowledged. Refusal: `Gone`.
-    #[tactic(auto, using(crate::proofs::Refused::leaves_down, crate::proofs::Refused::falls_with, crate::proofs::Refused::leaves_read, crate::proofs::Refused::moved_none, crate::proofs::Refused::lasts_same, crate::proofs::Causes::why_down, crate::proofs::Causes::why_reason, crate::proofs::Causes::why_after, crate::proofs::Causes::lacks_memory, crate::proofs::Failing::stopped_none, crate::proofs::Failing::stopped_gone, crate::proofs::Failing::stopped_memory, crate::proofs::Failing::failed_between, crate::proofs::Causes::damaged_none, crate::proofs::Causes::damaged_gone, crate::proofs::Damage::damaged_memory, crate::proofs::Failing::fewer_same))]
+    #[tactic(auto, using(crate::proofs::Refused::leaves_down, crate::proofs::Refused::falls_with, crate::proofs::Refused::leaves_read, crate::proofs::Refused::moved_none, crate::proofs::Refused::lasts_same, crate::proofs::Causes::why_down, crate::proofs::Causes::why_reason, crate::proofs::Causes::why_after, crate::proofs::Causes::lacks_memory, crate::proofs::Failing::stopped_none, crate::proofs::Failing::stopped_gone, crate::proofs::Failing::stopped_memory, crate::proofs::Failing::failed_between, crate::proofs::Causes::damaged_none, crate::proofs::Causes::damaged_gone, crate::proofs::Damage::damaged_memory, crate::proofs::Failing::fewer_same, crate::proofs::Objects::objects_itself, crate::proofs::Objects::objects_held))]
     pub fn fetch(&mut self, session: u32, page: u32, upto: u64) -> Result<(), Refusal>
         ensures stands { Stands self.old.is_up result self.new.is_up }
         ensures readable { ShowsPages self.old → ShowsPages self.new }
@@ -28,6 +29,8 @@ impl<P: Parts> Repo<P> {
         ensures live { OnOk result (is_live self.old.memory.sessions session ≡ true) }
         ensures held { MovesObjects self.old.held self.new.held }
         ensures sent { OnOk result (SendsPage self.old.memory session page upto (length self.old.trace.history) self.new.memory) }
+        ensures objects { ObjectsTake [] self.old self.new }
+        ensures image { OnOk result (SendsObjects self.old session page upto self.new) }
         ensures limit { self.new.held.objects.mob.limit ≡ self.old.held.objects.mob.limit }
         ensures buffer { self.new.held.objects.mob ≡ self.old.held.objects.mob }
         ensures trace { OnOk result (self.new.trace ≡ with_mark self.old.trace (Fetches session page upto)) }

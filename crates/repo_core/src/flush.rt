@@ -1,7 +1,8 @@
 //! A page is flushed.
 
-ghost use Rattle.std.specs.Prelude.{◌≡◌, IfErr, IfOk, IsErrOf, OnErr, OnOk, false, slice_get, ℕ};
+ghost use Rattle.std.specs.Prelude.{◌≡◌, IfErr, IfOk, IsErrOf, OnErr, OnOk, false, slice_get, ℕ, []};
 ghost use Rattle.std.specs.Option.{IfSome};
+ghost use Rattle.repo_core.specs.Objects.{ObjectsTake};
 ghost use Rattle.repo_core.specs.Behind.{MovesObjects, Stands};
 ghost use Rattle.repo_core.specs.Refusing.{CanRefuse, HasNoReason, IsPageDamage, Rests};
 ghost use Rattle.repo_core.specs.Shown.{faults_of, ShowsPages};
@@ -24,6 +25,7 @@ impl<P: Parts> Repo<P> {
         ensures never { (n place : ℕ) → IsErrOf result (IsDamaged n place) → ShowsPages self.old → ⊥ }
         ensures held { MovesObjects self.old.held self.new.held }
         ensures memory { self.new.memory ≡ self.old.memory }
+        ensures objects { ObjectsTake [] self.old self.new }
         ensures limit { self.new.held.objects.mob.limit ≡ self.old.held.objects.mob.limit }
         ensures buffer { IfOk result (λ f. self.new.held.objects.mob.objects ≡ left_by self.old.held.objects.mob.objects f) }
         ensures unmoved { OnErr result (self.new.held.objects.mob ≡ self.old.held.objects.mob) }

@@ -29,6 +29,7 @@ impl<P: Parts> Repo<P> {
         ensures readable { ShowsPages self.old → ShowsPages self.new }
         ensures live { OnOk result (is_live self.old.memory.sessions session ≡ true) }
         ensures held { OnOk result (self.new.held ≡ record self.old.held { next_grant = self.old.held.next_grant + 1 }) }
+        ensures objects { self.new.held.objects ≡ self.old.held.objects }
         ensures below { OnOk result (self.old.held.next_grant < 65536) }
         ensures sent { OnOk result (self.new.memory ≡ record self.old.memory { sessions = sent self.old.memory.sessions session self.old.held.next_grant (AGrant self.old.held.next_grant (length self.old.trace.history)) }) }
         ensures trace { OnOk result (self.new.trace ≡ with_mark self.old.trace (Grants session self.old.held.next_grant)) }
@@ -72,6 +73,7 @@ impl<P: Parts> Repo<P> {
         ensures stands { Stands true result self.new.is_up }
         ensures readable { ShowsPages self.old → ShowsPages self.new }
         ensures held { OnOk result (self.new.held ≡ record self.old.held { next_grant = page + 1 }) }
+        ensures objects { self.new.held.objects ≡ self.old.held.objects }
         ensures sent { OnOk result (self.new.memory ≡ record self.old.memory { sessions = sent self.old.memory.sessions session page (AGrant page (length self.old.trace.history)) }) }
         ensures trace { OnOk result (self.new.trace ≡ with_mark self.old.trace (Grants session page)) }
         ensures refused { IfErr result (λ r. (is_marked r ≡ false) × (self.new.trace ≡ self.old.trace)) }
@@ -101,6 +103,7 @@ impl<P: Parts> Repo<P> {
         ensures stands { Stands true result self.new.is_up }
         ensures readable { ShowsPages self.old → ShowsPages self.new }
         ensures held { OnOk result (self.new.held ≡ record self.old.held { next_grant = page + 1 }) }
+        ensures objects { self.new.held.objects ≡ self.old.held.objects }
         ensures memory { self.new.memory ≡ self.old.memory }
         ensures sent { OnOk result (sent ≡ Ok tt) }
         ensures trace { OnOk result (self.new.trace ≡ with_mark self.old.trace (Grants session page)) }

@@ -1,8 +1,9 @@
 //! A transaction that has other participants, too, is prepared.
 
-ghost use Rattle.std.specs.Prelude.{◌≡◌, IfErr, IfOk, None, OnOk, Some, false, length, true, IsErrOf, ℕ};
+ghost use Rattle.std.specs.Prelude.{◌≡◌, IfErr, IfOk, None, OnOk, Some, false, length, true, IsErrOf, ℕ, []};
 ghost use Rattle.log_entries.specs.declared.entry.Entry.TheVariants.{Prepared as Prepares};
 ghost use Rattle.repo_state.specs.Entering.{entered as entered_in, prepared_in};
+ghost use Rattle.repo_core.specs.Objects.{ObjectsTake};
 ghost use Rattle.repo_core.specs.Behind.{HasMoved, Stands, epoch_of, with_refusal, is_marked};
 ghost use Rattle.repo_core.specs.Calls.{MayRequest, judged};
 ghost use Rattle.repo_core.specs.Moving.{HasRoom};
@@ -21,7 +22,7 @@ use repo_refusals::Refusal;
 impl<P: Parts> Repo<P> {
     /// Prepares a transaction that has other participants, too. The answer is the place of its entry.
     /// Refusals: `Gone`, `Blocked`, `Epoch`, `TooOld`, `Stale`, `Earlier`, `Later`, `Full`.
-    #[tactic(auto, using(crate::proofs::Refused::leaves_down, crate::proofs::Refused::leaves_written, crate::proofs::Judged::accepted, crate::proofs::Causes::why_down, crate::proofs::Causes::why_fault, crate::proofs::Causes::why_marked, crate::proofs::Causes::has_fault, crate::proofs::Causes::damaged_none, crate::proofs::Causes::damaged_marked, crate::proofs::Failing::stopped_none, crate::proofs::Failing::stopped_marked, crate::proofs::Failing::failed_shown, crate::proofs::Failing::fewer_same))]
+    #[tactic(auto, using(crate::proofs::Refused::leaves_down, crate::proofs::Refused::leaves_written, crate::proofs::Judged::accepted, crate::proofs::Causes::why_down, crate::proofs::Causes::why_fault, crate::proofs::Causes::why_marked, crate::proofs::Causes::has_fault, crate::proofs::Causes::damaged_none, crate::proofs::Causes::damaged_marked, crate::proofs::Failing::stopped_none, crate::proofs::Failing::stopped_marked, crate::proofs::Failing::failed_shown, crate::proofs::Failing::fewer_same, crate::proofs::Objects::objects_itself, crate::proofs::Objects::objects_held))]
     pub fn prepare(&mut self, session: u32, request: Request) -> Result<u64, Refusal>
         requires { MayRequest self.old.held self.old.memory request false }
         ensures stands { Stands self.old.is_up result self.new.is_up }
@@ -35,6 +36,7 @@ impl<P: Parts> Repo<P> {
         ensures held { OnOk result (HasMoved self.old.held (Prepares request) self.new.held) }
         ensures room { HasRoom self.old.held request.writes → OnOk result (self.new.held ≡ entered_in self.old.held (Prepares request)) }
         ensures pages { HasRoom self.old.held request.writes → self.new.pages ≡ self.old.pages }
+        ensures objects { ObjectsTake [] self.old self.new }
         ensures limit { OnOk result (self.new.held.objects.mob.limit ≡ self.old.held.objects.mob.limit) }
         ensures memory { OnOk result (self.new.memory ≡ entered self.old.memory request false) }
         ensures trace { OnOk result (self.new.trace ≡ with_entry self.old.trace (Prepares request)) }

@@ -1,10 +1,11 @@
 //! A repository is restarted.
 
-ghost use Rattle.std.specs.Prelude.{◌≡◌, ◌+◌, ◌<◌, ◌≤◌, IfErr, IsErrOf, IsTrue, OnErr, OnOk, false, true, Some, ℕ};
+ghost use Rattle.std.specs.Prelude.{◌≡◌, ◌+◌, ◌<◌, ◌≤◌, IfErr, IsErrOf, IsTrue, OnErr, OnOk, false, true, Some, ℕ, []};
 ghost use Rattle.log_entries.specs.declared.entry.Entry.TheVariants.{Life as ALife};
 ghost use Rattle.repo_sessions.specs.Sessions.{ended};
 ghost use Rattle.log_codec.specs.Grammar.{BodyFits};
 ghost use Rattle.log_codec.specs.declared.body.Body.TheVariants.{Entry as AnEntry};
+ghost use Rattle.repo_core.specs.Objects.{ObjectsTake};
 ghost use Rattle.repo_core.specs.Behind.{IsRecovered, IsRestarted, Stands, is_marked};
 ghost use Rattle.repo_core.specs.Shown.{faults_of, ShowsPages};
 ghost use Rattle.repo_durable.specs.Failing.{HasFailed, NoFewer, is_stopped};
@@ -38,7 +39,6 @@ impl<P: Parts> Repo<P> {
     /// written; else the answer is `Damaged`, as it is where a log disk has no log of this repository. It comes
     /// only where some disk doesn't tell its bytes. All sessions end. Decisions of earlier openings are kept no
     /// longer. After a refusal the repository is down, with the entry pending that was so, or with the Life.
-    #[tactic(auto, using(crate::proofs::Taking::comes_up_so, crate::proofs::Taking::fails_so))]
     pub fn restart(&mut self, pick: u64) -> Result<(), Refusal>
         ensures up { OnOk result (self.new.is_up ≡ true) }
         ensures readable { ShowsPages self.old → ShowsPages self.new }
@@ -64,7 +64,7 @@ impl<P: Parts> Repo<P> {
     }
 
     /// Takes what the disks have, where it is what is held, or that with the pending entry.
-    #[tactic(auto, using(crate::proofs::Taking::takes_held, crate::proofs::Taking::takes_pending, crate::proofs::Taking::down_with_it))]
+    #[tactic(auto, using(crate::proofs::Taking::down_with_it))]
     fn take_over(&mut self, pick: u64) -> Result<(), Refusal>
         ensures up { OnOk result (self.new.is_up ≡ true) }
         ensures readable { ShowsPages self.old → ShowsPages self.new }
@@ -72,6 +72,7 @@ impl<P: Parts> Repo<P> {
         ensures fault { IfErr result (λ r. is_fault r ≡ true) }
         ensures takes { OnOk result (Takes self.old self.new) }
         ensures none { OnErr result (TakesNone self.old self.new) }
+        ensures whole { OnOk result (self.new.is_torn ≡ false) }
         ensures stopped { (n : ℕ) → IsErrOf result (IsStopped n) → HasFailed (faults_of self.old) (faults_of self.new) }
         ensures steady { OnOk result (self.new.faults ≡ self.old.faults) }
         ensures quiet { IfErr result (λ r. is_stopped r ≡ false → self.new.faults ≡ self.old.faults) }
@@ -90,7 +91,7 @@ impl<P: Parts> Repo<P> {
     }
 
     /// Begins the next life.
-    #[tactic(auto, using(crate::proofs::Readable::shown_has, crate::proofs::Refused::falls_with, crate::proofs::Refused::moved_none, crate::proofs::Refused::lasts_same, crate::proofs::Failing::fewer_same))]
+    #[tactic(auto, using(crate::proofs::Readable::shown_has, crate::proofs::Refused::falls_with, crate::proofs::Refused::moved_none, crate::proofs::Refused::lasts_same, crate::proofs::Failing::fewer_same, crate::proofs::Objects::objects_held))]
     pub(crate) fn write_life(&mut self) -> Result<(), Refusal>
         requires { self.old.is_up ≡ true }
         ensures stands { Stands true result self.new.is_up }
@@ -101,6 +102,7 @@ impl<P: Parts> Repo<P> {
         ensures refused { OnErr result (self.new.trace ≡ self.old.trace) }
         ensures held { OnOk result (self.new.held ≡ entered self.old.held (life_behind self.old)) }
         ensures begins { OnOk result (BeginsLife self.old.held self.old.memory self.new.memory) }
+        ensures objects { ObjectsTake [] self.old self.new }
         ensures left { OnErr result (GoesDown self.old self.new (Some (life_behind self.old))) }
         ensures stopped { (n : ℕ) → IsErrOf result (IsStopped n) → HasFailed (faults_of self.old) (faults_of self.new) }
         ensures counts { NoFewer (faults_of self.old) (faults_of self.new) }
@@ -171,6 +173,7 @@ fn take_pending<P: Parts>(
     ensures requested { OnOk result (memory.new.requested ≡ came_with memory.old.requested entry) }
     ensures left { OnErr result (Falls stable.old stable.new entry) }
     ensures refusal { IfErr result (λ r. r ≡ IsNoMemory) }
+    ensures pages { (disks_of P.disks stable.new).content 2 ≡ (disks_of P.disks stable.old).content 2 }
     ensures clock { (disks_of P.disks stable.new).clock ≡ (disks_of P.disks stable.old).clock }
     ensures faults { (d : ℕ) → (disks_of P.disks stable.new).faults d ≡ (disks_of P.disks stable.old).faults d }
 {

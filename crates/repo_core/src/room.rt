@@ -2,12 +2,14 @@
 
 ghost use Rattle.disk_trait.specs.AllDisks.{NoFault};
 ghost use Rattle.std.specs.List.{AllByRecursion};
-ghost use Rattle.std.specs.Prelude.{◌≡◌, IfErr, IsErrOf, false, true, OnErr, Option, None, OnOk, ◌<◌, ◌≤◌, ℕ};
+ghost use Rattle.std.specs.Prelude.{◌≡◌, IfErr, IsErrOf, false, true, OnErr, Option, None, OnOk, ◌<◌, ◌≤◌, ℕ, []};
 ghost use Rattle.repo_state.specs.Keeps.{Keeps};
 ghost use Rattle.mob_buffer.specs.Buffer.{CanStand, bytes_of};
+ghost use Rattle.repo_core.specs.Objects.{ObjectsTake};
 ghost use Rattle.repo_core.specs.Behind.{MovesObjects, Stands, is_marked};
 ghost use Rattle.repo_core.specs.Moving.{HasRoom, HasRoomFor, MakesRoom};
 ghost use Rattle.repo_durable.specs.Kept.{IsKept, RestsWith, disks_of, held_of, is_fault, is_up, repo_named};
+ghost use Rattle.repo_durable.specs.Mapping.{StoreMoves};
 ghost use Rattle.repo_durable.specs.Saying.{IsSaid};
 ghost use Rattle.log_entries.specs.declared.entry.Entry.{Entry as AnEntry};
 ghost use Rattle.repo_core.specs.Refusing.{IsPageDamage, Leaves};
@@ -46,7 +48,7 @@ impl<P: Parts> Repo<P> {
     }
 
     /// Flushes pages until writes fit into the buffer beside what is there, or it is empty.
-    #[tactic(auto, using(crate::proofs::Refused::leaves_down, crate::proofs::Refused::falls_with, crate::proofs::Refused::lasts_same, crate::proofs::Damage::some_shown, crate::proofs::Failing::failed_between, crate::proofs::Failing::ok_shown, crate::proofs::Failing::err_shown, crate::proofs::Failing::fewer_between, crate::proofs::Failing::fewer_same, repo_durable::proofs::Flushes::flushed_none, crate::proofs::Readable::shown_has))]
+    #[tactic(auto, using(crate::proofs::Refused::leaves_down, crate::proofs::Refused::falls_with, crate::proofs::Refused::lasts_same, crate::proofs::Damage::some_shown, crate::proofs::Failing::failed_between, crate::proofs::Failing::ok_shown, crate::proofs::Failing::err_shown, crate::proofs::Failing::fewer_between, crate::proofs::Failing::fewer_same, repo_durable::proofs::Flushes::flushed_none, crate::proofs::Readable::shown_has, crate::proofs::Objects::whole_answered))]
     pub(crate) fn make_room(&mut self, writes: &Writes) -> Result<(), Refusal>
         requires up { self.old.is_up ≡ true }
         requires fits { AllByRecursion CanStand writes.now }
@@ -56,6 +58,8 @@ impl<P: Parts> Repo<P> {
         ensures fault { IfErr result (λ r. (is_fault r ≡ true) × (is_marked r ≡ false)) }
         ensures made { MakesRoom self.old self.new }
         ensures stays { HasRoom self.old.held writes.now → self.new ≡ self.old }
+        ensures objects { ObjectsTake [] self.old self.new }
+        ensures whole { OnOk result (self.new.is_torn ≡ false) }
         ensures left { IfErr result (λ r. (e : Option AnEntry) → Leaves self.old self.new e r) }
         ensures names { IfErr result (λ r. repo_named self.old.held.repo r ≡ self.old.held.repo) }
         ensures stopped { (n : ℕ) → IsErrOf result (IsStopped n) → HasFailed (faults_of self.old) (faults_of self.new) }
@@ -70,7 +74,7 @@ impl<P: Parts> Repo<P> {
     }
 
     /// Does so for the writes of a transaction that is open here, where it commits.
-    #[tactic(auto, using(crate::proofs::Refused::leaves_down, crate::proofs::Refused::falls_with, crate::proofs::Refused::lasts_same, crate::proofs::Damage::some_shown, crate::proofs::Failing::failed_between, crate::proofs::Failing::ok_shown, crate::proofs::Failing::err_shown, crate::proofs::Failing::fewer_between, crate::proofs::Failing::fewer_same, repo_durable::proofs::Flushes::flushed_none, crate::proofs::Readable::shown_has))]
+    #[tactic(auto, using(crate::proofs::Refused::leaves_down, crate::proofs::Refused::falls_with, crate::proofs::Refused::lasts_same, crate::proofs::Damage::some_shown, crate::proofs::Failing::failed_between, crate::proofs::Failing::ok_shown, crate::proofs::Failing::err_shown, crate::proofs::Failing::fewer_between, crate::proofs::Failing::fewer_same, repo_durable::proofs::Flushes::flushed_none, crate::proofs::Readable::shown_has, crate::proofs::Objects::objects_held, crate::proofs::Objects::whole_answered))]
     pub(crate) fn make_room_for(&mut self, tx: Ts, commit: bool) -> Result<(), Refusal>
         requires { self.old.is_up ≡ true }
         ensures stands { Stands true result self.new.is_up }
@@ -79,6 +83,8 @@ impl<P: Parts> Repo<P> {
         ensures fault { IfErr result (λ r. (is_fault r ≡ true) × (is_marked r ≡ false)) }
         ensures made { MakesRoom self.old self.new }
         ensures stays { HasRoomFor self.old.held tx commit → self.new ≡ self.old }
+        ensures objects { ObjectsTake [] self.old self.new }
+        ensures whole { OnOk result (self.new.is_torn ≡ false) }
         ensures left { IfErr result (λ r. (e : Option AnEntry) → Leaves self.old self.new e r) }
         ensures names { IfErr result (λ r. repo_named self.old.held.repo r ≡ self.old.held.repo) }
         ensures stopped { (n : ℕ) → IsErrOf result (IsStopped n) → HasFailed (faults_of self.old) (faults_of self.new) }
@@ -97,7 +103,7 @@ impl<P: Parts> Repo<P> {
     }
 }
 
-#[tactic(auto, using(repo_durable::proofs::Failing::fewer_none, repo_durable::proofs::Counting::stays_none, repo_durable::proofs::Counting::stays_then, repo_durable::proofs::Flushes::flushed_none))]
+#[tactic(auto, using(repo_durable::proofs::Failing::fewer_none, repo_durable::proofs::Counting::stays_none, repo_durable::proofs::Counting::stays_then, repo_durable::proofs::Flushes::flushed_none, repo_durable::proofs::Mapping::moves_itself))]
 fn make_room<P: Parts>(stable: &mut Stable<P>, writes: &Writes) -> Result<(), Refusal>
     requires kept { IsKept P.disks stable.old }
     requires says { IsSaid P.disks stable.old }
@@ -113,6 +119,7 @@ fn make_room<P: Parts>(stable: &mut Stable<P>, writes: &Writes) -> Result<(), Re
     ensures flushed { HasFlushed (held_of stable.old).objects.mob.objects (held_of stable.new).objects.mob.objects }
     ensures limit { (held_of stable.new).objects.mob.limit ≡ (held_of stable.old).objects.mob.limit }
     ensures stays { HasRoom (held_of stable.old) writes.now → stable.new ≡ stable.old }
+    ensures map { StoreMoves P.disks [] stable.old stable.new }
     ensures rests { OnErr result (RestsWith None stable.new) }
     ensures names { IfErr result (λ r. repo_named (held_of stable.old).repo r ≡ (held_of stable.old).repo) }
     ensures stopped { (n : ℕ) → IsErrOf result (IsStopped n) → HasFailed (disks_of P.disks stable.old).faults (disks_of P.disks stable.new).faults }
@@ -129,7 +136,7 @@ fn make_room<P: Parts>(stable: &mut Stable<P>, writes: &Writes) -> Result<(), Re
 }
 
 /// Flushes pages until the buffer keeps its limit with these writes, or it is empty.
-#[tactic(auto, using(repo_durable::proofs::Failing::fewer_none, repo_durable::proofs::Counting::stays_none, repo_durable::proofs::Counting::stays_then, repo_durable::proofs::Counting::err_behind, repo_durable::proofs::Failing::fewer_then, repo_durable::proofs::Failing::failed_behind, repo_durable::proofs::Flushes::flushed_none, repo_durable::proofs::Flushes::flushed_then, repo_durable::proofs::Flushes::flushed_same))]
+#[tactic(auto, using(repo_durable::proofs::Failing::fewer_none, repo_durable::proofs::Counting::stays_none, repo_durable::proofs::Counting::stays_then, repo_durable::proofs::Counting::err_behind, repo_durable::proofs::Failing::fewer_then, repo_durable::proofs::Failing::failed_behind, repo_durable::proofs::Flushes::flushed_none, repo_durable::proofs::Flushes::flushed_then, repo_durable::proofs::Flushes::flushed_same, repo_durable::proofs::Mapping::moves_itself, crate::proofs::Objects::moves_next))]
 fn flush_for<P: Parts>(stable: &mut Stable<P>, writes: &Writes) -> Result<(), Refusal>
     requires kept { IsKept P.disks stable.old }
     requires says { IsSaid P.disks stable.old }
@@ -144,6 +151,7 @@ fn flush_for<P: Parts>(stable: &mut Stable<P>, writes: &Writes) -> Result<(), Re
     ensures held { MovesObjects (held_of stable.old) (held_of stable.new) }
     ensures flushed { HasFlushed (held_of stable.old).objects.mob.objects (held_of stable.new).objects.mob.objects }
     ensures limit { (held_of stable.new).objects.mob.limit ≡ (held_of stable.old).objects.mob.limit }
+    ensures map { StoreMoves P.disks [] stable.old stable.new }
     ensures rests { OnErr result (RestsWith None stable.new) }
     ensures names { IfErr result (λ r. repo_named (held_of stable.old).repo r ≡ (held_of stable.old).repo) }
     ensures stopped { (n : ℕ) → IsErrOf result (IsStopped n) → HasFailed (disks_of P.disks stable.old).faults (disks_of P.disks stable.new).faults }
@@ -165,7 +173,7 @@ fn flush_for<P: Parts>(stable: &mut Stable<P>, writes: &Writes) -> Result<(), Re
 }
 
 /// Flushes pages until the writes of a transaction that is open fit into the buffer, or it is empty.
-#[tactic(auto, using(repo_durable::proofs::Failing::fewer_none, repo_durable::proofs::Counting::stays_none, repo_durable::proofs::Counting::stays_then, repo_durable::proofs::Flushes::flushed_none))]
+#[tactic(auto, using(repo_durable::proofs::Failing::fewer_none, repo_durable::proofs::Counting::stays_none, repo_durable::proofs::Counting::stays_then, repo_durable::proofs::Flushes::flushed_none, repo_durable::proofs::Mapping::moves_itself))]
 fn make_room_for<P: Parts>(stable: &mut Stable<P>, tx: Ts) -> Result<(), Refusal>
     requires kept { IsKept P.disks stable.old }
     requires says { IsSaid P.disks stable.old }
@@ -180,6 +188,7 @@ fn make_room_for<P: Parts>(stable: &mut Stable<P>, tx: Ts) -> Result<(), Refusal
     ensures flushed { HasFlushed (held_of stable.old).objects.mob.objects (held_of stable.new).objects.mob.objects }
     ensures limit { (held_of stable.new).objects.mob.limit ≡ (held_of stable.old).objects.mob.limit }
     ensures stays { HasRoomFor (held_of stable.old) tx true → stable.new ≡ stable.old }
+    ensures map { StoreMoves P.disks [] stable.old stable.new }
     ensures rests { OnErr result (RestsWith None stable.new) }
     ensures names { IfErr result (λ r. repo_named (held_of stable.old).repo r ≡ (held_of stable.old).repo) }
     ensures stopped { (n : ℕ) → IsErrOf result (IsStopped n) → HasFailed (disks_of P.disks stable.old).faults (disks_of P.disks stable.new).faults }
@@ -195,7 +204,7 @@ fn make_room_for<P: Parts>(stable: &mut Stable<P>, tx: Ts) -> Result<(), Refusal
     flush_open(stable, tx)
 }
 
-#[tactic(auto, using(repo_durable::proofs::Failing::fewer_none, repo_durable::proofs::Counting::stays_none, repo_durable::proofs::Counting::stays_then, repo_durable::proofs::Counting::err_behind, repo_durable::proofs::Failing::fewer_then, repo_durable::proofs::Failing::failed_behind, repo_durable::proofs::Flushes::flushed_none, repo_durable::proofs::Flushes::flushed_then, repo_durable::proofs::Flushes::flushed_same))]
+#[tactic(auto, using(repo_durable::proofs::Failing::fewer_none, repo_durable::proofs::Counting::stays_none, repo_durable::proofs::Counting::stays_then, repo_durable::proofs::Counting::err_behind, repo_durable::proofs::Failing::fewer_then, repo_durable::proofs::Failing::failed_behind, repo_durable::proofs::Flushes::flushed_none, repo_durable::proofs::Flushes::flushed_then, repo_durable::proofs::Flushes::flushed_same, repo_durable::proofs::Mapping::moves_itself, crate::proofs::Objects::moves_next))]
 fn flush_open<P: Parts>(stable: &mut Stable<P>, tx: Ts) -> Result<(), Refusal>
     requires kept { IsKept P.disks stable.old }
     requires says { IsSaid P.disks stable.old }
@@ -209,6 +218,7 @@ fn flush_open<P: Parts>(stable: &mut Stable<P>, tx: Ts) -> Result<(), Refusal>
     ensures held { MovesObjects (held_of stable.old) (held_of stable.new) }
     ensures flushed { HasFlushed (held_of stable.old).objects.mob.objects (held_of stable.new).objects.mob.objects }
     ensures limit { (held_of stable.new).objects.mob.limit ≡ (held_of stable.old).objects.mob.limit }
+    ensures map { StoreMoves P.disks [] stable.old stable.new }
     ensures rests { OnErr result (RestsWith None stable.new) }
     ensures names { IfErr result (λ r. repo_named (held_of stable.old).repo r ≡ (held_of stable.old).repo) }
     ensures stopped { (n : ℕ) → IsErrOf result (IsStopped n) → HasFailed (disks_of P.disks stable.old).faults (disks_of P.disks stable.new).faults }

@@ -1,13 +1,14 @@
 //! How an entry is written: into the log, then into what is held in memory, then into the trace.
 
-ghost use Rattle.std.specs.Prelude.{◌≡◌, IfErr, IfOk, IsErrOf, IsTrue, Ok, OnErr, OnOk, cond, false, length, nat_eq, true, ℕ, Some};
+ghost use Rattle.std.specs.Prelude.{◌≡◌, IfErr, IfOk, IsErrOf, IsTrue, Ok, OnErr, OnOk, cond, false, length, nat_eq, true, ℕ, Some, []};
 ghost use Rattle.log_entries.specs.declared.request.Request.{Request as ARequest};
 ghost use Rattle.log_entries.specs.declared.entry.Entry.TheVariants.{Life as ALife, Prepared as Prepares};
-ghost use Rattle.repo_state.specs.Entering.{can_enter, entered};
+ghost use Rattle.repo_state.specs.Entering.{can_enter, entered, loaded};
 ghost use Rattle.repo_state.specs.Keeps.{Keeps, TableFits};
 ghost use Rattle.repo_sessions.specs.Sessions.{ended, acknowledged};
 ghost use Rattle.log_codec.specs.Grammar.{BodyFits};
 ghost use Rattle.log_codec.specs.declared.body.Body.TheVariants.{Entry as AnEntry};
+ghost use Rattle.repo_core.specs.Objects.{ObjectsTake};
 ghost use Rattle.repo_core.specs.Behind.{Stands, is_marked};
 ghost use Rattle.repo_core.specs.Calls.{CanWrite, Comes, ComesIn, IsTold};
 ghost use Rattle.repo_core.specs.Moving.{Falls};
@@ -45,7 +46,7 @@ impl<P: Parts> Repo<P> {
     /// Writes an entry. The answer is its place.
     ///
     /// After a refusal the repository is down, and the entry is pending if the log may have it.
-    #[tactic(auto, using(crate::proofs::Readable::shown_has, crate::proofs::Falls::keeps_up, crate::proofs::Refused::falls_with, crate::proofs::Refused::falls_pending, crate::proofs::Refused::falls_behind, crate::proofs::Refused::moved_none, crate::proofs::Refused::lasts_same, crate::proofs::Failing::failed_between, crate::proofs::Failing::stopped_memory, crate::proofs::Failing::fewer_same))]
+    #[tactic(auto, using(crate::proofs::Readable::shown_has, crate::proofs::Falls::keeps_up, crate::proofs::Refused::falls_with, crate::proofs::Refused::falls_pending, crate::proofs::Refused::falls_behind, crate::proofs::Refused::moved_none, crate::proofs::Refused::lasts_same, crate::proofs::Failing::failed_between, crate::proofs::Failing::stopped_memory, crate::proofs::Failing::fewer_same, crate::proofs::Objects::objects_held))]
     pub(crate) fn write(&mut self, entry: Entry) -> Result<u64, Refusal>
         requires can { CanWrite self.old.held self.old.memory entry }
         requires up { self.old.is_up ≡ true }
@@ -65,6 +66,8 @@ impl<P: Parts> Repo<P> {
         ensures names { IfErr result (λ r. repo_named self.old.held.repo r ≡ self.old.held.repo) }
         ensures damaged { (n place : ℕ) → IsErrOf result (IsDamaged n place) → ⊥ }
         ensures pages { self.new.pages ≡ self.old.pages }
+        ensures objects { OnOk result (ObjectsTake (loaded self.old.held entry) self.old self.new) }
+        ensures rested { OnErr result (ObjectsTake [] self.old self.new) }
         ensures stopped { (n : ℕ) → IsErrOf result (IsStopped n) → HasFailed (faults_of self.old) (faults_of self.new) }
         ensures counts { NoFewer (faults_of self.old) (faults_of self.new) }
         ensures steady { OnOk result (self.new.faults ≡ self.old.faults) }

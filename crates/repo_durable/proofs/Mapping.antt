@@ -86,7 +86,7 @@ object_written objects writes x =
 -- ---- one disk
 
 -- what is buffered of the name and which sides are in use is all that counts
-has_same : (disk : List ℕ) (old new : Kept) (x : Oref) (answer : Option Obj) → object_of new.mob.objects x ≡ object_of old.mob.objects x → new.pages.sides ≡ old.pages.sides → Has disk old x answer → Has disk new x answer
+pub has_same : (disk : List ℕ) (old new : Kept) (x : Oref) (answer : Option Obj) → object_of new.mob.objects x ≡ object_of old.mob.objects x → new.pages.sides ≡ old.pages.sides → Has disk old x answer → Has disk new x answer
 has_same disk old new x answer object sides has =
     subst (λ (o : Option Obj). HasOver o disk new.pages.sides x answer) (sym object)
     (subst (λ (ps : List (ℕ × ℕ)). HasOver (object_of old.mob.objects x) disk ps x answer) (sym sides) has)

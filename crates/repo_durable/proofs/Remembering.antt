@@ -264,7 +264,7 @@ pub comes_installed : (s a : State) (page side : ℕ) → Remembers s (after a (
 comes_installed s a page side r = record { rest = r.rest; next = r.next; kept = r.kept; installed = refl; objects = λ x. refl }
 
 -- what is written last under a name is so, whatever was there, or nothing is
-data Last (x : Oref) (ws : Writes) : Type 0 where
+pub data Last (x : Oref) (ws : Writes) : Type 0 where
   Unwritten : ((found : Option Obj) → written_last x found ws ≡ found) → Last x ws
   Written : (o : Option Obj) → ((found : Option Obj) → written_last x found ws ≡ o) → Last x ws
 
@@ -274,12 +274,12 @@ last_one x w ws false is (Unwritten f) = Unwritten (λ found. f (cond (same_oref
 last_one x w ws true is (Written o f) = Written o (λ found. f (cond (same_oref x w.0) (Some w.1) found))
 last_one x w ws false is (Written o f) = Written o (λ found. f (cond (same_oref x w.0) (Some w.1) found))
 
-last_of : (x : Oref) (ws : Writes) → Last x ws
+pub last_of : (x : Oref) (ws : Writes) → Last x ws
 last_of x [] = Unwritten (λ found. refl)
 last_of x (w ∷ ws) = last_one x w ws (same_oref x w.0) refl (last_of x ws)
 
 -- writes that are there already change nothing
-again : (x : Oref) (ws : Writes) (p q : Option Obj) → Last x ws → q ≡ written_last x p ws → q ≡ written_last x q ws
+pub again : (x : Oref) (ws : Writes) (p q : Option Obj) → Last x ws → q ≡ written_last x p ws → q ≡ written_last x q ws
 again x ws p q (Unwritten f) is = sym (f q)
 again x ws p q (Written o f) is = is ∙ (f p ∙ sym (f q))
 

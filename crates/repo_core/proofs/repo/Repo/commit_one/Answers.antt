@@ -11,6 +11,10 @@ use Rattle.repo_trace.specs.Recorded.{Recorded, with_entry}
 use Rattle.repo_durable.proofs.Counting.{err_through}
 use Rattle.std.proofs.Common.{rules}
 use Rattle.repo_core.proofs.Failing.{err_before, fewer_shown, ok_before}
+use Rattle.repo_core.proofs.Objects.{objects_alone, objects_then}
+use Rattle.repo_core.proofs.Entered.{on_err1}
+use Rattle.repo_durable.proofs.Returning.{on_err_any}
+use Rattle.std.proofs.Common.{[]}
 use Rattle.repo_core.proofs.repo.Repo.commit_one.Goals as goal
 
 pub returns-in_ok-make_room-in-Ok-clause-trace : goal.returns-in_ok-make_room-in-Ok-clause-trace
@@ -48,3 +52,16 @@ returns-in_err-make_room-in-Ok-clause-quiet g c = err_through c.make_room.result
 
 pub returns-in_ok-make_room-in-Ok-clause-counts : goal.returns-in_ok-make_room-in-Ok-clause-counts
 returns-in_ok-make_room-in-Ok-clause-counts g c = fewer_shown c.args.self.now c.make_room.new.self c.write.new.self c.make_room.ensures.faults c.write.ensures.counts
+
+pub returns-in_ok-make_room-in-Ok-clause-objects : goal.returns-in_ok-make_room-in-Ok-clause-objects
+returns-in_ok-make_room-in-Ok-clause-objects g c =
+    on_ok c.write.result _ _
+    (objects_alone c.args.self.now c.make_room.new.self c.write.new.self c.entry_of.result c.args.request c.entry_of.ensures c.make_room.ensures.readable c.in_ok-make_room-in-Ok.ensures.whole c.make_room.ensures.made c.make_room.ensures.objects) c.write.ensures.objects
+
+pub returns-in_ok-make_room-in-Ok-clause-rested : goal.returns-in_ok-make_room-in-Ok-clause-rested
+returns-in_ok-make_room-in-Ok-clause-rested g c =
+    on_err1 c.write.result _ _ c.write.ensures.rested
+    (objects_then [] c.args.self.now c.make_room.new.self c.write.new.self c.make_room.ensures.readable c.in_ok-make_room-in-Ok.ensures.whole c.make_room.ensures.made.held c.make_room.ensures.objects)
+
+pub returns-in_err-make_room-in-Ok-clause-rested : goal.returns-in_err-make_room-in-Ok-clause-rested
+returns-in_err-make_room-in-Ok-clause-rested g c = on_err_any c.from_residual-in_err-make_room-in-Ok.result _ c.make_room.ensures.objects

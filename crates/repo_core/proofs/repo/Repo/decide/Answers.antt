@@ -9,6 +9,15 @@ use Rattle.repo_durable.specs.Kept.{is_up}
 use Rattle.repo_durable.proofs.Counting.{err_through}
 use Rattle.std.proofs.Common.{rules}
 use Rattle.repo_core.proofs.Failing.{err_before, fewer_shown}
+use Rattle.repo_core.proofs.Objects.{objects_then, objects_written}
+use Rattle.repo_durable.proofs.Returning.{on_err_any}
+use Rattle.std.proofs.Common.{[]}
+use Rattle.commit_log.specs.Values.{writes_if}
+use Rattle.log_entries.specs.declared.entry.Entry.TheVariants.{Decided}
+use Rattle.repo_core.proofs.Objects.{objects_itself}
+use Rattle.repo_core.specs.Objects.{ObjectsTake}
+use Rattle.std.proofs.Common.{Bool, cond}
+use Rattle.two_phase.specs.Contents.{open_at}
 use Rattle.repo_core.proofs.repo.Repo.decide.Goals as goal
 
 pub write-requires-clause-can : goal.write-requires-clause-can
@@ -35,3 +44,20 @@ returns-in_err-write-clause-counts g c = fewer_shown c.args.self.now c.make_room
 
 pub returns-clause-counts : goal.returns-clause-counts
 returns-clause-counts g c = fewer_shown c.args.self.now c.make_room_for.new.self c.write.new.self c.make_room_for.ensures.faults c.write.ensures.counts
+
+pub returns-in_err-make_room_for-clause-rested : goal.returns-in_err-make_room_for-clause-rested
+returns-in_err-make_room_for-clause-rested g c = on_err_any c.from_residual-in_err-make_room_for.result _ c.make_room_for.ensures.objects
+
+pub returns-in_err-write-clause-rested : goal.returns-in_err-write-clause-rested
+returns-in_err-write-clause-rested g c =
+    on_err_any c.from_residual-in_err-write.result _
+    (objects_then [] c.args.self.now c.make_room_for.new.self c.write.new.self c.make_room_for.ensures.readable c.in_ok-make_room_for.ensures.whole c.make_room_for.ensures.made.held c.make_room_for.ensures.objects c.in_err-write.ensures.rested)
+
+pub returns-clause-objects : goal.returns-clause-objects
+returns-clause-objects g c =
+    objects_written c.args.self.now c.make_room_for.new.self c.write.new.self (Decided c.args.tx c.args.commit) _ c.make_room_for.ensures.readable c.in_ok-make_room_for.ensures.whole c.make_room_for.ensures.made c.make_room_for.ensures.objects (sym (ap (λ (b : Bool). cond b (writes_if c.args.commit (open_at c.args.self.now.held.table c.args.tx)) []) (sym c.has_prepared.ensures ∙ c.if-not-has_prepared.false))) c.in_ok-write.ensures.objects
+
+pub returns-then-not-has_prepared-clause-objects : goal.returns-then-not-has_prepared-clause-objects
+returns-then-not-has_prepared-clause-objects g c =
+    let x = c.args.self.now in
+    subst (λ (b : Bool). ObjectsTake (cond b (writes_if c.args.commit (open_at x.held.table c.args.tx)) []) x x) (sym (sym c.has_prepared.ensures ∙ c.if-not-has_prepared.true)) (objects_itself x)

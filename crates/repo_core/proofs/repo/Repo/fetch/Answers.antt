@@ -11,6 +11,18 @@ use Rattle.repo_durable.proofs.Counting.{err_through, if_err_any}
 use Rattle.repo_durable.proofs.Returning.{on_ok_any}
 use Rattle.std.proofs.Common.{◌∙◌}
 use Rattle.repo_core.proofs.Readable.{shown_has}
+use Rattle.repo_core.proofs.Objects.{objects_on, objects_shown, whole_up}
+use Rattle.repo_state.specs.declared.held.Held.{Held}
+use Rattle.std.proofs.Common.{[]}
+use Rattle.page_format.specs.Pages.{page_bytes}
+use Rattle.repo_core.proofs.Falls.{keeps_up}
+use Rattle.repo_core.proofs.Objects.{image_has, on_told}
+use Rattle.repo_core.proofs.Told.{on_ok}
+use Rattle.repo_core.specs.Objects.{SendsObjects}
+use Rattle.repo_durable.specs.Kept.{is_up}
+use Rattle.repo_sessions.specs.Sessions.{acknowledged, sent}
+use Rattle.session_outbox.specs.declared.message.Message.TheVariants.{Page as APage}
+use Rattle.std.proofs.Common.{OnOk, subst, true, ◌≡◌, ℕ}
 use Rattle.repo_core.proofs.repo.Repo.fetch.Goals as goal
 
 pub returns-clause-left : goal.returns-clause-left
@@ -86,3 +98,32 @@ returns-clause-counts g c =
     fewer_shown c.args.self.now y c.mark.new.self
     (fewer_between (disks_of g.P.Parts.disks i.stable) (disks_of g.P.Parts.disks c.page_image.new.self) c.args.self.now y (ap (λ (s : Shown). s.faults) c.self.view_is) refl c.page_image.ensures.goes.faults)
     (fewer_same y c.mark.new.self c.mark.ensures.faults)
+
+pub returns-in_err-image-clause-objects : goal.returns-in_err-image-clause-objects
+returns-in_err-image-clause-objects g c =
+    let i = c.self.inside in
+    objects_shown g.P.Parts.disks [] i.stable i.memory i.trace i.opened_in c.args.self.now (shown g.P.Parts.disks c.page_image.new.self i.memory i.trace i.opened_in) c.self.view_is c.page_image.ensures.map
+
+pub returns-clause-objects : goal.returns-clause-objects
+returns-clause-objects g c =
+    let i = c.self.inside in
+    let y : Shown = shown g.P.Parts.disks c.page_image.new.self c.send_page-sent.new.self i.trace i.opened_in in
+    objects_on [] c.args.self.now y c.mark.new.self (whole_up c.page_image.new.self c.in_ok-image.ensures.ok.stays_up)
+    (objects_shown g.P.Parts.disks [] i.stable i.memory i.trace i.opened_in c.args.self.now y c.self.view_is c.page_image.ensures.map) c.mark.ensures.pages (ap (λ (h : Held). h.objects) c.mark.ensures.held)
+
+pub returns-clause-image : goal.returns-clause-image
+returns-clause-image g c =
+    let i = c.self.inside in
+    let image = c.in_ok-image.image in
+    let up : is_up i.stable ≡ true = ap (λ (s : Shown). s.is_up) c.self.view_is ∙ c.in_ok-check_up.ensures.up in
+    let keeps = keeps_up g.P.Parts.disks i.stable c.self.invariant.0 up in
+    subst (λ (s : Shown). OnOk c.mark.result (SendsObjects s c.args.session c.args.page c.args.upto c.mark.new.self)) c.self.view_is
+    (on_ok c.mark.result _ _ (λ told. record {
+        image = image;
+        number = c.in_ok-image.ensures.number;
+        objects = λ disk is o answer own at fits has. image_has disk i.stable.held.objects c.args.page i.stable.held.repo image keeps.objects (c.in_ok-image.ensures.image disk is) o answer own at fits has;
+        sends = c.mark.ensures.memory ∙ (told ∙ (
+            ap (λ (n : ℕ). record i.memory { sessions = acknowledged (sent i.memory.sessions c.args.session n (APage n (page_bytes image) c.place-place.result)) c.args.session c.args.upto }) c.in_ok-image.ensures.number
+            ∙ ap (λ (n : ℕ). record i.memory { sessions = acknowledged (sent i.memory.sessions c.args.session c.args.page (APage c.args.page (page_bytes image) n)) c.args.session c.args.upto }) c.place-place.ensures));
+      })
+      (on_told c.mark.result c.send_page-sent.result _ c.mark.ensures.happened c.send_page-sent.ensures.ok))

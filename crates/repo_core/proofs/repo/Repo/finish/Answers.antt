@@ -2,6 +2,19 @@ use Rattle.std.proofs.Common.{None}
 use Rattle.repo_durable.proofs.Counting.{err_through}
 use Rattle.std.proofs.Common.{rules, ◌∙◌}
 use Rattle.repo_core.proofs.Failing.{err_before, fewer_shown}
+use Rattle.repo_core.proofs.Objects.{objects_then, objects_written}
+use Rattle.repo_durable.proofs.Returning.{on_err_any}
+use Rattle.std.proofs.Common.{[]}
+use Rattle.commit_log.specs.Values.{writes_if}
+use Rattle.log_entries.specs.declared.entry.Entry.TheVariants.{Finished}
+use Rattle.repo_core.proofs.Objects.{none_open, objects_itself}
+use Rattle.repo_core.specs.Objects.{ObjectsTake}
+use Rattle.std.proofs.Common.{Bool, List, ap, subst, sym}
+use Rattle.std.specs.Option.{is_some}
+use Rattle.thor_value.specs.declared.names.Oref.{Oref}
+use Rattle.thor_value.specs.declared.names.Ts.{Ts}
+use Rattle.thor_value.specs.declared.values.Obj.{Obj}
+use Rattle.two_phase.specs.Contents.{open_at}
 use Rattle.repo_core.proofs.repo.Repo.finish.Goals as goal
 
 pub returns-in_err-make_room_for-clause-damaged : goal.returns-in_err-make_room_for-clause-damaged
@@ -21,3 +34,20 @@ returns-in_err-place-clause-counts g c = fewer_shown c.args.self.now c.make_room
 
 pub returns-clause-counts : goal.returns-clause-counts
 returns-clause-counts g c = fewer_shown c.args.self.now c.make_room_for.new.self c.write.new.self c.make_room_for.ensures.faults c.write.ensures.counts
+
+pub returns-in_err-make_room_for-clause-rested : goal.returns-in_err-make_room_for-clause-rested
+returns-in_err-make_room_for-clause-rested g c = on_err_any c.from_residual-in_err-make_room_for.result _ c.make_room_for.ensures.objects
+
+pub returns-in_err-place-clause-rested : goal.returns-in_err-place-clause-rested
+returns-in_err-place-clause-rested g c =
+    on_err_any c.from_residual-in_err-place.result _
+    (objects_then [] c.args.self.now c.make_room_for.new.self c.write.new.self c.make_room_for.ensures.readable c.in_ok-make_room_for.ensures.whole c.make_room_for.ensures.made.held c.make_room_for.ensures.objects c.in_err-place.ensures.rested)
+
+pub returns-clause-objects : goal.returns-clause-objects
+returns-clause-objects g c =
+    objects_written c.args.self.now c.make_room_for.new.self c.write.new.self (Finished c.tx-tx.result c.commit-commit.result) _ c.make_room_for.ensures.readable c.in_ok-make_room_for.ensures.whole c.make_room_for.ensures.made c.make_room_for.ensures.objects (ap (λ (t : Ts). writes_if c.commit-commit.result (open_at c.args.self.now.held.table t)) c.tx-tx.ensures ∙ ap (λ (b : Bool). writes_if b (open_at c.args.self.now.held.table c.args.verdict.now.tx)) c.commit-commit.ensures) c.in_ok-place.ensures.objects
+
+pub returns-then-not-is_open-clause-objects : goal.returns-then-not-is_open-clause-objects
+returns-then-not-is_open-clause-objects g c =
+    let x = c.args.self.now in
+    subst (λ (ws : List (Oref × Obj)). ObjectsTake ws x x) (sym (none_open (open_at x.held.table c.args.verdict.now.tx) c.args.verdict.now.commit (sym (c.is_open.ensures.open ∙ ap (λ (t : Ts). is_some (open_at x.held.table t)) c.tx-tx.ensures) ∙ c.if-not-is_open.true))) (objects_itself x)

@@ -4,6 +4,8 @@ use Rattle.repo_core.specs.Shown.{Shown, shown}
 use Rattle.repo_durable.specs.Kept.{disks_of}
 use Rattle.std.proofs.Common.{ap, refl}
 use Rattle.repo_core.proofs.Readable.{shown_has}
+use Rattle.repo_core.proofs.Objects.{objects_shown}
+use Rattle.std.proofs.Common.{[]}
 use Rattle.repo_core.proofs.repo.Repo.flush.Goals as goal
 
 pub returns-clause-stopped : goal.returns-clause-stopped
@@ -41,3 +43,8 @@ pub returns-clause-counts : goal.returns-clause-counts
 returns-clause-counts g c =
     let i = c.self.inside in
     fewer_between (disks_of g.P.Parts.disks i.stable) (disks_of g.P.Parts.disks c.flush_page.new.self) c.args.self.now (shown g.P.Parts.disks c.flush_page.new.self i.memory i.trace i.opened_in) (ap (λ (s : Shown). s.faults) c.self.view_is) refl c.flush_page.ensures.goes.faults
+
+pub returns-clause-objects : goal.returns-clause-objects
+returns-clause-objects g c =
+    let i = c.self.inside in
+    objects_shown g.P.Parts.disks [] i.stable i.memory i.trace i.opened_in c.args.self.now (shown g.P.Parts.disks c.flush_page.new.self i.memory i.trace i.opened_in) c.self.view_is c.flush_page.ensures.map

@@ -13,6 +13,9 @@ use Rattle.repo_core.proofs.Told.{on_ok}
 use Rattle.repo_core.specs.Behind.{HasMoved}
 use Rattle.std.proofs.Common.{OnOk, subst}
 use Rattle.repo_trace.specs.Recorded.{Recorded, with_entry}
+use Rattle.repo_core.proofs.Objects.{either_way, objects_then}
+use Rattle.std.proofs.Common.{refl}
+use Rattle.std.proofs.Common.{[]}
 use Rattle.repo_core.proofs.repo.Repo.prepare.Goals as goal
 
 pub returns-in-Err-clause-why : goal.returns-in-Err-clause-why
@@ -49,3 +52,8 @@ returns-in_ok-make_room-in-Ok-clause-trace g c =
 
 pub returns-in_ok-make_room-in-Ok-clause-counts : goal.returns-in_ok-make_room-in-Ok-clause-counts
 returns-in_ok-make_room-in-Ok-clause-counts g c = fewer_shown c.args.self.now c.make_room.new.self c.write.new.self c.make_room.ensures.faults c.write.ensures.counts
+
+pub returns-in_ok-make_room-in-Ok-clause-objects : goal.returns-in_ok-make_room-in-Ok-clause-objects
+returns-in_ok-make_room-in-Ok-clause-objects g c =
+    let then = objects_then [] c.args.self.now c.make_room.new.self c.write.new.self c.make_room.ensures.readable c.in_ok-make_room-in-Ok.ensures.whole c.make_room.ensures.made.held c.make_room.ensures.objects in
+    either_way c.write.result _ _ _ c.write.ensures.objects c.write.ensures.rested then then

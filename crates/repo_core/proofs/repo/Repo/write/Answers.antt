@@ -24,6 +24,11 @@ use Rattle.law_repo_memory.specs.Coming.{Moves}
 use Rattle.repo_trace.specs.Recorded.{Recorded}
 use Rattle.std.proofs.Common.{length, ℕ}
 use Rattle.repo_durable.proofs.Failing.{fewer_none, fewer_then}
+use Rattle.repo_core.proofs.Objects.{rested_objects, written_objects}
+use Rattle.repo_core.proofs.Told.{on_ok}
+use Rattle.repo_core.specs.Objects.{ObjectsTake}
+use Rattle.repo_state.specs.Entering.{loaded}
+use Rattle.std.proofs.Common.{[]}
 use Rattle.repo_core.proofs.repo.Repo.write.Goals as goal
 
 pub returns-clause-ended : goal.returns-clause-ended
@@ -128,3 +133,21 @@ returns-clause-counts g c =
     let mid = disks_of g.P.Parts.disks c.append.new.self in
     let now = disks_of g.P.Parts.disks c.record.new.stable in
     fewer_between old now c.args.self.now (shown g.P.Parts.disks c.record.new.stable c.tell-told.new.memory c.record.new.trace i.opened_in) (ap (λ (s : Shown). s.faults) c.self.view_is) refl (fewer_then old.faults mid.faults now.faults c.append.ensures.goes.faults (fewer_none mid.faults now.faults c.record.ensures.faults))
+
+pub returns-clause-objects : goal.returns-clause-objects
+returns-clause-objects g c =
+    let i = c.self.inside in
+    let s = c.append.new.self in
+    let n = c.record.new.stable in
+    subst (λ (x : Shown). OnOk c.record.result (ObjectsTake (loaded x.held c.args.entry) x (shown g.P.Parts.disks n c.tell-told.new.memory c.record.new.trace i.opened_in))) c.self.view_is
+    (on_ok c.record.result _ _
+    (λ held. written_objects g.P.Parts.disks i.stable s n c.in_ok-entry.entry c.args.entry c.in_ok-entry.ensures.ok.0 c.append.ensures.readable c.in_ok-entry.ensures.ok.1.stays_up c.append.ensures.held c.append.ensures.pages c.record.ensures.pages held) c.record.ensures.held)
+
+pub returns-clause-rested : goal.returns-clause-rested
+returns-clause-rested g c =
+    let i = c.self.inside in
+    let s = c.append.new.self in
+    let n = c.record.new.stable in
+    subst (λ (x : Shown). OnErr c.record.result (ObjectsTake [] x (shown g.P.Parts.disks n c.tell-told.new.memory c.record.new.trace i.opened_in))) c.self.view_is
+    (on_err1 c.record.result _ _ c.record.ensures.left
+    (λ falls. rested_objects g.P.Parts.disks i.stable s n c.in_ok-entry.entry c.in_ok-entry.ensures.ok.1.stays_up c.append.ensures.held c.append.ensures.pages c.record.ensures.pages falls))
