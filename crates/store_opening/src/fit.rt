@@ -55,8 +55,7 @@ fn check_separate(alloc: Global, store: &[Read<'_>], names: &[Oref]) -> Result<S
     let Some((first, others)) = standing.as_slice().split_first() else {
         return Err(Misfit::NoMemory);
     };
-    let repos = number_at(store.len())?;
-    let schemas = read_schemas(alloc, store, first, repos)?;
+    let schemas = read_schemas(alloc, store, first)?;
     let checked = check_each(alloc, store, first, others, standing.as_slice(), names);
     let (schemas, _) = both(schemas, checked)?;
     Ok(schemas)
