@@ -73,24 +73,6 @@ impl<P: Parts> Repo<P> {
         let stable = format(alloc, parts, repo, repos, setup, mob)?;
         begin(alloc, stable)
     }
-
-    /// Ends it. Its parts come back, and whether a stop fell in one of its calls. Where none did, the faults that it has counted
-    /// are those of its disks.
-    pub fn into_parts(self) -> (P, bool)
-        ensures { result.1 ≡ false → NoneFell (faults_of self) (P.disks result.0).faults }
-    {
-        let Repo {
-            alloc: _,
-            stable,
-            memory,
-            trace,
-            opened_in: _,
-        } = self;
-        drop(memory);
-        drop(trace);
-        let has_fallen = stable.parts().fell() != 0;
-        (stable.into_parts(), has_fallen)
-    }
 }
 
 /// A repository over what is stable, behind the Life of its opening.

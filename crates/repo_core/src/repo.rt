@@ -1,5 +1,7 @@
 //! What a repository is.
 
+ghost use Rattle.repo_core.specs.Shown.{faults_of};
+ghost use Rattle.repo_durable.specs.Failing.{NoneFell};
 ghost use Rattle.repo_durable.specs.Saying.{ImagesSay};
 ghost use Rattle.std.specs.Prelude.{None, false, true, ◌≡◌};
 
@@ -70,5 +72,23 @@ impl<P: Parts> Repo<P> {
         } = self;
         drop(memory);
         (stable.into_parts(), trace.into_trace())
+    }
+
+    /// Ends it. Its parts come back, and whether a stop fell in one of its calls. Where none did, the faults that it has counted
+    /// are those of its disks.
+    pub fn into_parts(self) -> (P, bool)
+        ensures { result.1 ≡ false → NoneFell (faults_of self) (P.disks result.0).faults }
+    {
+        let Repo {
+            alloc: _,
+            stable,
+            memory,
+            trace,
+            opened_in: _,
+        } = self;
+        drop(memory);
+        drop(trace);
+        let has_fallen = stable.parts().fell() != 0;
+        (stable.into_parts(), has_fallen)
     }
 }
