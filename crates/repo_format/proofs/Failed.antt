@@ -10,12 +10,12 @@ use Rattle.log_frame.specs.declared.fault.LogFault.TheVariants as log
 use Rattle.log_frame.specs.declared.fault.LogFault.{LogFault}
 use Rattle.page_store.specs.declared.fault.StoreFault.TheVariants as page
 use Rattle.page_store.specs.declared.fault.StoreFault.{StoreFault}
-use Rattle.repo_durable.proofs.Failing.{failed_after, failed_behind, fell_then}
+use Rattle.repo_durable.proofs.Failing.{failed_behind}
 use Rattle.repo_durable.specs.Causes.{cause_of_log, cause_of_outage, cause_of_store}
-use Rattle.repo_durable.specs.Failing.{HasFailed, NoneFell}
+use Rattle.repo_durable.specs.Failing.{HasFailed}
 use Rattle.repo_durable.specs.declared.fault.OpenCause.TheVariants as cause
 use Rattle.repo_durable.specs.declared.fault.OpenCause.{OpenCause}
-use Rattle.std.proofs.Common.{Err, IfErr, IfOk, IsErrOf, Ok, Result, arith, refl, ◌<◌, ◌≡◌, ℕ}
+use Rattle.std.proofs.Common.{Err, IsErrOf, Ok, Result, ap, arith, refl, sym, ◌<◌, ◌∙◌, ◌≡◌, ℕ}
 
 -- in a call of this disk
 pub call_failed : {T : Type 0} (old new : Disks) (disk : ℕ) (result : Result T Outage) → disk < 2 → IsCall old new disk result → IsErrOf result Failed → HasFailed old.faults new.faults
@@ -50,13 +50,3 @@ log_is log.NoMemory is = absurd (cc)
 -- this disk failed
 pub failed_at : (old new : Disks) (disk : ℕ) → disk < 3 → Rose (old.faults disk) (new.faults disk) → HasFailed old.faults new.faults
 failed_at old new disk within rose = record { disk = disk; within = within; rose = rose }
-
--- ---- behind what came before
-
-pub ok_fell : {T E : Type 0} (r : Result T E) (old mid : ℕ → ℕ) (counts : T → ℕ → ℕ) → NoneFell old mid → IfOk r (λ x. NoneFell mid (counts x)) → IfOk r (λ x. NoneFell old (counts x))
-ok_fell (Ok x) old mid counts first then = fell_then old mid (counts x) first then
-ok_fell (Err e) old mid counts first then = tt
-
-pub err_failed : {T E : Type 0} (r : Result T E) (old mid : ℕ → ℕ) (counts : E → ℕ → ℕ) (Is : E → Type 0) → NoneFell old mid → IfErr r (λ e. Is e → HasFailed mid (counts e)) → IfErr r (λ e. Is e → HasFailed old (counts e))
-err_failed (Ok x) old mid counts Is first then = tt
-err_failed (Err e) old mid counts Is first then = λ is. failed_after old mid (counts e) first (then is)

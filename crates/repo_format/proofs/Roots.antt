@@ -13,7 +13,7 @@ use Rattle.page_store.proofs.Stores.{in_use_here, in_use_other}
 use Rattle.page_store.specs.Objects.{Spells, empty_page}
 use Rattle.page_store.specs.Sides.{KeepsSides, Shows, side_bytes}
 use Rattle.repo_durable.specs.Pages.{ArePages}
-use Rattle.std.proofs.Common.{Bool, Err, IfOk, List, None, Ok, Option, Result, Some, [], ap, arith, cond, false, max, nat_eq, nat_lt, refl, subst, sym, true, ◌&&◌, ◌+◌, ◌<◌, ◌∙◌, ◌∷◌, ◌≡◌, ◌≤◌, ℕ, inl, inr}
+use Rattle.std.proofs.Common.{Bool, Err, IfErr, IfOk, List, None, Ok, Option, Result, Some, [], ap, arith, cond, false, max, nat_eq, nat_lt, refl, subst, sym, true, ◌&&◌, ◌+◌, ◌<◌, ◌∙◌, ◌∷◌, ◌≡◌, ◌≤◌, ℕ, inl, inr}
 use Rattle.std.proofs.Math.Nat.{eq-or-lt_of_le}
 use Rattle.std.proofs.lemmas.Bool.Decides.{nat_tests}
 use Rattle.std.proofs.lemmas.Bool.{cases_eq, cases_lt}
@@ -159,3 +159,8 @@ begins_fit type.Untold = tt
 pub ok_of_two : {T E : Type 0} (A B C : T → Type 0) (r : Result T E) → ((x : T) → A x → B x → C x) → IfOk r A → IfOk r B → IfOk r C
 ok_of_two A B C (Ok x) f p q = f x p q
 ok_of_two A B C (Err e) f p q = tt
+
+-- what is told where it is refused
+pub err_on : {T E : Type 0} (r : Result T E) (A B : E → Type 0) → ((e : E) → A e → B e) → IfErr r A → IfErr r B
+err_on (Ok x) A B f h = tt
+err_on (Err e) A B f h = f e h

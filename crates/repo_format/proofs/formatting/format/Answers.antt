@@ -1,9 +1,9 @@
 use Rattle.repo_state.specs.declared.held.Held.{Held}
-use Rattle.repo_durable.specs.Kept.{disks_of}
-use Rattle.repo_durable.specs.declared.fault.OpenCause.TheVariants.{Failed}
-use Rattle.repo_format.proofs.Failed.{err_failed, ok_fell}
-use Rattle.std.proofs.Common.{subst, sym, ◌∙◌, ◌≡◌}
+use Rattle.std.proofs.Common.{subst, sym, ◌∙◌}
 use Rattle.repo_format.proofs.Roots.{ok_of_two, roots_pages}
+use Rattle.repo_durable.proofs.Failing.{failed_after, fell_then}
+use Rattle.repo_durable.proofs.Returning.{if_ok_on}
+use Rattle.repo_format.proofs.Roots.{err_on}
 use Rattle.repo_format.proofs.formatting.format.Goals as goal
 use Rattle.repo_format.specs.Pages.{HasRoots}
 
@@ -18,7 +18,7 @@ returns-in-Ok-clause-readable g c = λ tells.
     c.open.ensures.readable (c.in-Ok.ensures.told tells) (λ disk told. roots_pages c.args.repo c.args.setup.now c.in-Ok.recovered.state.objects.pages.sides disk (c.in-Ok.ensures.roots disk told))
 
 pub returns-in-Ok-clause-fell : goal.returns-in-Ok-clause-fell
-returns-in-Ok-clause-fell g c = ok_fell c.open.result (g.P.Parts.disks c.args.parts).faults (g.P.Parts.disks c.put_store.new.parts).faults (λ stable. (disks_of g.P.Parts.disks stable).faults) c.in-Ok.ensures.fell c.open.ensures.fell
+returns-in-Ok-clause-fell g c = if_ok_on c.open.result _ _ (λ stable fell. fell_then _ _ _ c.in-Ok.ensures.fell fell) c.open.ensures.fell
 
 pub returns-in-Ok-clause-failed : goal.returns-in-Ok-clause-failed
-returns-in-Ok-clause-failed g c = err_failed c.open.result (g.P.Parts.disks c.args.parts).faults (g.P.Parts.disks c.put_store.new.parts).faults (λ fault. (g.P.Parts.disks fault.parts).faults) (λ fault. fault.cause ≡ Failed) c.in-Ok.ensures.fell c.open.ensures.failed
+returns-in-Ok-clause-failed g c = err_on c.open.result _ _ (λ fault failed. λ is. failed_after _ _ _ c.in-Ok.ensures.fell (failed is)) c.open.ensures.failed

@@ -1,10 +1,11 @@
 use Rattle.disk_trait.proofs.Runs.{alone_none, alone_then}
-use Rattle.std.proofs.Common.{IsErrOf, List, ap, arith, rules, subst, sym, ◌∙◌, ◌≡◌, ◌≤◌, ℕ}
+use Rattle.std.proofs.Common.{List, ap, arith, subst, sym, ◌∙◌, ◌≡◌, ◌≤◌, ℕ}
 use Rattle.page_store.specs.Store.{Store}
-use Rattle.repo_durable.specs.declared.fault.OpenCause.TheVariants.{Failed}
 use Rattle.repo_format.proofs.Empty.{reaches_none}
-use Rattle.repo_format.proofs.Failed.{failed_second}
 use Rattle.repo_format.proofs.Roots.{all_written, none_written, one_written}
+use Rattle.repo_durable.proofs.Failing.{failed_after, fell_alone}
+use Rattle.repo_durable.specs.declared.fault.OpenCause.TheVariants.{Failed}
+use Rattle.std.proofs.Common.{IsErrOf, rules}
 use Rattle.repo_format.proofs.pages.put_roots.Goals as goal
 use Rattle.repo_format.specs.Fresh.{page_count}
 use Rattle.repo_format.specs.Pages.{HasRoots}
@@ -34,6 +35,8 @@ returns-clause-roots g c = λ disk told.
     subst (λ (s : List (ℕ × ℕ)). HasRoots c.args.repo c.args.setup.now s disk) (sym sides) (all_written c.loop-page.page c.args.repo c.args.setup.now c.loop-page.store.sides disk whole (c.loop-page.invariant.3 disk told))
 
 pub returns-in_err-put_page-clause-failed : goal.returns-in_err-put_page-clause-failed
-returns-in_err-put_page-clause-failed g c = λ is.
-    let wrong : IsErrOf c.put_page.result Failed = search rules in
-    failed_second (g.P.Parts.disks c.args.parts.now) (g.P.Parts.disks c.loop-page.parts) (g.P.Parts.disks c.put_page.new.parts) 2 c.loop-page.invariant.0 (c.put_page.ensures.failed wrong)
+returns-in_err-put_page-clause-failed g c = λ wrong.
+    let old = g.P.Parts.disks c.args.parts.now in
+    let mid = g.P.Parts.disks c.loop-page.parts in
+    let is : IsErrOf c.put_page.result Failed = search rules in
+    failed_after old.faults mid.faults (g.P.Parts.disks c.put_page.new.parts).faults (fell_alone old mid 2 c.loop-page.invariant.0) (c.put_page.ensures.failed is)

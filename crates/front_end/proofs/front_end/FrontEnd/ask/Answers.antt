@@ -11,4 +11,4 @@ pub returns-clause-shown : goal.returns-clause-shown
 returns-clause-shown g c = goes_shown _ _ _ _ _ _ _ _ _ c.in_ok-news.ensures.shown c.take_down.ensures.told
 
 pub returns-clause-moves : goal.returns-clause-moves
-returns-clause-moves g c = takes_down _ _ _ c.args.self.now (record { who = c.task-task.result.who; tries = c.task-task.result.tries }) c.take_down.new.self c.ask.new.self _ (item_is _ _ _ _ c.task-task.ensures.who c.task-task.ensures.tries) c.take_down.ensures.client c.take_down.result c.in_ok-news.ensures.moves c.take_down.ensures.told c.take_down.ensures.ends (c.in_ok-news.ensures.as_sent _)
+returns-clause-moves g c = λ asks. takes_down _ _ _ c.args.self.now (record { who = c.task-task.result.who; tries = c.task-task.result.tries }) c.take_down.new.self c.ask.new.self _ (item_is _ _ _ _ c.task-task.ensures.who c.task-task.ensures.tries) c.take_down.ensures.client c.take_down.result (c.in_ok-news.ensures.moves asks) c.take_down.ensures.told c.take_down.ensures.ends (c.in_ok-news.ensures.as_sent _)
