@@ -1,15 +1,15 @@
 use Rattle.repo_core.proofs.Unbegun.{failed_out, fell_out, stopped_of}
 use Rattle.repo_durable.specs.Kept.{disks_of}
 use Rattle.repo_refusals.specs.declared.refusal.Refusal.TheVariants as refused
-use Rattle.std.proofs.Common.{IsErrOf, rules, refl}
+use Rattle.std.proofs.Common.{IsErrOf, rules}
 use Rattle.repo_core.proofs.opening.begin.Goals as goal
 
 pub returns-in-Ok-clause-fell : goal.returns-in-Ok-clause-fell
-returns-in-Ok-clause-fell g c = fell_out (disks_of g.P.Parts.disks c.args.stable) _ c.write_life.new.self refl c.in-Ok.ensures.steady
+returns-in-Ok-clause-fell g c = fell_out (disks_of g.P.Parts.disks c.args.stable) c.write_life.new.self c.in-Ok.ensures.steady
 
 pub returns-in-Err-clause-failed : goal.returns-in-Err-clause-failed
 returns-in-Err-clause-failed g c = λ is.
     let told = c.unbegun.ensures is in
     let stopped = stopped_of c.in-Err.refusal told.0 in
     let wrong : IsErrOf c.write_life.result (refused.Stopped stopped.0) = search rules in
-    failed_out (disks_of g.P.Parts.disks c.args.stable) _ c.write_life.new.self (g.P.Parts.disks c.unbegun.result.parts).faults refl (c.write_life.ensures.stopped stopped.0 wrong) told.1
+    failed_out (disks_of g.P.Parts.disks c.args.stable) c.write_life.new.self (g.P.Parts.disks c.unbegun.result.parts).faults (c.write_life.ensures.stopped stopped.0 wrong) told.1
