@@ -1,5 +1,5 @@
 use Rattle.std.proofs.Common.{refl}
-use Rattle.store_opening.proofs.Standing.{each_more, members_more, standing_all}
+use Rattle.store_opening.proofs.Numbering.{each_more, members_more, standing_all}
 use Rattle.store_opening.proofs.standing.standing_of.Goals as goal
 
 pub loop-read-preserved : goal.loop-read-preserved
