@@ -10,7 +10,7 @@ use Rattle.disk_trait.specs.Disks.{Disks, Rose}
 use Rattle.repo_core.proofs.DiskFaults.{failed_after, failed_before, fell_fewer, fell_then as falls_then}
 use Rattle.repo_core.specs.Shown.{faults_of}
 use Rattle.repo_opening.specs.Unsound.{Failing}
-use Rattle.std.proofs.Common.{Err, List, Ok, OnOk, Result, [], ap, false, length, refl, slice_get, subst, suc, sym, true, ℕ, ◌++◌, ◌∙◌, ◌∷◌, ◌≡◌}
+use Rattle.std.proofs.Common.{Err, List, Ok, OnOk, Result, [], ap, false, inl, inr, length, refl, slice_get, subst, sym, true, ℕ, ◌++◌, ◌∙◌, ◌∷◌, ◌≡◌, ◌⊎◌}
 use Rattle.std.proofs.lemmas.List.{append-nil}
 use Rattle.std.specs.List.{AllZip}
 use Rattle.std.specs.Prelude.{IsErrOf, IsOk, Some}
@@ -86,6 +86,18 @@ module _ {P O : Type 0} (disks : P → Disks) where
     ok_then (Ok u) xs ss ts first then = fell_then xs ss ts first then
     ok_then (Err e) xs ss ts first then = tt
 
+  -- ---- calls on the seats, one behind the other
+
+  pub fell_twice : {E F : Type 0} (first : Result (Unit {0}) E) (then : Result (Unit {0}) F) (xs ss ts : List (Seat P O)) → OnOk first (NoneFellOn disks (faults_on disks) xs ss) → OnOk then (IsOk first) → OnOk then (NoneFellOn disks (faults_on disks) ss ts) → OnOk then (NoneFellOn disks (faults_on disks) xs ts)
+  fell_twice first (Err e) xs ss ts one was two = tt
+  fell_twice (Err e) (Ok v) xs ss ts one was two = absurd (let no : false ≡ true = was in cc)
+  fell_twice (Ok u) (Ok v) xs ss ts one was two = fell_then (faults_on disks) xs ss ts one two
+
+  pub failed_twice : {E : Type 0} (first : Result (Unit {0}) E) (xs ss ts : List (Seat P O)) (r : ℕ) {Q : Type 0} → OnOk first (NoneFellOn disks (faults_on disks) xs ss) → (Q → FailedOn disks (faults_on disks) xs ss r) → (Q × (ts ≡ ss)) ⊎ (IsOk first × FailedOn disks (faults_on disks) ss ts r) → FailedOn disks (faults_on disks) xs ts r
+  failed_twice first xs ss ts r one before (inl q) = subst (λ (us : List (Seat P O)). FailedOn disks (faults_on disks) xs us r) (sym q.1) (before q.0)
+  failed_twice (Err e) xs ss ts r one before (inr f) = absurd (let no : false ≡ true = f.0 in cc)
+  failed_twice (Ok u) xs ss ts r one before (inr f) = failed_then (faults_on disks) xs ss ts r one f.1
+
   -- ---- from what was handed in
 
   pub fell_handed : (given : List P) (places : List (closed.Closed P)) (ss : List (Seat P O)) → AreCalled disks given places → NoneFellOn disks (faults_at disks) places ss → NoneFellOn disks (faults_in disks) given ss
@@ -135,6 +147,9 @@ failed_settling disks given back old new r each f counted =
     }
 
 -- ---- what was answered
+
+pub is_ok_at : {T E : Type 0} (r : Result T E) (x : T) → r ≡ Ok x → IsOk r
+is_ok_at r x is = subst (λ (s : Result _ _). IsOk s) (sym is) refl
 
 pub same_err : {T E : Type 0} (r : Result T E) (a b : E) → r ≡ Err a → r ≡ Err b → a ≡ b
 same_err r a b is e = cc

@@ -459,9 +459,29 @@ fn format_all<P: Parts, O: Opening>(
     ensures failed { (r : ℕ) → IsErrOf result.1 (Failed r) → FailedOn P.disks (faults_on P.disks) seats.items result.0.items r }
 {
     let count = seats.len();
-    match format_from(alloc, seats, 1, count, setup, mob) {
-        (seats, Ok(())) => format_from(alloc, seats, 0, 1, setup, mob),
-        failed => failed,
+    let (seats, others) = format_from(alloc, seats, 1, count, setup, mob);
+    format_last(alloc, seats, others, setup, mob)
+}
+
+/// Formats repository 0, where the others were formatted.
+fn format_last<P: Parts, O: Opening>(
+    alloc: Global,
+    seats: Vec<Seat<P, O>>,
+    others: Result<(), Unopened>,
+    setup: &Setup,
+    mob: u32,
+) -> (Vec<Seat<P, O>>, Result<(), Unopened>)
+    requires begins { (n : ℕ) → BeginsNew O.run n (vec_len seats) setup.now mob }
+    requires seated { AreSeated 0 seats.items }
+    ensures count { vec_len result.0 ≡ vec_len seats }
+    ensures seated { AreSeated 0 result.0.items }
+    ensures others { OnOk result.1 (IsOk others) }
+    ensures fell { OnOk result.1 (NoneFellOn P.disks (faults_on P.disks) seats.items result.0.items) }
+    ensures failed { (r : ℕ) → IsErrOf result.1 (Failed r) → (IsErrOf others (Failed r) × (result.0.items ≡ seats.items)) ⊎ (IsOk others × FailedOn P.disks (faults_on P.disks) seats.items result.0.items r) }
+{
+    match others {
+        Ok(()) => format_from(alloc, seats, 0, 1, setup, mob),
+        Err(why) => (seats, Err(why)),
     }
 }
 

@@ -119,11 +119,11 @@ returns-clause-image g c =
     let keeps = keeps_up g.P.Parts.disks i.stable c.self.invariant.0 up in
     subst (λ (s : Shown). OnOk c.mark.result (SendsObjects s c.args.session c.args.page c.args.upto c.mark.new.self)) c.self.view_is
     (on_ok c.mark.result _ _ (λ told. record {
-        image = image;
-        number = c.in_ok-image.ensures.number;
-        objects = λ disk is o answer own at fits has. image_has disk i.stable.held.objects c.args.page i.stable.held.repo image keeps.objects (c.in_ok-image.ensures.image disk is) o answer own at fits has;
-        sends = c.mark.ensures.memory ∙ (told ∙ (
-            ap (λ (n : ℕ). record i.memory { sessions = acknowledged (sent i.memory.sessions c.args.session n (APage n (page_bytes image) c.place-place.result)) c.args.session c.args.upto }) c.in_ok-image.ensures.number
-            ∙ ap (λ (n : ℕ). record i.memory { sessions = acknowledged (sent i.memory.sessions c.args.session c.args.page (APage c.args.page (page_bytes image) n)) c.args.session c.args.upto }) c.place-place.ensures));
-      })
-      (on_told c.mark.result c.send_page-sent.result _ c.mark.ensures.happened c.send_page-sent.ensures.ok))
+      image = image;
+      number = c.in_ok-image.ensures.number;
+      objects = λ disk is o answer own at fits has. image_has disk i.stable.held.objects c.args.page i.stable.held.repo image keeps.objects (c.in_ok-image.ensures.image disk is) o answer own at fits has;
+      sends = c.mark.ensures.memory ∙ (told ∙ (
+          ap (λ (n : ℕ). record i.memory { sessions = acknowledged (sent i.memory.sessions c.args.session n (APage n (page_bytes image) c.place-place.result)) c.args.session c.args.upto }) c.in_ok-image.ensures.number
+          ∙ ap (λ (n : ℕ). record i.memory { sessions = acknowledged (sent i.memory.sessions c.args.session c.args.page (APage c.args.page (page_bytes image) n)) c.args.session c.args.upto }) c.place-place.ensures));
+    })
+    (on_told c.mark.result c.send_page-sent.result _ c.mark.ensures.happened c.send_page-sent.ensures.ok))

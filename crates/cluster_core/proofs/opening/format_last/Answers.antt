@@ -1,0 +1,12 @@
+use Rattle.std.proofs.Common.{IsErrOf, inl, inr, refl, rules, subst, sym}
+use Rattle.repo_opening.specs.declared.unopened.Unopened.TheVariants.{Failed}
+use Rattle.cluster_core.proofs.Failing.{is_ok_at}
+use Rattle.cluster_core.proofs.opening.format_last.Goals as goal
+
+pub returns-in-Ok-clause-failed : goal.returns-in-Ok-clause-failed
+returns-in-Ok-clause-failed g c = λ r is. inr (is_ok_at c.args.others _ c.in-Ok.is, c.format_from.ensures.failed r is)
+
+pub returns-in-Err-clause-failed : goal.returns-in-Err-clause-failed
+returns-in-Err-clause-failed g c = λ r is.
+    let wrong : IsErrOf c.args.others (Failed r) = search rules in
+    inl (wrong, refl)
