@@ -14,7 +14,7 @@ use Rattle.std.proofs.Common.{Err, List, Ok, OnOk, Result, [], ap, false, inl, i
 use Rattle.std.proofs.lemmas.List.{append-nil}
 use Rattle.std.specs.List.{AllZip}
 use Rattle.std.specs.Prelude.{IsErrOf, IsOk, Some}
-use Rattle.store_opening.proofs.Failing.{get_last, get_more, part_disks, zip_at, zip_from, zip_through}
+use Rattle.store_opening.proofs.Failing.{get_last, get_more, part_to, zip_at, zip_from, zip_through}
 use Rattle.store_opening.proofs.Places.{none_in, zip_more}
 use Rattle.store_opening.specs.Failing.{AreCalled, FailsAt, IsCalled}
 use Rattle.store_opening.specs.Seated.{HasPart, disks_at}
@@ -106,7 +106,7 @@ module _ {P O : Type 0} (disks : P → Disks) where
       (λ p c s goes none. falls_then (faults_in disks p) (faults_at disks c) (faults_on disks s) (goes_fell (disks p) (disks_at disks c) goes) none) given places ss called each
 
   failed_back : (p : P) (s : Seat P O) (q : P) → HasFailedOn disks (faults_in disks p) s → GivesPart s q → Failing (disks p) (disks q)
-  failed_back p (Closed c) q failed gives = subst (Failing (disks p)) (part_disks disks c q gives) (failing_is (disks p) (disks_at disks c) failed)
+  failed_back p (Closed c) q failed gives = part_to disks (Failing (disks p)) c q gives (failing_is (disks p) (disks_at disks c) failed)
   failed_back p (Open s) q failed gives = absurd failed
 
   -- the seats gave their parts back

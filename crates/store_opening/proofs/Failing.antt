@@ -52,10 +52,16 @@ zip_through R S T by (x ∷ xs) (y ∷ ys) (z ∷ zs) first then = (by x y z fir
 
 -- ---- parts
 
-pub part_disks : {P : Type 0} (disks : P → Disks) (place : Closed P) (p : P) → HasPart place p → disks_at disks place ≡ disks p
-part_disks disks (Parts q) p has = subst (λ x. disks q ≡ disks x) (sym has) refl
-part_disks disks (Fresh q) p has = subst (λ x. disks q ≡ disks x) (sym has) refl
-part_disks disks (Known k) p has = subst (λ x. disks k.parts ≡ disks x) (sym has) refl
+-- what is true of the disks at a place is true of those of its parts, and the other way round
+pub part_to : {P : Type 0} (disks : P → Disks) (Q : Disks → Type 0) (place : Closed P) (p : P) → HasPart place p → Q (disks_at disks place) → Q (disks p)
+part_to disks Q (Parts q) p has is = subst (λ x. Q (disks x)) (sym has) is
+part_to disks Q (Fresh q) p has is = subst (λ x. Q (disks x)) (sym has) is
+part_to disks Q (Known k) p has is = subst (λ x. Q (disks x)) (sym has) is
+
+pub part_from : {P : Type 0} (disks : P → Disks) (Q : Disks → Type 0) (place : Closed P) (p : P) → HasPart place p → Q (disks p) → Q (disks_at disks place)
+part_from disks Q (Parts q) p has is = subst (λ x. Q (disks x)) has is
+part_from disks Q (Fresh q) p has is = subst (λ x. Q (disks x)) has is
+part_from disks Q (Known k) p has is = subst (λ x. Q (disks x)) has is
 
 module _ {P : Type 0} (disks : P → Disks) where
   -- one more was read behind
@@ -90,5 +96,5 @@ module _ {P : Type 0} (disks : P → Disks) where
         new = b.other;
         was = f.was;
         is = b.is;
-        failing = subst (Failing (disks f.part)) (part_disks disks f.place b.other b.holds) f.failing;
+        failing = part_to disks (Failing (disks f.part)) f.place b.other b.holds f.failing;
       }

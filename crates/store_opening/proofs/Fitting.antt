@@ -103,8 +103,13 @@ module _ (states : List State) (names : List Oref) where
     failed_first [] all r A schemas is same spelled fails = absurd (no_members m ms is)
     failed_first (s ∷ list) all r A schemas is same spelled fails =
         let p = split s list m ms is in
-        inr (schemas, (subst (λ t. SpellFor states t schemas) (sym p.state) spelled,
-        subst (λ t. FailsIn states names t (members_from 1 list) (members_from 0 states) r (A schemas)) (sym p.state)
-        (subst (λ ns. FailsIn states names m.state ns (members_from 0 states) r (A schemas)) (sym p.rest)
-        (subst (λ ns. FailsIn states names m.state ms ns r (A schemas)) same
-        (fails_more m.state ms all r ⊥ (A schemas) (λ no. absurd no) fails)))))
+        inr (
+          schemas,
+          (
+            subst (λ t. SpellFor states t schemas) (sym p.state) spelled,
+            subst (λ t. FailsIn states names t (members_from 1 list) (members_from 0 states) r (A schemas)) (sym p.state)
+                (subst (λ ns. FailsIn states names m.state ns (members_from 0 states) r (A schemas)) (sym p.rest)
+                (subst (λ ns. FailsIn states names m.state ms ns r (A schemas)) same
+                (fails_more m.state ms all r ⊥ (A schemas) (λ no. absurd no) fails))),
+          ),
+        )

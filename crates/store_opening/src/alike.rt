@@ -17,11 +17,7 @@ use store_check::{Texts, schemas_of};
 use thor_value::{NoMemory, Text};
 
 /// The schemas that the texts of a repository spell.
-fn spelled(
-    alloc: Global,
-    store: &[Read<'_>],
-    stands: &Stands,
-) -> Result<Option<Schemas>, NoMemory>
+fn spelled(alloc: Global, store: &[Read<'_>], stands: &Stands) -> Result<Option<Schemas>, NoMemory>
     requires { IsStanding store.now stands.now }
     ensures { IfOk result (FindsOnly (SpellFor (read_states store.now) (state_of stands.now.read.now))) }
 {

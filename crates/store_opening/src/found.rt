@@ -373,7 +373,7 @@ fn placed<P: Parts>(
     requires fresh { FindsFresh (P.disks part) found }
     ensures seated { (given : P) → Same (P.disks given) (P.disks part) → IsSeated P.disks given result.0 }
     ensures damaged { (r d place : ℕ) → IsErrOf result.1 (Damaged r d place) → (r ≡ repo) × (d ≡ 0) × (place ≡ 0) × IsFreshOn (P.disks part) × BehindOpen P.disks places.now }
-    ensures same { disks_at P.disks result.0 ≡ P.disks part }
+    ensures goes { GoesOn (P.disks part) (disks_at P.disks result.0) }
     ensures failed { (r : ℕ) → IsErrOf result.1 (Failed r) → ⊥ }
 {
     match found {

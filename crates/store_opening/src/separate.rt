@@ -74,11 +74,7 @@ pub(crate) fn is_below(store: &[Read<'_>], one: &Stands) -> Result<bool, NoMemor
     has_commits_below(store, one, threshold)
 }
 
-fn has_decisions_below(
-    store: &[Read<'_>],
-    one: &Stands,
-    threshold: Ts,
-) -> Result<bool, NoMemory>
+fn has_decisions_below(store: &[Read<'_>], one: &Stands, threshold: Ts) -> Result<bool, NoMemory>
     requires { IsStanding store.now one.now }
     ensures { IfOk result (λ below. below ≡ list_all (is_at_most threshold) (state_of one.now.read.now).kept) }
 {
@@ -96,11 +92,7 @@ fn has_decisions_below(
     Err(NoMemory)
 }
 
-fn has_commits_below(
-    store: &[Read<'_>],
-    one: &Stands,
-    threshold: Ts,
-) -> Result<bool, NoMemory>
+fn has_commits_below(store: &[Read<'_>], one: &Stands, threshold: Ts) -> Result<bool, NoMemory>
     requires { IsStanding store.now one.now }
     ensures { IfOk result (λ below. below ≡ list_all (λ e. is_at_most threshold e.1) (state_of one.now.read.now).alone) }
 {
@@ -199,5 +191,9 @@ fn write_own(one: &Stands, requests: &[&Request]) -> bool
 fn writes_own(one: &Stands, request: &Request) -> bool
     ensures { result ≡ list_all (λ w. is_own (member_of one.now) w.0) request.now.writes }
 {
-    request.writes.as_slice().iter().all(|write| is_own(one, write.0))
+    request
+        .writes
+        .as_slice()
+        .iter()
+        .all(|write| is_own(one, write.0))
 }

@@ -5,7 +5,6 @@ use Rattle.cluster_core.specs.Seated.{IsBegunBy}
 use Rattle.recovery.specs.declared.recovered.Recovered.{Recovered}
 use Rattle.cluster_port.proofs.Begun.{begins_as}
 use Rattle.cluster_port.specs.Failing.{HasFailed, NoneFell}
-use Rattle.disk_trait.specs.Disks.{Disks}
 use Rattle.recovery.specs.declared.fault.RecoverFault.TheVariants as recovered
 use Rattle.recovery.specs.declared.fault.RecoverFault.{RecoverFault}
 use Rattle.repo_core.proofs.Unbegun.{err_failed, ok_fell}
@@ -27,24 +26,21 @@ open-requires-clause-begins g c =
 pub returns-in-Ok-clause-fell : goal.returns-in-Ok-clause-fell
 returns-in-Ok-clause-fell g c =
     let disks = g.P.Parts.disks in
-    let was : disks c.args.known.parts ≡ disks c.into_recovered-parts.result.0 = subst (λ p. disks c.args.known.parts ≡ disks p) (sym c.into_recovered-parts.ensures.parts) refl in
     let moved = goes_fell (disks c.into_recovered-parts.result.0) (disks c.migrate.new.parts) c.migrate.ensures.goes in
     c.of.ensures.fell (faults_in disks c.args.known.parts)
-    (ok_fell c.open.result (faults_in disks c.args.known.parts) (disks c.migrate.new.parts).faults (λ site. faults_of site.shown) (subst (λ (d : Disks). NoneFell d.faults (disks c.migrate.new.parts).faults) (sym was) moved) c.open.ensures.fell)
+    (ok_fell c.open.result (faults_in disks c.args.known.parts) (disks c.migrate.new.parts).faults (λ site. faults_of site.shown) (subst (λ p. NoneFell (disks p).faults (disks c.migrate.new.parts).faults) c.into_recovered-parts.ensures.parts moved) c.open.ensures.fell)
 
 pub returns-in-Ok-clause-failed : goal.returns-in-Ok-clause-failed
 returns-in-Ok-clause-failed g c = λ r is.
     let disks = g.P.Parts.disks in
-    let was : disks c.args.known.parts ≡ disks c.into_recovered-parts.result.0 = subst (λ p. disks c.args.known.parts ≡ disks p) (sym c.into_recovered-parts.ensures.parts) refl in
     let moved = goes_fell (disks c.into_recovered-parts.result.0) (disks c.migrate.new.parts) c.migrate.ensures.goes in
     c.of.ensures.failed (faults_in disks c.args.known.parts) r
-    (err_failed c.open.result (faults_in disks c.args.known.parts) (disks c.migrate.new.parts).faults (λ fault. (disks fault.parts).faults) (λ fault. fault.cause ≡ DiskFailed) (subst (λ (d : Disks). NoneFell d.faults (disks c.migrate.new.parts).faults) (sym was) moved) c.open.ensures.failed) is
+    (err_failed c.open.result (faults_in disks c.args.known.parts) (disks c.migrate.new.parts).faults (λ fault. (disks fault.parts).faults) (λ fault. fault.cause ≡ DiskFailed) (subst (λ p. NoneFell (disks p).faults (disks c.migrate.new.parts).faults) c.into_recovered-parts.ensures.parts moved) c.open.ensures.failed) is
 
 pub returns-in-Err-clause-failed : goal.returns-in-Err-clause-failed
 returns-in-Err-clause-failed g c = λ r is.
     let disks = g.P.Parts.disks in
-    let was : disks c.args.known.parts ≡ disks c.into_recovered-parts.result.0 = subst (λ p. disks c.args.known.parts ≡ disks p) (sym c.into_recovered-parts.ensures.parts) refl in
     let told : c.unmoved.result ≡ Failed r = same_err _ c.unmoved.result (Failed r) refl is in
     let by = c.unmoved.ensures r told in
     let wrong : IsErrOf c.migrate.result (recovered.Failed by.1.0) = c.in-Err.is ∙ ap (λ (f : RecoverFault). Err f) by.1.1.1 in
-    (by.0, subst (λ (d : Disks). HasFailed d.faults (disks c.migrate.new.parts).faults) (sym was) (record { disk = by.1.0; within = by.1.1.0; rose = c.migrate.ensures.failed by.1.0 wrong }))
+    (by.0, subst (λ p. HasFailed (disks p).faults (disks c.migrate.new.parts).faults) c.into_recovered-parts.ensures.parts (record { disk = by.1.0; within = by.1.1.0; rose = c.migrate.ensures.failed by.1.0 wrong }))

@@ -1,10 +1,11 @@
 use Rattle.repo_opening.specs.Paged.{PutsStored}
 use Rattle.store_opening.proofs.Holding.{always}
 use Rattle.store_opening.proofs.Misfits.{told_as}
-use Rattle.std.proofs.Common.{IsErrOf, Ok, ap, length, rules, subst, sym, ◌∙◌, ◌≡◌}
+use Rattle.std.proofs.Common.{IsErrOf, Ok, ap, length, rules, ◌∙◌, ◌≡◌}
 use Rattle.repo_opening.proofs.Reading.{reads_on}
-use Rattle.disk_trait.specs.AllDisks.{GoesOn}
+use Rattle.disk_trait.proofs.Several.{goes_then}
 use Rattle.repo_opening.specs.declared.unopened.Unopened.TheVariants.{Damaged, Failed}
+use Rattle.store_opening.specs.Seated.{disks_at}
 use Rattle.store_opening.specs.Unsound.{NotOpen, Unsound}
 use Rattle.store_opening.proofs.Freshness.{finds_fresh}
 use Rattle.store_opening.proofs.found.read_behind.Goals as goal
@@ -35,7 +36,7 @@ returns-in-Err-clause-damaged g c = λ image r d place reads is.
     (told.0 ∙ first, Unsound (told_as c.in-Ok-Ok.repo c.in-Ok-Ok.repos r c.args.repos d place image told.0 second told.1))
 
 pub returns-in-Ok-clause-goes : goal.returns-in-Ok-clause-goes
-returns-in-Ok-clause-goes g c = subst (GoesOn (g.P.Parts.disks c.args.part)) (sym c.placed.ensures.same) c.read_repository.ensures.goes
+returns-in-Ok-clause-goes g c = goes_then (g.P.Parts.disks c.args.part) (g.P.Parts.disks c.read_repository.new.parts) (disks_at g.P.Parts.disks c.placed.result.0) c.read_repository.ensures.goes c.placed.ensures.goes
 
 pub returns-in-Err-clause-failed : goal.returns-in-Err-clause-failed
 returns-in-Err-clause-failed g c = λ r is.
