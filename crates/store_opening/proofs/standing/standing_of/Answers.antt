@@ -11,7 +11,7 @@ loop-read-preserved c =
     let i = c.loop-read.read-index in
     let before = c.loop-read.standing.items in
     let inv = c.loop-read.invariant in (
-      members_more store i before c.read-item.result _ c.push.new.self.items c.loop-read-test.true c.read-item.is c.in_ok-push.ensures.items inv.0 inv.1 (c.in_ok-repo.ensures ∙ c.len.ensures) refl,
+      members_more store i before c.read-item.result _ c.push.new.self.items c.loop-read-test.true c.read-item.is c.in_ok-push.ensures.items inv.0 inv.1 (c.in_ok-repo.ensures ∙ (c.len.ensures ∙ c.loop-read.standing.ok.0)) refl,
       count_more before c.push.new.self.items _ i c.in_ok-push.ensures.items inv.1,
       each_more store before c.push.new.self.items _ c.in_ok-push.ensures.items inv.2
       (record {
