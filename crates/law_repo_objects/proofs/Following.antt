@@ -7,7 +7,7 @@ use Rattle.law_repo_objects.specs.Holding.{HoldsObjects}
 use Rattle.log_entries.specs.declared.entry.Entry.TheVariants.{Decided, Finished, Life, One, Prepared, Upgraded}
 use Rattle.log_entries.specs.declared.entry.Entry.{Entry}
 use Rattle.log_entries.specs.declared.request.Request.{Request}
-use Rattle.mob_flusher.specs.Map.{Has}
+use Rattle.mob_flusher.specs.Map.{Has, Kept}
 use Rattle.repo_core.specs.Objects.{ObjectsTake, writes_in}
 use Rattle.repo_core.specs.Restarting.{ComesUp, life_behind}
 use Rattle.repo_core.specs.Shown.{Shown, ShowsPages}
@@ -67,9 +67,9 @@ put_objects o a b S h (Finished t c) agrees = decided_objects o a S t c (known_i
 -- ---- events
 
 -- the objects take writes, and the history comes to just these
-follow : (b : Base) (Was : Oref → Option Obj → Type 0) (x y : Shown) (ws : List (Oref × Obj)) → ShowsPages x → x.is_torn ≡ false → y.held.repo ≡ x.held.repo → ObjectsTake ws x y
-    → ((o : Oref) (a : Option Obj) → option_or (get (state_of b y.trace).objects o) a ≡ written_last o (option_or (get (state_of b x.trace).objects o) a) ws) → HoldsObjects b Was x → HoldsObjects b Was y
-follow b Was x y ws shows whole repo takes same holds = record {
+follow : (b : Base) (first : List ℕ) (opened : Kept) (x y : Shown) (ws : List (Oref × Obj)) → ShowsPages x → x.is_torn ≡ false → y.held.repo ≡ x.held.repo → ObjectsTake ws x y
+    → ((o : Oref) (a : Option Obj) → option_or (get (state_of b y.trace).objects o) a ≡ written_last o (option_or (get (state_of b x.trace).objects o) a) ws) → HoldsObjects b first opened x → HoldsObjects b first opened y
+follow b first opened x y ws shows whole repo takes same holds = record {
   holds = λ unbroken image is o a own fits was.
       let pages = told_at x.pages shows.pages_told in
       let here = holds.holds whole pages.0 pages.1 o a (own ∙ repo) fits was in
@@ -83,14 +83,14 @@ same_history b x y is o a = ap (λ (H : List Entry). option_or (get (state b H).
 one_more : (b : Base) (h : Held) (H : List Entry) (e : Entry) → TableAgrees b (state b H) h.table → (o : Oref) (a : Option Obj) → option_or (get (state b (H ++ e ∷ [])).objects o) a ≡ written_last o (option_or (get (state b H).objects o) a) (loaded h e)
 one_more b h H e agrees o a = ap (λ (S : State). option_or (get S.objects o) a) (state-end b H e) ∙ put_objects o a b (state b H) h e agrees
 
-pub follows-entry : (b : Base) (Was : Oref → Option Obj → Type 0) (x y : Shown) (e : Entry) → HeldAgrees b x.trace x.held x.memory.requested → ShowsPages x → x.is_torn ≡ false → y.held.repo ≡ x.held.repo
-    → ObjectsTake (loaded x.held e) x y → y.trace.history ≡ x.trace.history ++ e ∷ [] → HoldsObjects b Was x → HoldsObjects b Was y
-follows-entry b Was x y e agrees shows whole repo takes is holds =
-    follow b Was x y (loaded x.held e) shows whole repo takes
+pub follows-entry : (b : Base) (first : List ℕ) (opened : Kept) (x y : Shown) (e : Entry) → HeldAgrees b x.trace x.held x.memory.requested → ShowsPages x → x.is_torn ≡ false → y.held.repo ≡ x.held.repo
+    → ObjectsTake (loaded x.held e) x y → y.trace.history ≡ x.trace.history ++ e ∷ [] → HoldsObjects b first opened x → HoldsObjects b first opened y
+follows-entry b first opened x y e agrees shows whole repo takes is holds =
+    follow b first opened x y (loaded x.held e) shows whole repo takes
     (λ o a. ap (λ (H : List Entry). option_or (get (state b H).objects o) a) is ∙ one_more b x.held x.trace.history e agrees.table o a) holds
 
-pub stays : (b : Base) (Was : Oref → Option Obj → Type 0) (x y : Shown) → ShowsPages x → x.is_torn ≡ false → y.held.repo ≡ x.held.repo → ObjectsTake [] x y → y.trace.history ≡ x.trace.history → HoldsObjects b Was x → HoldsObjects b Was y
-stays b Was x y shows whole repo takes is holds = follow b Was x y [] shows whole repo takes (same_history b x y is) holds
+pub stays : (b : Base) (first : List ℕ) (opened : Kept) (x y : Shown) → ShowsPages x → x.is_torn ≡ false → y.held.repo ≡ x.held.repo → ObjectsTake [] x y → y.trace.history ≡ x.trace.history → HoldsObjects b first opened x → HoldsObjects b first opened y
+stays b first opened x y shows whole repo takes is holds = follow b first opened x y [] shows whole repo takes (same_history b x y is) holds
 
 -- ---- a restart
 
@@ -101,11 +101,11 @@ taken_objects : (b : Base) (h : Held) (r : Recorded) (taken : Option Entry) → 
 taken_objects b h r None agrees o a = refl
 taken_objects b h r (Some e) agrees o a = one_more b h r.history e agrees o a
 
-pub restarts : (b : Base) (Was : Oref → Option Obj → Type 0) (x y : Shown) → HeldAgrees b x.trace x.held x.memory.requested → ShowsPages x → x.is_torn ≡ false → y.held.repo ≡ x.held.repo → ComesUp x y → HoldsObjects b Was x → HoldsObjects b Was y
-restarts b Was x y agrees shows whole repo up holds =
+pub restarts : (b : Base) (first : List ℕ) (opened : Kept) (x y : Shown) → HeldAgrees b x.trace x.held x.memory.requested → ShowsPages x → x.is_torn ≡ false → y.held.repo ≡ x.held.repo → ComesUp x y → HoldsObjects b first opened x → HoldsObjects b first opened y
+restarts b first opened x y agrees shows whole repo up holds =
     let takes = up.recovers.takes in
     let before : up.between.trace ≡ recorded_with x.trace takes.taken = up.recovers.trace ∙ takes.trace in
     let is : y.trace ≡ with_entry (recorded_with x.trace takes.taken) (life_behind up.between) = up.trace ∙ ap (λ (r : Recorded). with_entry r (life_behind up.between)) before in
-    follow b Was x y (writes_in x.held takes.taken) shows whole repo up.objects
+    follow b first opened x y (writes_in x.held takes.taken) shows whole repo up.objects
     (λ o a. ap (λ (r : Recorded). option_or (get (state b r.history).objects o) a) is
     ∙ (life_objects b (recorded_with x.trace takes.taken).history (up.between.held.life + 1) o a ∙ taken_objects b x.held x.trace takes.taken agrees.table o a)) holds
