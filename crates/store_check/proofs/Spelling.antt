@@ -94,9 +94,10 @@ lawful_none repos classes bare fault is told = λ y lawful. told_none (schema_ru
 
 pub epoch_found : (repos : ℕ) (roots : List RootDeclaration) (standing : Schema) (upgrade : Upgrade) (epoch : UpgradedSchema) → own_fault standing repos upgrade [] ≡ None → epoch.upgrade ≡ upgrade → epoch.schema ≡ with_roots roots (applied standing upgrade)
     → FindsOnly (IsEpochOf repos roots standing upgrade) (Some epoch)
-epoch_found repos roots standing upgrade epoch keeps named schema =
-    (record { keeps = keeps; upgrade_is = named; schema_is = schema },
-    λ y is. ap₂ (λ (u : Upgrade) (s : Schema). record { upgrade = u; schema = s }) (is.upgrade_is ∙ sym named) (is.schema_is ∙ sym schema))
+epoch_found repos roots standing upgrade epoch keeps named schema = (
+  record { keeps = keeps; upgrade_is = named; schema_is = schema },
+  λ y is. ap₂ (λ (u : Upgrade) (s : Schema). record { upgrade = u; schema = s }) (is.upgrade_is ∙ sym named) (is.schema_is ∙ sym schema),
+)
 
 pub epoch_none : (repos : ℕ) (roots : List RootDeclaration) (standing : Schema) (upgrade : Upgrade) (fault : RuleFault) → own_fault standing repos upgrade [] ≡ Some fault → FindsOnly (IsEpochOf repos roots standing upgrade) None
 epoch_none repos roots standing upgrade fault told = λ y is. let no : None ≡ Some fault = sym is.keeps ∙ told in cc
@@ -190,9 +191,10 @@ module _ (roots : List Root) (upgrades : List (List ℕ)) (repos : ℕ) (bare : 
 
   pub begun_found : (schema : Schema) (epochs : List UpgradedSchema) → schema ≡ with_roots declared bare → FindsOnly (SpellEpochs repos declared bare upgrades) (Some epochs) → FindsOnly (BeginWith roots upgrades repos bare) (Some (record { first = schema; upgraded = epochs }))
   begun_found schema epochs is found =
-      let rooted : schema ≡ with_roots (declared_roots bare.classes roots) bare = is ∙ ap (λ ds. with_roots ds bare) same in
-      (record { first = rooted; epochs = subst (λ ds. SpellEpochs repos ds bare upgrades epochs) same found.0 },
-      λ s begin. ap₂ (λ (f : Schema) (us : List UpgradedSchema). record { first = f; upgraded = us }) (begin.first ∙ sym rooted) (found.1 s.upgraded (behind_same s.upgraded begin.epochs)))
+      let rooted : schema ≡ with_roots (declared_roots bare.classes roots) bare = is ∙ ap (λ ds. with_roots ds bare) same in (
+        record { first = rooted; epochs = subst (λ ds. SpellEpochs repos ds bare upgrades epochs) same found.0 },
+        λ s begin. ap₂ (λ (f : Schema) (us : List UpgradedSchema). record { first = f; upgraded = us }) (begin.first ∙ sym rooted) (found.1 s.upgraded (behind_same s.upgraded begin.epochs)),
+      )
 
   pub begun_none : FindsOnly (SpellEpochs repos declared bare upgrades) None → FindsOnly (BeginWith roots upgrades repos bare) None
   begun_none none = λ s begin. none s.upgraded (behind_same s.upgraded begin.epochs)

@@ -51,12 +51,7 @@ fn passed_limit<P: Parts>(script: &Script, found: &Found<P>) -> Option<u64>
 }
 
 /// The reply to a script that breaks a rule.
-fn refused(
-    plan: &Plan,
-    script: &Script,
-    base: Schemas,
-    refusal: Refusal,
-) -> Result<Reply, NoMemory>
+fn refused(plan: &Plan, script: &Script, base: Schemas, refusal: Refusal) -> Result<Reply, NoMemory>
     requires within { IsWithinLimits script.now }
     requires breaks { BreaksUnder base plan.now.repos script.now refusal }
     ensures { IfOk result (RepliesRule plan.now script.now base) }

@@ -13,8 +13,8 @@ returns-in-Some c =
     let first : FindsOnly (SpellsFirst classes c.args.repos) (Some c.in-Some.first.schema) = some_at (λ checked. checked.schema) (SpellsFirst classes c.args.repos) c.in_ok-first.field-0 c.in-Some.first c.in-Some.is c.in_ok-first.ensures.schema in
     ok_map c.begun.result _ _
     (λ r h. named_found classes roots upgrades c.args.repos r named
-        (found_behind (SpellsFirst classes c.args.repos) (BeginWith roots upgrades c.args.repos) c.in-Some.first.schema r first
-        (subst (λ n. FindsOnly (BeginWith roots upgrades n c.in-Some.first.schema) r) repos h)))
+    (found_behind (SpellsFirst classes c.args.repos) (BeginWith roots upgrades c.args.repos) c.in-Some.first.schema r first
+    (subst (λ n. FindsOnly (BeginWith roots upgrades n c.in-Some.first.schema) r) repos h)))
     c.begun.ensures
 
 pub returns-in-None : goal.returns-in-None

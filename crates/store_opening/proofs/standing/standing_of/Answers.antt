@@ -14,11 +14,11 @@ loop-read-preserved c =
       members_more store i before c.read-item.result _ c.push.new.self.items c.loop-read-test.true c.read-item.is c.in_ok-push.ensures.items inv.0 inv.1 (c.in_ok-repo.ensures ∙ (c.len.ensures ∙ c.loop-read.standing.ok.0)) refl,
       count_more before c.push.new.self.items _ i c.in_ok-push.ensures.items inv.1,
       each_more store before c.push.new.self.items _ c.in_ok-push.ensures.items inv.2
-      (record {
-        kept = in_loop IsKept store i c.read-item.result c.requires.each c.loop-read-test.true c.read-item.is;
-        upgrades = c.in_ok-settled.ensures.upgrades;
-        threshold = c.in_ok-settled.ensures.threshold;
-      }),
+          (record {
+            kept = in_loop IsKept store i c.read-item.result c.requires.each c.loop-read-test.true c.read-item.is;
+            upgrades = c.in_ok-settled.ensures.upgrades;
+            threshold = c.in_ok-settled.ensures.threshold;
+          }),
     )
 
 pub returns : goal.returns

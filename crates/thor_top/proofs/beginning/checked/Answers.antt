@@ -9,9 +9,16 @@ use Rattle.thor_top.proofs.beginning.checked.Goals as goal
 
 pub returns-clause-reply : goal.returns-clause-reply
 returns-clause-reply g c = λ given stored.
-    subst (λ (q : Result Reply NoMemory). IfOk q (RepliesTo (ReadAll g.P.Parts.disks given) c.args.plan.now c.args.script.now)) (sym c.unplayed.ensures.reply)
-    (c.requires.command, (c.requires.judged.within, (fits_disks (ReadAll g.P.Parts.disks given) c.args.script.now.setup c.args.judged.found.store stored c.requires.judged.fits,
-    (c.args.judged.base, (c.requires.judged.accepted, spelled_by (ReadAll g.P.Parts.disks given) c.args.script.now.setup c.args.judged.found.store c.args.judged.base stored c.requires.judged.schemas)))))
+    subst (λ (q : Result Reply NoMemory). IfOk q (RepliesTo (ReadAll g.P.Parts.disks given) c.args.plan.now c.args.script.now)) (sym c.unplayed.ensures.reply) (
+      c.requires.command,
+      (
+        c.requires.judged.within,
+        (
+          fits_disks (ReadAll g.P.Parts.disks given) c.args.script.now.setup c.args.judged.found.store stored c.requires.judged.fits,
+          (c.args.judged.base, (c.requires.judged.accepted, spelled_by (ReadAll g.P.Parts.disks given) c.args.script.now.setup c.args.judged.found.store c.args.judged.base stored c.requires.judged.schemas)),
+        ),
+      ),
+    )
 
 pub returns-clause-same : goal.returns-clause-same
 returns-clause-same g c = λ given has. rw c.unplayed.ensures.parts (c.into_parts.ensures.parts given has)
