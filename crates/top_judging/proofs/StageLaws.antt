@@ -261,7 +261,7 @@ module _ (D : DiskBytes) (Like : Plan → Type 0) (NoPlan : Type 0) (plan : Plan
             has = has;
             written = read.written;
             says = subst (λ (c : Command). IsRefusalOf (disks_for c D) plan script broken.0) (sym (is_audit plan.command front))
-                (unjudged_replies FreshBytes plan script Fresh fresh read.clients read.events (reply.Refused broken.0) (inr (inr (rule.0, (rule.1.0, (rule.1.1.0, (broken.0, (refl, broken.1.1)))))));
+                (unjudged_replies FreshBytes plan script Fresh fresh read.clients read.events (reply.Refused broken.0) (inr (inr (rule.0, (rule.1.0, (rule.1.1.0, (broken.0, (refl, broken.1.1))))))));
           });
         })
 
