@@ -6,13 +6,13 @@ ghost use Rattle.client_state.specs.Pending.{Pending};
 ghost use Rattle.client_state.specs.Stepping.{Present, StepsSo};
 ghost use Rattle.client_state.specs.declared.duties.Duties.{Duties};
 ghost use Rattle.client_state.specs.declared.held.Held.{Held};
-ghost use Rattle.law_two_phase_clients.specs.Handing.{DutiesStand, HandsOnTold, HoldsOfTold, Told};
+ghost use Rattle.law_two_phase_clients.specs.Handing.{DutiesStand, HandsOnSo, HasToHandOn, StoodOrIsTold};
 
-/// What holds of each verdict that a repository has told holds of each one that a client has to hand on, through all its steps: each that comes was
-/// told by the step's call. So it holds of what a call hands on, or helps by.
+/// Behind a step a client has to hand on only verdicts that it had to hand on before, or that a repository has told by the step's call; and what the call
+/// hands on it had to. So through all its steps it hands on only what it was told.
 pub fn verdicts_are_handed_on_as_told()
-    ensures stays { (P : Told) (item : Present) (old new : View) (before after : Held) (a z : Pending) (d e : Duties) (came : News) → (step : StepsSo item old new before after a z d e came) →
-        HoldsOfTold P old new → DutiesStand P d → DutiesStand P e }
-    ensures hands { (P : Told) (item : Present) (old new : View) (before after : Held) (a z : Pending) (d e : Duties) (came : News) → (step : StepsSo item old new before after a z d e came) →
-        DutiesStand P d → HandsOnTold P old new before after step.moves }
+    ensures comes { (item : Present) (old new : View) (before after : Held) (a z : Pending) (d e : Duties) (came : News) → (step : StepsSo item old new before after a z d e came) →
+        DutiesStand (StoodOrIsTold d old new) e }
+    ensures hands { (item : Present) (old new : View) (before after : Held) (a z : Pending) (d e : Duties) (came : News) → (step : StepsSo item old new before after a z d e came) →
+        HandsOnSo (HasToHandOn d) old new before after step.moves }
 {}

@@ -14,7 +14,7 @@ use Rattle.client_state.specs.declared.duties.Duty.{Duty}
 use Rattle.client_state.specs.declared.duties.Helping.{Helping}
 use Rattle.client_state.specs.declared.held.Held.{Held}
 use Rattle.client_state.specs.declared.link.Link.{Link}
-use Rattle.law_two_phase_clients.specs.Handing.{DutiesStand, DutyStands, HandsOnTold, HelpStands, HoldsOfTold, IsAsTold, Told}
+use Rattle.law_two_phase_clients.specs.Handing.{DutiesStand, DutyStands, HandsOnSo, HasToHandOn, HelpStands, HoldsOfTold, IsAmongDuties, IsHelpOf, OfVerdicts, StoodOrIsTold}
 use Rattle.session_outbox.specs.declared.answers.At.{At}
 use Rattle.session_outbox.specs.declared.answers.Verdict.{Verdict}
 use Rattle.std.proofs.Common.{Bool, List, [], ap, cond, false, inl, inr, refl, subst, sym, true, ℕ, ◌++◌, ◌≡◌, ◌∙◌, ◌∷◌}
@@ -34,14 +34,14 @@ module _ (old new : View) (r s : ℕ) (t : Ts) (v : Verdict) (commit : Bool) whe
   decided_of : Does {X = Verdict} old new r (Ok v) (DecideWork s t commit (Ok v)) → v.tx ≡ t
   decided_of d = by_answer d d.met d.answer
 
-module _ (P : Told) where
+module _ (P : OfVerdicts) where
   -- ---- lists of duties
 
   one_more : (ds : List Duty) (x : Duty) → AllByRecursion (DutyStands P) ds → DutyStands P x → AllByRecursion (DutyStands P) (ds ++ x ∷ [])
   one_more [] x all here = (here, tt)
   one_more (y ∷ ds) x all here = (all.0, one_more ds x all.1 here)
 
-  with_handed : (v : Verdict) (rs : List ℕ) (ds : List Duty) → AllByRecursion (DutyStands P) ds → IsAsTold P v.tx v.commit → AllByRecursion (DutyStands P) (handed v rs ds)
+  with_handed : (v : Verdict) (rs : List ℕ) (ds : List Duty) → AllByRecursion (DutyStands P) ds → P v.tx v.commit → AllByRecursion (DutyStands P) (handed v rs ds)
   with_handed v [] ds all told = all
   with_handed v (r ∷ rs) ds all told = one_more ds (Finish v (r ∷ rs) v.commit) all told
 
@@ -49,7 +49,7 @@ module _ (P : Told) where
   with_forget v true ds all = (tt, all)
   with_forget v false ds all = all
 
-  with_kept : (v : Verdict) (to : List ℕ) (forgets : Bool) (ds : List Duty) → AllByRecursion (DutyStands P) ds → IsAsTold P v.tx v.commit → AllByRecursion (DutyStands P) (kept_behind v to forgets ds)
+  with_kept : (v : Verdict) (to : List ℕ) (forgets : Bool) (ds : List Duty) → AllByRecursion (DutyStands P) ds → P v.tx v.commit → AllByRecursion (DutyStands P) (kept_behind v to forgets ds)
   with_kept v [] forgets ds all told = with_forget v forgets ds all
   with_kept v (r ∷ to) forgets ds all told = (told, all)
 
@@ -67,7 +67,7 @@ module _ (P : Told) where
 
     tells_on : (a : Pending) (links : List Link) (ds es : List Duty) → TellsOn old new a links ds es → AllByRecursion (DutyStands P) ds → AllByRecursion (DutyStands P) es
     tells_on a links ds es h all = same_all (handed h.v (others_in h.sent.participants (first_in h.sent.participants)) ds) es h.behind (with_handed h.v (others_in h.sent.participants (first_in h.sent.participants)) ds all
-        (h.r, subst (λ (t : Ts). P h.r t h.v.commit) (sym h.tx) (holds h.r h.sent.ts h.v.commit h.told)))
+        (subst (λ (t : Ts). P t h.v.commit) (sym h.tx) (holds h.r h.sent.ts h.v.commit h.told)))
 
     may_tell : (a : Pending) (links : List Link) (ds es : List Duty) → MayTell old new a links ds es → AllByRecursion (DutyStands P) ds → AllByRecursion (DutyStands P) es
     may_tell a links ds es (inl e) all = same_all ds es e all
@@ -82,7 +82,7 @@ module _ (P : Told) where
 
     help_by : (o : Option Verdict) → IsHelpTold old new o → HelpStands P o
     help_by None h = tt
-    help_by (Some v) h = (v.tx.repo, holds v.tx.repo v.tx v.commit h)
+    help_by (Some v) h = holds v.tx.repo v.tx v.commit h
 
     told_help : (x y : Option Helping) → (y ≡ x) ⊎ IsHelpTold old new (helps_by y) → HelpStands P (helps_by x) → HelpStands P (helps_by y)
     told_help x y (inl e) h = same_help x y e h
@@ -106,7 +106,7 @@ module _ (P : Told) where
     aborts : (at : At) (t : Ts) (v : Verdict) (d e : Duties) → Does {X = Verdict} old new at.repo (Ok v) (DecideWork at.session t false (Ok v)) → AbortsNext at t v d e → DutiesStand P d → DutiesStand P e
     aborts at t v d e does h all = record {
       verdicts = same_all (handed v h.prepared d.verdicts) e.verdicts h.behind (with_handed v h.prepared d.verdicts all.verdicts
-          (at.repo, subst (λ (u : Ts). P at.repo u v.commit) (sym (decided_of old new at.repo at.session t v false does)) (holds at.repo t v.commit (ToldByDecision at.session false v refl does))));
+          (subst (λ (u : Ts). P u v.commit) (sym (decided_of old new at.repo at.session t v false does)) (holds at.repo t v.commit (ToldByDecision at.session false v refl does))));
       helping = same_help d.helping e.helping h.helping all.helping;
     }
 
@@ -152,16 +152,16 @@ module _ (P : Told) where
 
   -- ---- what is handed on
 
-  of_verdict : (v : Verdict) (t : Ts) (commit : Bool) → v.tx ≡ t → v.commit ≡ commit → IsAsTold P v.tx v.commit → IsAsTold P t commit
-  of_verdict v t commit e f told = subst (λ (b : Bool). IsAsTold P t b) f (subst (λ (u : Ts). IsAsTold P u v.commit) e told)
+  of_verdict : (v : Verdict) (t : Ts) (commit : Bool) → v.tx ≡ t → v.commit ≡ commit → P v.tx v.commit → P t commit
+  of_verdict v t commit e f told = subst (λ (b : Bool). P t b) f (subst (λ (u : Ts). P u v.commit) e told)
 
-  told_next : (r : ℕ) (t : Ts) (commit answered : Bool) (d e : Duties) → TellsNext r t commit answered d e ⊎ TellsRefuser r t commit d e → DutiesStand P d → IsAsTold P t commit
+  told_next : (r : ℕ) (t : Ts) (commit answered : Bool) (d e : Duties) → TellsNext r t commit answered d e ⊎ TellsRefuser r t commit d e → DutiesStand P d → P t commit
   told_next r t commit answered d e (inl h) all =
       let there : AllByRecursion (DutyStands P) (Finish h.v (r ∷ h.to) h.forgets ∷ h.rest) = subst (AllByRecursion (DutyStands P)) h.first all.verdicts in
       of_verdict h.v t commit h.tx h.commits there.0
   told_next r t commit answered d e (inr h) all = of_verdict h.v t commit h.tx h.commits (subst (λ (o : Option Helping). HelpStands P (helps_by o)) h.was all.helping)
 
-  on_call : (old new : View) (before after : Held) (moves : Moves old new before after) (a : Pending) (d e : Duties) → HandsSo old new before after moves a d e → DutiesStand P d → HandsOnTold P old new before after moves
+  on_call : (old new : View) (before after : Held) (moves : Moves old new before after) (a : Pending) (d e : Duties) → HandsSo old new before after moves a d e → DutiesStand P d → HandsOnSo P old new before after moves
   on_call old new before after (Unsent sends) a d e h all = tt
   on_call old new before after (Received at m does there takes same) a d e h all = tt
   on_call old new before after (ReceivedNone at does there waits same fewer) a d e h all = tt
@@ -180,8 +180,23 @@ module _ (P : Told) where
   on_call old new before after (AskedOwn r t v does ends) a d e h all = tt
   on_call old new before after (AskedInVain r t result does leaves same fewer) a d e h all = tt
 
-pub stays : (P : Told) (item : Present) (old new : View) (before after : Held) (a z : Pending) (d e : Duties) (came : News) (step : StepsSo item old new before after a z d e came) → HoldsOfTold P old new → DutiesStand P d → DutiesStand P e
-stays P item old new before after a z d e came step holds all = by_call P old new holds before after step.moves a d e step.hands all
+-- ---- what there was
 
-pub hands : (P : Told) (item : Present) (old new : View) (before after : Held) (a z : Pending) (d e : Duties) (came : News) (step : StepsSo item old new before after a z d e came) → DutiesStand P d → HandsOnTold P old new before after step.moves
-hands P item old new before after a z d e came step all = on_call P old new before after step.moves a d e step.hands all
+-- each duty is one of them
+each_among : (P : OfVerdicts) (ds : List Duty) → ((t : Ts) (commit : Bool) → IsAmongDuties ds t commit → P t commit) → AllByRecursion (DutyStands P) ds
+each_among P [] f = tt
+each_among P (Finish v to forgets ∷ ds) f = (f v.tx v.commit (inl (refl, refl)), each_among P ds (λ t commit among. f t commit (inr among)))
+each_among P (Forget u ∷ ds) f = (tt, each_among P ds (λ t commit among. f t commit (inr among)))
+
+help_of : (P : OfVerdicts) (o : Option Verdict) → ((t : Ts) (commit : Bool) → IsHelpOf o t commit → P t commit) → HelpStands P o
+help_of P None f = tt
+help_of P (Some v) f = f v.tx v.commit (refl, refl)
+
+all_stand : (P : OfVerdicts) (d : Duties) → ((t : Ts) (commit : Bool) → HasToHandOn d t commit → P t commit) → DutiesStand P d
+all_stand P d f = record { verdicts = each_among P d.verdicts (λ t commit among. f t commit (inl among)); helping = help_of P (helps_by d.helping) (λ t commit help. f t commit (inr help)) }
+
+pub comes : (item : Present) (old new : View) (before after : Held) (a z : Pending) (d e : Duties) (came : News) (step : StepsSo item old new before after a z d e came) → DutiesStand (StoodOrIsTold d old new) e
+comes item old new before after a z d e came step = by_call (StoodOrIsTold d old new) old new (λ r t commit told. inr (r, told)) before after step.moves a d e step.hands (all_stand (StoodOrIsTold d old new) d (λ t commit stands. inl stands))
+
+pub hands : (item : Present) (old new : View) (before after : Held) (a z : Pending) (d e : Duties) (came : News) (step : StepsSo item old new before after a z d e came) → HandsOnSo (HasToHandOn d) old new before after step.moves
+hands item old new before after a z d e came step = on_call (HasToHandOn d) old new before after step.moves a d e step.hands (all_stand (HasToHandOn d) d (λ t commit stands. stands))
