@@ -1,7 +1,8 @@
 -- Tests that come one behind the other, each over all repositories.
 use Rattle.class_defs.specs.declared.store.Schemas.{Schemas}
 use Rattle.log_codec.specs.declared.state.State.{State}
-use Rattle.repo_opening.proofs.Paging.{all_push, next_first}
+use Rattle.repo_opening.proofs.Paging.{next_first}
+use Rattle.store_opening.proofs.Holding.{all_more}
 use Rattle.std.proofs.Common.{List, [], ap, arith, drop, get_or, inl, inr, length, map, refl, subst, suc, sym, take, zero, ℕ, ◌++◌, ◌+◌, ◌<◌, ◌∙◌, ◌≡◌, ◌≤◌, ◌⊎◌, ◌∷◌}
 use Rattle.std.proofs.lemmas.List.{map-append, take_all}
 use Rattle.std.specs.List.{AllByRecursion}
@@ -13,12 +14,14 @@ use Rattle.thor_value.specs.declared.names.Oref.{Oref}
 whole : {X : Type 0} (xs : List X) (i : ℕ) (x : X) → i < length xs → x ≡ get_or xs i x → xs ≡ take i xs ++ x ∷ drop (i + 1) xs
 whole [] i x within is = absurd (omega (arith, within))
 whole (y ∷ xs) zero x within is = ap (λ z. z ∷ xs) (sym is)
-whole (y ∷ xs) (suc i) x within is = ap (λ zs. y ∷ zs) (whole xs i x (omega (arith, within)) is)
+whole (y ∷ xs) (suc i) x within is =
+    let e : suc (i + 1) ≡ suc i + 1 = omega arith in
+    ap (λ zs. y ∷ zs) (whole xs i x (omega (arith, within)) is) ∙ ap (λ k. y ∷ (take i xs ++ x ∷ drop k (y ∷ xs))) e
 
 module _ {X : Type 0} (f : X → Member) (P : Member → Type 0) (xs : List X) (i : ℕ) where
   pub passed_more : (x : X) → i < length xs → x ≡ get_or xs i x → AllByRecursion P (map f (take i xs)) → P (f x) → AllByRecursion P (map f (take (i + 1) xs))
   passed_more x within is all one =
-      subst (AllByRecursion P) (sym (ap (map f) (next_first xs i x within is) ∙ map-append f (take i xs) (x ∷ []))) (all_push P (map f (take i xs)) (f x) all one)
+      subst (AllByRecursion P) (sym (ap (map f) (next_first xs i x within is) ∙ map-append f (take i xs) (x ∷ []))) (all_more P (map f (take i xs)) (f x) all one)
 
   pub passed_all : length xs ≤ i → AllByRecursion P (map f (take i xs)) → AllByRecursion P (map f xs)
   passed_all past all = subst (λ ys. AllByRecursion P (map f ys)) (take_all i xs past) all

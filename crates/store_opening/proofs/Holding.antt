@@ -24,7 +24,7 @@ use Rattle.std.specs.Prelude.{IsOk}
 use Rattle.repo_opening.specs.declared.repository.Read.{Read}
 use Rattle.store_opening.proofs.Bringing.{none_sorted}
 use Rattle.store_opening.specs.Joined.{read_states, state_of}
-use Rattle.store_opening.specs.OpenedStore.{Holds, Repository, committing, joined, objects_of, roots_of, states_of, with_repository}
+use Rattle.store_opening.specs.OpenedStore.{Holds, Repository, committing, joined, objects_of, paged_of, roots_of, states_of, with_repository}
 use Rattle.store_opening.specs.Fitting.{FitTogether, IsMisfit}
 use Rattle.store_opening.specs.Unsound.{DontFit}
 use Rattle.class_defs.specs.declared.store.Schemas.{Schemas}

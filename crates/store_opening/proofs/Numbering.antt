@@ -1,9 +1,10 @@
 -- The repositories of a store, numbered one behind the other.
 use Rattle.log_codec.specs.declared.state.State.{State}
-use Rattle.repo_opening.proofs.Paging.{all_push, next_first}
+use Rattle.repo_opening.proofs.Paging.{next_first}
+use Rattle.store_opening.proofs.Holding.{all_more}
 use Rattle.repo_opening.specs.declared.repository.Read.{Read}
 use Rattle.std.proofs.Common.{List, [], ap, arith, get_or, length, map, refl, subst, suc, sym, take, zero, ℕ, ◌++◌, ◌+◌, ◌<◌, ◌∙◌, ◌≡◌, ◌≤◌, ◌∷◌}
-use Rattle.std.proofs.lemmas.List.{map-append, take_all}
+use Rattle.std.proofs.lemmas.List.{length-append, map-append, take_all}
 use Rattle.std.specs.List.{AllByRecursion}
 use Rattle.store_opening.specs.Fitting.{Member, members_from}
 use Rattle.store_opening.specs.Joined.{read_states, state_of}
@@ -43,4 +44,7 @@ module _ (store : List Read) (i : ℕ) (standing : List Stands) where
   standing_all past members each = record { members = subst (λ rs. members_of standing ≡ members_from 0 (read_states rs)) (take_all i store past) members; each = each }
 
 pub each_more : (store : List Read) (standing now' : List Stands) (one : Stands) → now' ≡ standing ++ one ∷ [] → AllByRecursion (IsStanding store) standing → IsStanding store one → AllByRecursion (IsStanding store) now'
-each_more store standing now' one pushed each is = subst (AllByRecursion (IsStanding store)) (sym pushed) (all_push (IsStanding store) standing one each is)
+each_more store standing now' one pushed each is = subst (AllByRecursion (IsStanding store)) (sym pushed) (all_more (IsStanding store) standing one each is)
+
+pub count_more : (standing now' : List Stands) (one : Stands) (i : ℕ) → now' ≡ standing ++ one ∷ [] → length standing ≡ i → length now' ≡ i + 1
+count_more standing now' one i pushed count = ap length pushed ∙ (length-append standing (one ∷ []) ∙ ap (λ n. n + 1) count)

@@ -1,7 +1,7 @@
 -- Walking over the open requests of a table, rising.
 use Rattle.log_entries.specs.declared.request.Request.{Request}
 use Rattle.repo_state.specs.Keeps.{Stands, TableFits}
-use Rattle.std.proofs.Common.{Bool, List, None, Option, Some, [], ap, cond, false, is_some, refl, slice_get, sym, true, ◌&&◌, ℕ, ◌∙◌, ◌≡◌, ◌∷◌}
+use Rattle.std.proofs.Common.{Bool, List, None, Option, Some, [], ap, arith, cond, false, get_or, is_some, length, map, refl, slice_get, subst, suc, sym, true, zero, ◌&&◌, ℕ, ◌<◌, ◌∙◌, ◌≡◌, ◌∷◌}
 use Rattle.std.proofs.lemmas.Cmp.{nat_cmp_total, tied_itself}
 use Rattle.std.specs.BTreeMap.{is_at}
 use Rattle.std.specs.List.Sorted.{IsStrictlySortedBy}
@@ -262,3 +262,13 @@ left_fails p left rest x b next told fails = sym (ap (λ a. a && list_all p rest
 
 pub none_left : {X : Type 0} (p : X → Bool) (left : List X) (b : Bool) → left ≡ [] → list_all p left ≡ b → true ≡ b
 none_left p left b none told = sym (ap (list_all p) none) ∙ told
+
+and_false : (b c : Bool) → false ≡ c → false ≡ (b && c)
+and_false true c is = is
+and_false false c is = refl
+
+-- one that fails the test
+pub fails_at : {X Y : Type 0} (f : X → Y) (p : Y → Bool) (xs : List X) (i : ℕ) (x : X) → i < length xs → x ≡ get_or xs i x → p (f x) ≡ false → false ≡ list_all p (map f xs)
+fails_at f p [] i x within is fails = absurd (omega (arith, within))
+fails_at f p (y ∷ xs) zero x within is fails = let e : p (f y) ≡ false = subst (λ z. p (f z) ≡ false) is fails in sym (ap (λ b. b && list_all p (map f xs)) e)
+fails_at f p (y ∷ xs) (suc i) x within is fails = and_false (p (f y)) (list_all p (map f xs)) (fails_at f p xs i x (omega (arith, within)) is fails)

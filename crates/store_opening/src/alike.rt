@@ -1,7 +1,7 @@
 //! Whether the texts of repositories spell schemas, and are those of repository 0.
 
 ghost use Rattle.std.specs.List.{AllByRecursion};
-ghost use Rattle.std.specs.Prelude.{IfErr, IfOk, IsErrOf, IsTrue, Ok, OnOk, length, ◌≡◌, ◌↔◌, ⊥, ℕ};
+ghost use Rattle.std.specs.Prelude.{IfErr, IfOk, IsErrOf, IsTrue, Ok, OnOk, length, ◌≡◌, ◌↔◌, ℕ};
 ghost use Rattle.store_opening.specs.Fitting.{IsAlike, IsFirstNot, IsRead, SpellFor};
 ghost use Rattle.store_opening.specs.Joined.{AreKept, read_states, state_of};
 ghost use Rattle.store_opening.specs.Standing.{HaveSameTexts, IsStanding, member_of, members_of};

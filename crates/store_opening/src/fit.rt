@@ -2,7 +2,7 @@
 
 ghost use Rattle.class_defs.specs.SchemaRules.{schema_rules};
 ghost use Rattle.std.specs.List.{AllByRecursion};
-ghost use Rattle.std.specs.Prelude.{IfOk, IsErrOf, OnOk, [], length, ◌≡◌, ◌≤◌, ⊥, ℕ};
+ghost use Rattle.std.specs.Prelude.{IfOk, IsErrOf, OnOk, [], length, ◌≡◌, ◌≤◌, ℕ};
 ghost use Rattle.store_check.specs.Fits.{TellsFit, stored_under};
 ghost use Rattle.store_check.specs.declared.fitting.Fitting.TheVariants.{Fits};
 ghost use Rattle.store_opening.specs.Fitting.{ArePassed, AreSchemasOf, FailsFrom, FailsIn, FitTogether, HasCoordinators, HasOwnNames, IsBelow, IsFirstNot, IsMisfit, IsUnfit, IsUnfitIn, PassFrom, stored_of};

@@ -18,7 +18,7 @@ pub loop-preserved : goal.loop-preserved
 loop-preserved c =
     let table = c.args.one.now.read.now.recovered.now.state.table in
     let q : Request = c.in-Some.request.now in
-    let found : first_open (behind ts_cmp c.loop.after table.transactions.pairs) ≡ Some q = ap (λ (t : Contents). first_open (behind ts_cmp c.loop.after t.transactions.pairs)) (sym c.table.ensures) ∙ (sym c.next_open.ensures ∙ ap option_copied c.in-Some.is) in
+    let found : first_open (behind ts_cmp c.loop.after table.transactions.pairs) ≡ Some q = ap (λ (t : Contents). first_open (behind ts_cmp c.loop.after t.transactions.pairs)) (sym c.table-table.ensures) ∙ (sym c.next_open.ensures ∙ ap option_copied c.in-Some.is) in
     left_decides (has_coordinator (read_states c.args.store.now) (member_of c.args.one.now))
     (requests_behind c.loop.after table.transactions.pairs) (requests_behind (Some q.tx) table.transactions.pairs) q
     (list_all (has_coordinator (read_states c.args.store.now) (member_of c.args.one.now)) (state_of c.args.one.now.read.now).prepared)
@@ -29,21 +29,19 @@ pub returns-then-not-has_coordinator : goal.returns-then-not-has_coordinator
 returns-then-not-has_coordinator c =
     let table = c.args.one.now.read.now.recovered.now.state.table in
     let q : Request = c.in-Some.request.now in
-    let found : first_open (behind ts_cmp c.loop.after table.transactions.pairs) ≡ Some q = ap (λ (t : Contents). first_open (behind ts_cmp c.loop.after t.transactions.pairs)) (sym c.table.ensures) ∙ (sym c.next_open.ensures ∙ ap option_copied c.in-Some.is) in (
-      λ no. cc,
-      λ all. left_fails (has_coordinator (read_states c.args.store.now) (member_of c.args.one.now))
-          (requests_behind c.loop.after table.transactions.pairs) (requests_behind (Some q.tx) table.transactions.pairs) q
-          (list_all (has_coordinator (read_states c.args.store.now) (member_of c.args.one.now)) (state_of c.args.one.now.read.now).prepared)
-          (walk_on c.args.one.now.read.now.recovered.now.state.repo table c.requires.kept.keeps.table c.loop.after q found)
-          c.loop.invariant (sym c.has_coordinator.ensures ∙ c.if-not-has_coordinator.true) ∙ all,
-    )
+    let found : first_open (behind ts_cmp c.loop.after table.transactions.pairs) ≡ Some q = ap (λ (t : Contents). first_open (behind ts_cmp c.loop.after t.transactions.pairs)) (sym c.table-table.ensures) ∙ (sym c.next_open.ensures ∙ ap option_copied c.in-Some.is) in
+    (λ no. cc,
+    λ all. left_fails (has_coordinator (read_states c.args.store.now) (member_of c.args.one.now))
+        (requests_behind c.loop.after table.transactions.pairs) (requests_behind (Some q.tx) table.transactions.pairs) q
+        (list_all (has_coordinator (read_states c.args.store.now) (member_of c.args.one.now)) (state_of c.args.one.now.read.now).prepared)
+        (walk_on c.args.one.now.read.now.recovered.now.state.repo table c.requires.kept.keeps.table c.loop.after q found)
+        c.loop.invariant (sym c.has_coordinator.ensures ∙ c.if-not-has_coordinator.true) ∙ all)
 
 pub returns-in_default : goal.returns-in_default
 returns-in_default c =
     let table = c.args.one.now.read.now.recovered.now.state.table in
-    let none : first_open (behind ts_cmp c.loop.after table.transactions.pairs) ≡ None = ap (λ (t : Contents). first_open (behind ts_cmp c.loop.after t.transactions.pairs)) (sym c.table.ensures) ∙ (sym c.next_open.ensures ∙ ap option_copied c.in_default.is) in (
-      λ yes. sym (none_left (has_coordinator (read_states c.args.store.now) (member_of c.args.one.now)) (requests_behind c.loop.after table.transactions.pairs)
-          (list_all (has_coordinator (read_states c.args.store.now) (member_of c.args.one.now)) (state_of c.args.one.now.read.now).prepared)
-          (walk_none (behind ts_cmp c.loop.after table.transactions.pairs) none) c.loop.invariant),
-      λ all. refl,
-    )
+    let none : first_open (behind ts_cmp c.loop.after table.transactions.pairs) ≡ None = ap (λ (t : Contents). first_open (behind ts_cmp c.loop.after t.transactions.pairs)) (sym c.table-table.ensures) ∙ (sym c.next_open.ensures ∙ ap option_copied c.in_default.is) in
+    (λ yes. sym (none_left (has_coordinator (read_states c.args.store.now) (member_of c.args.one.now)) (requests_behind c.loop.after table.transactions.pairs)
+        (list_all (has_coordinator (read_states c.args.store.now) (member_of c.args.one.now)) (state_of c.args.one.now.read.now).prepared)
+        (walk_none (behind ts_cmp c.loop.after table.transactions.pairs) none) c.loop.invariant),
+    λ all. refl)

@@ -15,7 +15,7 @@ pub loop-preserved : goal.loop-preserved
 loop-preserved c =
     let table = c.args.one.now.read.now.recovered.now.state.table in
     let t = c.in-Some.tx in
-    let found : first_kept (behind ts_cmp c.loop.after table.transactions.pairs) ≡ Some t = ap (λ (t : Contents). first_kept (behind ts_cmp c.loop.after t.transactions.pairs)) (sym c.table.ensures) ∙ (sym c.next_kept.ensures ∙ c.in-Some.is) in
+    let found : first_kept (behind ts_cmp c.loop.after table.transactions.pairs) ≡ Some t = ap (λ (t : Contents). first_kept (behind ts_cmp c.loop.after t.transactions.pairs)) (sym c.table-table.ensures) ∙ (sym c.next_kept.ensures ∙ c.in-Some.is) in
     left_decides (is_at_most c.args.threshold)
     (kept_behind c.loop.after table.transactions.pairs) (kept_behind (Some t) table.transactions.pairs) t
     (list_all (is_at_most c.args.threshold) (state_of c.args.one.now.read.now).kept)
@@ -26,7 +26,7 @@ pub returns-then-not-is_at_most : goal.returns-then-not-is_at_most
 returns-then-not-is_at_most c =
     let table = c.args.one.now.read.now.recovered.now.state.table in
     let t = c.in-Some.tx in
-    let found : first_kept (behind ts_cmp c.loop.after table.transactions.pairs) ≡ Some t = ap (λ (t : Contents). first_kept (behind ts_cmp c.loop.after t.transactions.pairs)) (sym c.table.ensures) ∙ (sym c.next_kept.ensures ∙ c.in-Some.is) in
+    let found : first_kept (behind ts_cmp c.loop.after table.transactions.pairs) ≡ Some t = ap (λ (t : Contents). first_kept (behind ts_cmp c.loop.after t.transactions.pairs)) (sym c.table-table.ensures) ∙ (sym c.next_kept.ensures ∙ c.in-Some.is) in
     left_fails (is_at_most c.args.threshold)
     (kept_behind c.loop.after table.transactions.pairs) (kept_behind (Some t) table.transactions.pairs) t
     (list_all (is_at_most c.args.threshold) (state_of c.args.one.now.read.now).kept)
@@ -36,7 +36,7 @@ returns-then-not-is_at_most c =
 pub returns-in_default : goal.returns-in_default
 returns-in_default c =
     let table = c.args.one.now.read.now.recovered.now.state.table in
-    let none : first_kept (behind ts_cmp c.loop.after table.transactions.pairs) ≡ None = ap (λ (t : Contents). first_kept (behind ts_cmp c.loop.after t.transactions.pairs)) (sym c.table.ensures) ∙ (sym c.next_kept.ensures ∙ c.in_default.is) in
+    let none : first_kept (behind ts_cmp c.loop.after table.transactions.pairs) ≡ None = ap (λ (t : Contents). first_kept (behind ts_cmp c.loop.after t.transactions.pairs)) (sym c.table-table.ensures) ∙ (sym c.next_kept.ensures ∙ c.in_default.is) in
     none_left (is_at_most c.args.threshold) (kept_behind c.loop.after table.transactions.pairs)
     (list_all (is_at_most c.args.threshold) (state_of c.args.one.now.read.now).kept)
     (walk_none_kept (behind ts_cmp c.loop.after table.transactions.pairs) none) c.loop.invariant
