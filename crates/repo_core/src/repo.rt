@@ -88,7 +88,14 @@ impl<P: Parts> Repo<P> {
         } = self;
         drop(memory);
         drop(trace);
-        let has_fallen = stable.parts().fell() != 0;
+        let has_fallen = has_fallen(stable.parts().fell());
         (stable.into_parts(), has_fallen)
     }
+}
+
+/// Whether a stop fell, of which this is how often it did.
+fn has_fallen(count: u64) -> bool
+    ensures { result ≡ false → count ≡ 0 }
+{
+    count != 0
 }
