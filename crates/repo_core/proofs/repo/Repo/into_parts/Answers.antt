@@ -12,7 +12,7 @@ returns g c = λ none.
     let disks = g.P.Parts.disks in
     let i = c.self.inside in
     let inside = parts_in i.stable in
-    let told = fell_inside disks inside (sym c.fell.ensures ∙ c.has_fallen-has_fallen.ensures none) in
+    let told = fell_inside disks inside (sym c.fell.ensures ∙ c.fell_once-has_fallen.ensures none) in
     let counted = shown_of (disks_of disks i.stable) (disks (parts_of inside)).faults told in
     subst (λ p. NoneFell (count_at c.args.self.faults) (disks p).faults) (sym c.into_parts.ensures)
     (subst (λ (s : Shown). NoneFell (count_at s.faults) (disks (parts_of inside)).faults) c.self.view_is counted)
