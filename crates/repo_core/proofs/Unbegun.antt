@@ -6,7 +6,9 @@ use Rattle.repo_durable.proofs.Failing.{failed_after, failed_before, fell_none, 
 use Rattle.repo_durable.specs.Failing.{HasFailed, NoneFell, is_stopped}
 use Rattle.repo_refusals.specs.declared.refusal.Refusal.TheVariants as refused
 use Rattle.repo_refusals.specs.declared.refusal.Refusal.{Refusal}
-use Rattle.std.proofs.Common.{Err, IfErr, IfOk, Ok, Result, arith, refl, subst, suc, sym, true, zero, ℕ, ◌-◌, ◌<◌, ◌^◌, ◌≡◌, ◌≤◌}
+use Rattle.std.proofs.lemmas.Bool.Decides.{nat_tests}
+use Rattle.std.proofs.lemmas.Bool.{not-false}
+use Rattle.std.proofs.Common.{Err, IfErr, IfOk, Ok, Result, arith, false, nat_eq, not, refl, subst, suc, sym, true, zero, ℕ, ◌-◌, ◌<◌, ◌^◌, ◌≡◌, ◌≤◌}
 
 -- what is shown of the counts is that of the disks
 pub shown_of : (disks : Disks) (new : ℕ → ℕ) → NoneFell disks.faults new → NoneFell (count_at (counts_in disks)) new
@@ -42,6 +44,10 @@ failed_out disks y new failed none =
 -- the counts behind it, where none failed
 pub fell_out : (disks : Disks) (y : Shown) → y.faults ≡ counts_in disks → NoneFell disks.faults (faults_of y)
 fell_out disks y stays = subst (λ (p : ℕ × ℕ × ℕ). NoneFell disks.faults (count_at p)) (sym stays) (shown_in disks disks.faults (fell_none disks.faults))
+
+-- no stop fell
+pub no_fall : (n : ℕ) → not (nat_eq n 0) ≡ false → n ≡ 0
+no_fall n none = grind (arith, nat_tests, not-false (nat_eq n 0) none)
 
 pub stopped_of : (r : Refusal) → is_stopped r ≡ true → (n : ℕ) × (r ≡ refused.Stopped n)
 stopped_of (refused.Stopped n) is = (n, refl)

@@ -88,14 +88,7 @@ impl<P: Parts> Repo<P> {
         } = self;
         drop(memory);
         drop(trace);
-        let has_fallen = fell_once(stable.parts().fell());
+        let has_fallen = stable.parts().fell() != 0;
         (stable.into_parts(), has_fallen)
     }
-}
-
-/// Whether a stop fell, of which this is how often it did.
-fn fell_once(count: u64) -> bool
-    ensures { result ≡ false → count ≡ 0 }
-{
-    count != 0
 }
