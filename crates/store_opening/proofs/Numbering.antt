@@ -17,7 +17,7 @@ numbered_more r n [] s is =
     ap (λ (k : ℕ). record { number = k; state = s } ∷ []) e
 numbered_more r n (t ∷ states) s is = ap (λ ms. record { number = r; state = t } ∷ ms) (numbered_more (suc r) n states s (omega (arith, is)))
 
-mapped_length : {X Y : Type 0} (f : X → Y) (xs : List X) → length (map f xs) ≡ length xs
+pub mapped_length : {X Y : Type 0} (f : X → Y) (xs : List X) → length (map f xs) ≡ length xs
 mapped_length f [] = refl
 mapped_length f (x ∷ xs) = ap suc (mapped_length f xs)
 
@@ -48,3 +48,15 @@ each_more store standing now' one pushed each is = subst (AllByRecursion (IsStan
 
 pub count_more : (standing now' : List Stands) (one : Stands) (i : ℕ) → now' ≡ standing ++ one ∷ [] → length standing ≡ i → length now' ≡ i + 1
 count_more standing now' one i pushed count = ap length pushed ∙ (length-append standing (one ∷ []) ∙ ap (λ n. n + 1) count)
+
+-- ---- the first, and the others
+
+module _ (store : List Read) (standing : List Stands) (first : Stands) (others : List Stands) (is : standing ≡ first ∷ others) (all : AreStanding store standing) where
+  pub first_stands : IsStanding store first
+  first_stands = (subst (AllByRecursion (IsStanding store)) is all.each).0
+
+  pub others_stand : AllByRecursion (IsStanding store) others
+  others_stand = (subst (AllByRecursion (IsStanding store)) is all.each).1
+
+  pub first_member : members_from 0 (read_states store) ≡ member_of first ∷ members_of others
+  first_member = sym all.members ∙ ap members_of is

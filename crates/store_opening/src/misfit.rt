@@ -1,7 +1,7 @@
 //! Why repositories weren't found to fit together.
 
 ghost use Rattle.std.specs.Prelude.{◌≡◌};
-ghost use Rattle.store_opening.specs.declared.misfit.Misfit.TheVariants as misfit;
+ghost use Rattle.store_opening.specs.declared.misfit.Misfit.TheVariants.{NoMemory as OutOfMemory};
 
 use thor_value::NoMemory;
 
@@ -15,6 +15,8 @@ pub(crate) enum Misfit {
 }
 
 impl From<NoMemory> for Misfit {
+    ghost from_gives = { λ _ fault. fault ≡ OutOfMemory };
+
     fn from(_refused: NoMemory) -> Misfit {
         Misfit::NoMemory
     }

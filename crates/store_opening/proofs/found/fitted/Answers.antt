@@ -1,16 +1,13 @@
 use Rattle.repo_opening.specs.declared.unopened.Unopened.TheVariants.{Damaged, Failed}
-use Rattle.std.proofs.Common.{Err, ap, rules, sym, ℕ, ◌∙◌, ◌≡◌}
-use Rattle.store_opening.specs.declared.misfit.Misfit.TheVariants.{Of}
+use Rattle.std.proofs.Common.{rules, ◌≡◌}
+use Rattle.store_opening.proofs.Told.{told_of}
 use Rattle.store_opening.proofs.found.fitted.Goals as goal
 
 pub returns-in-Err-Of-clause-damaged : goal.returns-in-Err-Of-clause-damaged
 returns-in-Err-Of-clause-damaged g c = λ r d place is.
     let told : c.misfit_at.result ≡ Damaged r d place = search rules in
     let named = c.misfit_at.ensures.damaged r d place told in
-    let first = c.in-Err-Of.is in
-    let second = c.in-Err-Of.field-0-is in
-    let here : c.args.checked ≡ Err (Of c.in-Err-Of.repo) = cc in
-    (named.0, here ∙ ap (λ (n : ℕ). Err (Of n)) (sym named.1))
+    (named.0, told_of c.args.checked c.in-Err-Of.field-0 c.in-Err-Of.repo r c.in-Err-Of.is c.in-Err-Of.field-0-is named.1)
 
 pub returns-in-Err-Of-clause-failed : goal.returns-in-Err-Of-clause-failed
 returns-in-Err-Of-clause-failed g c = λ r is.
