@@ -37,15 +37,27 @@ TellsDisk (reply.NoReport line) = ⊥
 pub no_disk : (r : Result Reply NoMemory) (Replies : Reply → Type 0) (repo : ℕ) → ((w : Reply) → Replies w → TellsDisk w → ⊥) → IfOk r Replies → r ≡ Ok (reply.DiskFault repo) → ⊥
 no_disk (Ok w) Replies repo none replied is = none w replied (subst TellsDisk (sym (same w is)) tt)
   where
-    same : (v : Reply) → Ok v ≡ Ok (reply.DiskFault repo) → v ≡ reply.DiskFault repo
+    same : (v : Reply) → ◌≡◌ {A = Result Reply NoMemory} (Ok v) (Ok (reply.DiskFault repo)) → v ≡ reply.DiskFault repo
     same v e = cc
 no_disk (Err e) Replies repo none replied is = absurd (cc)
+
+pub other_disk : (r : Result Reply NoMemory) (w : Reply) (repo : ℕ) → r ≡ Ok w → (TellsDisk w → ⊥) → r ≡ Ok (reply.DiskFault repo) → ⊥
+other_disk r w repo made none is = none (subst TellsDisk (sym (same w (sym made ∙ is))) tt)
+  where
+    same : (v : Reply) → ◌≡◌ {A = Result Reply NoMemory} (Ok v) (Ok (reply.DiskFault repo)) → v ≡ reply.DiskFault repo
+    same v e = cc
+
+pub err_disk : (r : Result Reply NoMemory) (e : NoMemory) (repo : ℕ) → r ≡ Err e → r ≡ Ok (reply.DiskFault repo) → ⊥
+err_disk r e repo made is = by (sym made ∙ is)
+  where
+    by : ◌≡◌ {A = Result Reply NoMemory} (Err e) (Ok (reply.DiskFault repo)) → ⊥
+    by no = cc
 
 -- where the reply tells why a store couldn't be read
 pub why_disk : (why : Unopened) (r : Result Reply NoMemory) (repo : ℕ) → IfOk r (RepliesWhy why) → r ≡ Ok (reply.DiskFault repo) → why ≡ why.Failed repo
 why_disk w (Ok v) repo told is = by w (subst (RepliesWhy w) (same v is) told)
   where
-    same : (v : Reply) → Ok v ≡ Ok (reply.DiskFault repo) → v ≡ reply.DiskFault repo
+    same : (v : Reply) → ◌≡◌ {A = Result Reply NoMemory} (Ok v) (Ok (reply.DiskFault repo)) → v ≡ reply.DiskFault repo
     same v e = cc
 
     one : (a b : ℕ) → reply.DiskFault a ≡ reply.DiskFault b → b ≡ a

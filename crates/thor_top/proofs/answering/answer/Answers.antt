@@ -5,7 +5,9 @@ use Rattle.thor_top.proofs.HistoryLaws.{one_in_turn}
 use Rattle.thor_top.proofs.LineLaws.{none_said, other_lines}
 use Rattle.thor_top.proofs.ReplyLaws.{audit_writes, check_writes, handed_is, no_words, one_audit, one_check, words_say, writes_nothing}
 use Rattle.thor_value.specs.declared.memory.NoMemory.{NoMemory}
+use Rattle.top_judging.proofs.DiskLaws.{err_disk, other_disk}
 use Rattle.top_judging.proofs.StageLaws.{ok_map}
+use Rattle.top_reply.specs.declared.reply.Reply.TheVariants.{Words as TheWords}
 use Rattle.top_reply.specs.declared.reply.Reply.{Reply}
 use Rattle.top_statement.specs.Top.{IsForOthers, IsHanded, IsNoPlan, IsPlan, Says, Told, told_by}
 use Rattle.top_words.specs.Words.{Gives, plan_of}
@@ -89,3 +91,9 @@ returns-in-Err-Words-clause-left g c = λ p is turn tells. absurd (subst (λ (q 
 
 pub returns-in-Err-NoMemory-clause-left : goal.returns-in-Err-NoMemory-clause-left
 returns-in-Err-NoMemory-clause-left g c = λ p is turn tells. absurd (subst (λ (q : Result Reply NoMemory). TellsRunBy q) c.untouched-in-Err-NoMemory.ensures.reply tells)
+
+pub returns-in-Err-Words-clause-failed : goal.returns-in-Err-Words-clause-failed
+returns-in-Err-Words-clause-failed g c = λ repo is. absurd (other_disk c.untouched.result.reply TheWords repo c.untouched.ensures.reply (λ t. t) is)
+
+pub returns-in-Err-NoMemory-clause-failed : goal.returns-in-Err-NoMemory-clause-failed
+returns-in-Err-NoMemory-clause-failed g c = λ repo is. absurd (err_disk c.untouched-in-Err-NoMemory.result.reply _ repo c.untouched-in-Err-NoMemory.ensures.reply is)

@@ -4,7 +4,8 @@ use Rattle.thor_top.proofs.LineLaws.{awaited_by}
 use Rattle.thor_top.proofs.StageLaws.{for_store, foretells_map, ok_always}
 use Rattle.thor_top.specs.Stages.{Foretells, IsAwaited, IsAwaitedBy}
 use Rattle.thor_value.specs.declared.memory.NoMemory.{NoMemory}
-use Rattle.top_judging.proofs.DiskLaws.{no_disk, unread_for_disk}
+use Rattle.top_judging.proofs.DiskLaws.{no_disk, other_disk, unread_for_disk}
+use Rattle.top_reply.specs.declared.reply.Reply.TheVariants.{Words as TheWords}
 use Rattle.top_judging.proofs.StageLaws.{err_map, none_says, ok_map, script_says, unsettled_replies}
 use Rattle.top_judging.specs.Stages.{RepliesUnsettled}
 use Rattle.top_judging.specs.Origins.{RepliesUnreadFor}
@@ -119,3 +120,6 @@ returns-in-Err-clause-failed g c = λ repo is.
     let before : Told = told_by g.S.Source.left g.S.Source.faults c.args.source.now in
     let after : Told = told_by g.S.Source.left g.S.Source.faults c.script_of.new.source in
     absurd (no_disk c.in-Err.reply (RepliesUnreadFor (origin_of plan.command) plan before after) repo (unread_for_disk (origin_of plan.command) plan before after) c.in-Err.ensures.reply (sym c.untouched-in-Err.ensures.reply ∙ is))
+
+pub returns-then-not-are_parts_of-clause-failed : goal.returns-then-not-are_parts_of-clause-failed
+returns-then-not-are_parts_of-clause-failed g c = λ repo is. absurd (other_disk c.untouched.result.reply TheWords repo c.untouched.ensures.reply (λ t. t) is)

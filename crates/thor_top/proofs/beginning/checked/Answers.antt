@@ -1,7 +1,9 @@
 use Rattle.std.proofs.Common.{IfOk, Result, subst, sym}
 use Rattle.store_opening.specs.Reading.{ReadAll}
 use Rattle.thor_value.specs.declared.memory.NoMemory.{NoMemory}
+use Rattle.top_judging.proofs.DiskLaws.{other_disk}
 use Rattle.top_judging.proofs.StageLaws.{fits_disks, spelled_by}
+use Rattle.top_reply.specs.declared.reply.Reply.TheVariants.{Accepted as IsAccepted}
 use Rattle.top_reply.specs.declared.reply.Reply.{Reply}
 use Rattle.top_statement.specs.Top.{RepliesTo}
 use Rattle.top_statement.specs.Telling.{TellsNoRun}
@@ -25,3 +27,6 @@ returns-clause-same g c = λ given has. rw c.unplayed.ensures.parts (c.into_part
 
 pub returns-clause-untold : goal.returns-clause-untold
 returns-clause-untold g c = subst (λ (q : Result Reply NoMemory). TellsNoRun q) (sym c.unplayed.ensures.reply) (λ tells. tells)
+
+pub returns-clause-never : goal.returns-clause-never
+returns-clause-never g c = λ repo is. other_disk c.unplayed.result.reply IsAccepted repo c.unplayed.ensures.reply (λ t. t) is

@@ -3,6 +3,7 @@ use Rattle.store_opening.specs.Reading.{ReadAll}
 use Rattle.thor_top.proofs.StageLaws.{foretells_run, of_disks}
 use Rattle.thor_top.specs.Stages.{Foretells, RepliesRun}
 use Rattle.thor_top.specs.declared.expected.Expected.{Expected}
+use Rattle.top_judging.proofs.DiskLaws.{err_disk}
 use Rattle.top_judging.proofs.StageLaws.{spelled_by}
 use Rattle.top_reply.specs.declared.reply.Reply.{Reply}
 use Rattle.top_reply.specs.declared.running.Running.{Running}
@@ -31,3 +32,6 @@ returns-in-Ok-clause-awaits g c = λ given stored.
       store_is = c.in-Ok.ensures.store;
       of_disks = of_disks D c.args.script.setup c.args.judged.base c.args.judged.found.store c.in-Ok.opened.store stored c.in-Ok.ensures.opened;
     }
+
+pub returns-in-Err-clause-never : goal.returns-in-Err-clause-never
+returns-in-Err-clause-never g c = λ repo is. err_disk c.unplayed.result.reply _ repo c.unplayed.ensures.reply is
