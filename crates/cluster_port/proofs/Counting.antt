@@ -57,7 +57,7 @@ failed_then r xs ys zs same f = by (at xs ys r f.before same f.was)
     at [] [] r y same is = cc
     at [] (z ∷ ys) r y same is = absurd same
     at (x ∷ xs) [] r y same is = absurd same
-    at (x ∷ xs) (z ∷ ys) zero y same is = (x, (refl, subst (λ (w : Sited). w.shown.faults ≡ x.shown.faults) (some_of z y is) same.0))
+    at (x ∷ xs) (z ∷ ys) zero y same is = (x, refl, subst (λ (w : Sited). w.shown.faults ≡ x.shown.faults) (some_of z y is) same.0)
     at (x ∷ xs) (z ∷ ys) (suc r) y same is = at xs ys r y same.1 is
 
     by : (x : Sited) × (slice_get xs r ≡ Some x) × (f.before.shown.faults ≡ x.shown.faults) → FailedAt r xs zs
