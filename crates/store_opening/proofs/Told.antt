@@ -5,7 +5,7 @@ use Rattle.class_defs.specs.declared.store.Root.{Root}
 use Rattle.class_defs.specs.declared.store.Schemas.{Schemas}
 use Rattle.log_codec.specs.declared.state.State.{State}
 use Rattle.repo_opening.specs.declared.repository.Read.{Read}
-use Rattle.std.proofs.Common.{Bool, Err, IfOk, IsErrOf, List, Ok, OnOk, Option, Result, [], ap, false, inl, inr, length, subst, sym, true, ℕ, ◌↔◌, ◌∙◌, ◌≡◌, ◌⊎◌}
+use Rattle.std.proofs.Common.{Bool, Err, IfOk, IsErrOf, List, Ok, OnOk, Option, Result, [], false, inl, inr, length, subst, sym, true, ℕ, ◌↔◌, ◌∙◌, ◌≡◌, ◌⊎◌}
 use Rattle.std.specs.Prelude.{IsTrue}
 use Rattle.store_check.specs.Fits.{TellsFit, stored_under}
 use Rattle.store_check.specs.Spelled.{FindsOnly, SpellSchemas}
@@ -26,9 +26,6 @@ told r = Err (Of r)
 
 pub of_same : {A : Type 0} (a r : ℕ) → IsErrOf {T = A} {E = Misfit} (Err (Of a)) (Of r) → r ≡ a
 of_same {A} a r is = let same : told {A = A} a ≡ told r = is in cc
-
-pub told_of : {A : Type 0} (checked : Result A Misfit) (f : Misfit) (repo r : ℕ) → checked ≡ Err f → f ≡ Of repo → r ≡ repo → IsErrOf checked (Of r)
-told_of checked f repo r first second named = first ∙ (ap (λ (g : Misfit). Err g) second ∙ ap (λ (n : ℕ). Err (Of n)) (sym named))
 
 -- ---- texts
 

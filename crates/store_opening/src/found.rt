@@ -526,8 +526,18 @@ fn fitted<T: Drop>(reads: &[Read<'_>], checked: Result<T, Misfit>) -> Result<T, 
 {
     match checked {
         Ok(found) => Ok(found),
-        Err(Misfit::Of { repo }) => Err(misfit_at(reads, repo)),
-        Err(Misfit::NoMemory) => Err(Unopened::NoMemory),
+        Err(misfit) => Err(told(reads, misfit)),
+    }
+}
+
+/// What is told where a store wasn't found to fit.
+fn told(reads: &[Read<'_>], misfit: Misfit) -> Unopened
+    ensures damaged { (r d place : ℕ) → result ≡ Damaged r d place → IsCheckpoint reads.now r d place × (misfit ≡ Of r) }
+    ensures failed { (r : ℕ) → result ≡ Failed r → ⊥ }
+{
+    match misfit {
+        Misfit::Of { repo } => misfit_at(reads, repo),
+        Misfit::NoMemory => Unopened::NoMemory,
     }
 }
 
