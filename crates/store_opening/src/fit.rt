@@ -2,7 +2,7 @@
 
 ghost use Rattle.class_defs.specs.SchemaRules.{schema_rules};
 ghost use Rattle.std.specs.List.{AllByRecursion};
-ghost use Rattle.std.specs.Prelude.{IfOk, IsErrOf, OnOk, [], length, ◌≡◌, ◌≤◌, ℕ};
+ghost use Rattle.std.specs.Prelude.{IfOk, IfSome, IsErrOf, OnOk, [], length, ◌≡◌, ◌≤◌, ℕ};
 ghost use Rattle.store_check.specs.Fits.{TellsFit, stored_under};
 ghost use Rattle.store_check.specs.declared.fitting.Fitting.TheVariants.{Fits};
 ghost use Rattle.store_opening.specs.Fitting.{ArePassed, AreSchemasOf, FailsFrom, FailsIn, FitTogether, HasCoordinators, HasOwnNames, IsBelow, IsFirstNot, IsMisfit, IsUnfit, IsUnfitIn, PassFrom, stored_of};
@@ -16,7 +16,7 @@ use crate::joined::joined;
 use crate::misfit::Misfit;
 use crate::separate::{has_coordinators, has_own_names, is_below};
 use crate::standing::{Stands, standing_of};
-use class_defs::Schemas;
+use class_defs::{Roots, Schemas};
 use repo_opening::{Read, number_at};
 use std::alloc::Global;
 use store_check::{Fitting, fits, is_lawful};
@@ -170,12 +170,22 @@ fn check_objects(
     ensures keeps { OnOk result (schema_rules schemas.now.first (length (read_states store.now)) ≡ []) }
     ensures misfit { (r : ℕ) → IsErrOf result (Of r) → IsUnfitIn (read_states store.now) (stored_under schemas.now objects.now (roots_of (read_states store.now))) schemas.now r }
 {
-    let Some(first) = store.first() else {
+    let Some(roots) = first_roots(store) else {
         return Err(Misfit::NoMemory);
     };
-    match fits(alloc, objects, first.recovered.state.roots(), schemas)? {
+    match fits(alloc, objects, roots, schemas)? {
         Fitting::Fits => check_rules(alloc, store, schemas),
         Fitting::Unfit { oref } => Err(Misfit::Of { repo: oref.repo }),
+    }
+}
+
+/// The roots, as repository 0 has them.
+fn first_roots<'a>(store: &'a [Read<'a>]) -> Option<&'a Roots>
+    ensures { IfSome result (λ roots. roots.now ≡ roots_of (read_states store.now)) }
+{
+    match store.first() {
+        Some(first) => Some(first.recovered.state.roots()),
+        None => None,
     }
 }
 
