@@ -54,7 +54,7 @@ err_disk r e repo made is = by (sym made ∙ is)
     by no = cc
 
 -- where the reply tells why a store couldn't be read
-pub why_disk : (why : Unopened) (r : Result Reply NoMemory) (repo : ℕ) → IfOk r (RepliesWhy why) → r ≡ Ok (reply.DiskFault repo) → why ≡ why.Failed repo
+pub why_disk : (w : Unopened) (r : Result Reply NoMemory) (repo : ℕ) → IfOk r (RepliesWhy w) → r ≡ Ok (reply.DiskFault repo) → w ≡ why.Failed repo
 why_disk w (Ok v) repo told is = by w (subst (RepliesWhy w) (same v is) told)
   where
     same : (v : Reply) → ◌≡◌ {A = Result Reply NoMemory} (Ok v) (Ok (reply.DiskFault repo)) → v ≡ reply.DiskFault repo
@@ -74,7 +74,7 @@ why_disk w (Err e) repo told is = absurd (cc)
 pub unjudged_disk : (D : DiskBytes) (plan : Plan) (script : Script) (store : Store) (r : Reply) → RepliesUnjudged D plan script store r → TellsDisk r → ⊥
 unjudged_disk D plan script store r (inl over) tells = subst TellsDisk over.1.0 tells
 unjudged_disk D plan script store r (inr (inl setup)) tells = subst TellsDisk setup.0 tells
-unjudged_disk D plan script store r (inr (inr rule)) tells = subst TellsDisk rule.1.1.0 tells
+unjudged_disk D plan script store r (inr (inr rule)) tells = subst TellsDisk rule.1.1.1.1.0 tells
 
 -- ---- the script
 
