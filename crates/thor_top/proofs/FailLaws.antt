@@ -1,7 +1,7 @@
 -- Of which repository a disk failed, where a store couldn't be opened for a run.
 use Rattle.disk_trait.specs.Disks.{Disks}
 use Rattle.repo_opening.specs.declared.unopened.Unopened.TheVariants.{Failed}
-use Rattle.std.proofs.Common.{Bool, Err, IfErr, IfOk, List, Ok, Result, subst, sym, ℕ, ◌≡◌}
+use Rattle.std.proofs.Common.{Bool, Err, Global, IfErr, IfOk, List, Ok, Result, subst, sym, ℕ, ◌≡◌}
 use Rattle.std.specs.Result.{IsErrAnd}
 use Rattle.store_opening.specs.Failing.{FailsAt}
 use Rattle.store_opening.specs.declared.fault.ClusterFault.{ClusterFault}
@@ -16,10 +16,10 @@ use Rattle.top_reply.specs.declared.form.Form.{Form}
 use Rattle.top_reply.specs.declared.reply.Reply.TheVariants as reply
 use Rattle.top_reply.specs.declared.reply.Reply.{Reply}
 
-pub failed_played : {P F : Type 0} (disks : P → Disks) (given : List P) (played : Result F (ClusterFault P)) (back : Vec P) (r : ℕ)
+pub failed_played : {P F : Type 0} (disks : P → Disks) (given : List P) (played : Result F (ClusterFault P)) (back : Vec P Global) (r : ℕ)
     → IfErr played (λ fault. (n : ℕ) → fault.why ≡ Failed n → FailsAt disks given fault.parts.items n) → IsErrAnd played (λ fault. fault.why ≡ Failed r) → IfErr played (λ fault. back ≡ fault.parts) → FailsAt disks given back.items r
 failed_played disks given (Ok f) back r fails why same = absurd why
-failed_played {P} disks given (Err fault) back r fails why same = subst (λ (v : Vec P). FailsAt disks given v.items r) (sym same) (fails r why)
+failed_played {P} disks given (Err fault) back r fails why same = subst (λ (v : Vec P Global). FailsAt disks given v.items r) (sym same) (fails r why)
 
 -- the reply of a run is of no disk
 pub run_no_disk : (f : Form) (finished : Bool) (text : List ℕ) → TellsDisk (run_reply f finished text) → ⊥
