@@ -51,7 +51,7 @@ pub err_disk : (r : Result Reply NoMemory) (e : NoMemory) (repo : ℕ) → r ≡
 err_disk r e repo made is = by (sym made ∙ is)
   where
     by : ◌≡◌ {A = Result Reply NoMemory} (Err e) (Ok (reply.DiskFault repo)) → ⊥
-    by no = cc
+    by told = cc
 
 -- where the reply tells why a store couldn't be read
 pub why_disk : (w : Unopened) (r : Result Reply NoMemory) (repo : ℕ) → IfOk r (RepliesWhy w) → r ≡ Ok (reply.DiskFault repo) → w ≡ why.Failed repo
