@@ -133,6 +133,9 @@ module _ {P O : Type 0} (disks : P → Disks) where
 pub none_counted : {P : Type 0} (disks : P → Disks) (parts : List P) → length parts ≡ 0 → HaveCounted disks [] parts
 none_counted {P} disks parts none = subst (λ (ps : List P). HaveCounted disks [] ps) (sym (none_in parts none)) tt
 
+pub none_given : {P O : Type 0} (seats : List (Seat P O)) (parts : List P) → length parts ≡ 0 → AllZip (GivesPart {P = P} {O = O}) [] parts
+none_given {P} {O} seats parts none = subst (λ (ps : List P). AllZip (GivesPart {P = P} {O = O}) [] ps) (sym (none_in parts none)) tt
+
 -- a disk failed as transactions were settled, and the parts came back
 pub failed_settling : {P : Type 0} (disks : P → Disks) (given back : List P) (old new : List Sited) (r : ℕ) → NoneFellIn disks given old → FailedAt r old new → HaveCounted disks new back → FailsAt disks given back r
 failed_settling disks given back old new r each f counted =
@@ -153,3 +156,7 @@ is_ok_at r x is = subst (λ (s : Result _ _). IsOk s) (sym is) refl
 
 pub same_err : {T E : Type 0} (r : Result T E) (a b : E) → r ≡ Err a → r ≡ Err b → a ≡ b
 same_err r a b is e = cc
+
+pub no_err : {T E : Type 0} (r : Result T E) (e : E) {Q : Type 0} → IsErrOf r e → IsOk r → Q
+no_err (Ok x) e is ok = absurd (cc)
+no_err (Err f) e is ok = absurd (let no : false ≡ true = ok in cc)

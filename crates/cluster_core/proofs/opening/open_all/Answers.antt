@@ -1,10 +1,29 @@
-use Rattle.cluster_core.proofs.Failing.{failed_all, failed_last, failed_more, fell_all, fell_next}
+use Rattle.cluster_core.proofs.Failing.{failed_all, failed_last, failed_more, fell_all, fell_next, no_err, none_fell}
 use Rattle.cluster_core.specs.Failing.{faults_at}
 use Rattle.cluster_core.proofs.Seating.{begun_left, length_more, next_one, none_left, none_seated, recovered_all, recovered_next, seated_next}
 use Rattle.cluster_core.specs.Seated.{AreBegun, IsSeatedAt}
-use Rattle.std.proofs.Common.{ap, arith, inl, inr, length, refl, subst, suc, sym, ℕ, ◌∙◌, ◌≡◌}
+use Rattle.std.proofs.Common.{ap, arith, inl, inr, length, refl, subst, suc, sym, vec_len, ℕ, ◌∙◌, ◌≡◌}
+use Rattle.repo_opening.specs.declared.unopened.Unopened.TheVariants.{Failed}
 use Rattle.std.specs.Vec.Iter.{into_iter_items}
 use Rattle.cluster_core.proofs.opening.open_all.Goals as goal
+
+pub loop-closed-init : goal.loop-closed-init
+loop-closed-init g c =
+    let all = c.into_iter-closed-iterator.ensures.into_iter_gives in
+    let items = into_iter_items c.into_iter-closed-iterator.result in
+    let none : length c.args.room.items ≡ 0 = omega (arith, c.requires.empty, c.args.room.ok.0) in
+    let repos : c.len-repos.result ≡ vec_len c.args.places = omega (arith, c.len-repos.ensures, c.args.places.ok.0) in
+    let begun : AreBegun g.O.Opening.run c.len-repos.result 0 c.args.places.items = subst (λ (k : ℕ). AreBegun g.O.Opening.run k 0 c.args.places.items) (sym repos) c.requires.begun in (
+      omega (arith, c.requires.empty),
+      omega (arith, c.requires.empty, c.requires.room, all.1),
+      all.0,
+      none_seated 0 c.args.room.items none,
+      subst (λ (n : ℕ). AreBegun g.O.Opening.run c.len-repos.result n items) (sym none) (subst (AreBegun g.O.Opening.run c.len-repos.result 0) (sym all.0) begun),
+      tt,
+      none_fell g.P.Parts.disks (faults_at g.P.Parts.disks) c.args.room.items none,
+      sym none,
+      λ r is. no_err _ (Failed r) is refl,
+    )
 
 pub loop-closed-preserved : goal.loop-closed-preserved
 loop-closed-preserved g c =

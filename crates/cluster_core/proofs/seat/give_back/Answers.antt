@@ -1,8 +1,19 @@
+use Rattle.cluster_core.proofs.Failing.{none_given}
 use Rattle.cluster_core.specs.Failing.{GivesPart}
-use Rattle.std.proofs.Common.{arith}
+use Rattle.std.proofs.Common.{arith, length, ℕ, ◌≡◌}
 use Rattle.std.specs.Vec.Iter.{into_iter_items}
 use Rattle.store_opening.proofs.Places.{next_one, none_left, zip_all, zip_more}
 use Rattle.cluster_core.proofs.seat.give_back.Goals as goal
+
+pub loop-seat-init : goal.loop-seat-init
+loop-seat-init g c =
+    let all = c.into_iter-seat-iterator.ensures.into_iter_gives in
+    let none : length c.args.spare.items ≡ 0 = omega (arith, c.requires.empty, c.args.spare.ok.0) in (
+      omega (arith, c.requires.empty),
+      omega (arith, c.requires.empty, c.requires.room, all.1),
+      all.0,
+      none_given c.args.seats.items c.args.spare.items none,
+    )
 
 pub loop-seat-preserved : goal.loop-seat-preserved
 loop-seat-preserved g c =
