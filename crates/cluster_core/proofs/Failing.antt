@@ -133,6 +133,10 @@ module _ {P O : Type 0} (disks : P → Disks) where
 pub none_counted : {P : Type 0} (disks : P → Disks) (parts : List P) → length parts ≡ 0 → HaveCounted disks [] parts
 none_counted {P} disks parts none = subst (λ (ps : List P). HaveCounted disks [] ps) (sym (none_in parts none)) tt
 
+-- none is open yet
+pub none_opened : {P O : Type 0} (seats : List (Seat P O)) (sites : List Sited) → length sites ≡ 0 → AllZip (IsSite {P = P} {O = O}) [] sites
+none_opened {P} {O} seats sites none = subst (λ (xs : List Sited). AllZip (IsSite {P = P} {O = O}) [] xs) (sym (none_in sites none)) tt
+
 pub none_given : {P O : Type 0} (seats : List (Seat P O)) (parts : List P) → length parts ≡ 0 → AllZip (GivesPart {P = P} {O = O}) [] parts
 none_given {P} {O} seats parts none = subst (λ (ps : List P). AllZip (GivesPart {P = P} {O = O}) [] ps) (sym (none_in parts none)) tt
 

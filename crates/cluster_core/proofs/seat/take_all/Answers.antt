@@ -1,11 +1,10 @@
+use Rattle.cluster_core.proofs.Failing.{none_opened}
 use Rattle.cluster_core.proofs.Seating.{length_more, none_placed, open_left, placed_next, seated_left}
 use Rattle.cluster_core.specs.Failing.{IsSite}
 use Rattle.cluster_core.specs.Seated.{AreOpen, AreSeated}
-use Rattle.cluster_port.specs.Sited.{Sited}
-use Rattle.std.proofs.Common.{List, [], arith, length, subst, sym, ℕ, ◌≡◌}
-use Rattle.std.specs.List.{AllZip}
+use Rattle.std.proofs.Common.{arith, length, subst, sym, ℕ, ◌≡◌}
 use Rattle.std.specs.Vec.Iter.{into_iter_items}
-use Rattle.store_opening.proofs.Places.{next_one, none_in, none_left, zip_all, zip_more}
+use Rattle.store_opening.proofs.Places.{next_one, none_left, zip_all, zip_more}
 use Rattle.cluster_core.proofs.seat.take_all.Goals as goal
 
 pub loop-seat-init : goal.loop-seat-init
@@ -18,7 +17,7 @@ loop-seat-init g c =
       subst (λ (n : ℕ). AreSeated n (into_iter_items c.into_iter-seat-iterator.result)) (sym none) (subst (AreSeated 0) (sym all.0) c.requires.seated),
       subst AreOpen (sym all.0) c.requires.open,
       all.0,
-      subst (λ (xs : List Sited). AllZip IsSite [] xs) (sym (none_in c.args.room.items none)) tt,
+      none_opened c.args.seats.items c.args.room.items none,
     )
 
 pub loop-seat-preserved : goal.loop-seat-preserved
