@@ -21,7 +21,7 @@ returns-clause-committed g c = λ tells.
 
 pub returns-clause-failed : goal.returns-clause-failed
 returns-clause-failed g c = λ given repo called is.
-    failed_played g.P.Parts.disks given c.play-played.result c.replied.result.parts.items repo (c.play-played.ensures.failed given called) (c.replied.ensures.failed repo is) c.replied.ensures.err
+    failed_played g.P.Parts.disks given c.play-played.result c.replied.result.parts repo (c.play-played.ensures.failed given called) (c.replied.ensures.failed repo is) c.replied.ensures.err
 
 pub returns-clause-left : goal.returns-clause-left
 returns-clause-left g c = λ given has tells.

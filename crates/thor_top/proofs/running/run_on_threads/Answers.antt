@@ -13,4 +13,4 @@ returns-clause-committed g c = λ tells.
 
 pub returns-clause-failed : goal.returns-clause-failed
 returns-clause-failed g c = λ given repo called is.
-    failed_played g.P.Parts.disks given c.play_on_threads-played.result c.replied.result.parts.items repo (c.play_on_threads-played.ensures.failed given called) (c.replied.ensures.failed repo is) c.replied.ensures.err
+    failed_played g.P.Parts.disks given c.play_on_threads-played.result c.replied.result.parts repo (c.play_on_threads-played.ensures.failed given called) (c.replied.ensures.failed repo is) c.replied.ensures.err
