@@ -6,3 +6,4 @@ pub mod ReadClauses
 pub mod Rising
 pub mod Spellings
 pub mod TextBytes
+pub mod WordsCompared

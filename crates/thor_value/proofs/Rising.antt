@@ -215,7 +215,10 @@ there_has xs x at h = sym h.there ∙ any_has xs x
 pub gap_has : (xs : List Oref) (x : Oref) (at : ℕ) → IsGap xs x at → false ≡ has (set_of xs) x
 gap_has xs x at h = sym h.absent ∙ any_has xs x
 
-pub ruleset having = (there_has, gap_has)
+pub behind_has : (xs : List Oref) (x : Oref) → IsBehind xs x → false ≡ has (set_of xs) x
+behind_has xs x h = sym h.absent ∙ any_has xs x
+
+pub ruleset having = (there_has, gap_has, behind_has)
 
 pub keys_are : (xs : List Oref) → xs ≡ keys (set_of xs)
 keys_are [] = refl

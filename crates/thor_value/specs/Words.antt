@@ -1,6 +1,6 @@
 -- The texts that a field can hold (this project's): they are short, and their bytes can be printed and stand between
 -- quotation marks.
-use Rattle.std.specs.Prelude.{◌≡◌, ℕ, ◌-◌, ◌≤◌, ◌&&◌, ◌==◌, not, nat_le, Bool, true, List, ◌++◌, length, take, replicate, Option, Some, None, if◌then◌else◌}
+use Rattle.std.specs.Prelude.{◌≡◌, ℕ, ◌-◌, ◌≤◌, ◌&&◌, ◌==◌, not, nat_le, Bool, true, List, ◌++◌, length, take, replicate, slice_get, Option, Some, None, if◌then◌else◌}
 use Rattle.std.specs.List.{list_all}
 use Rattle.thor_value.specs.declared.words.Word.TheInside.{Inside}
 
@@ -23,6 +23,14 @@ word_from bytes = if fits_word bytes then Some bytes else None
 -- a text as it lies in memory: behind its bytes stand zeros
 abbrev pub padded : List ℕ → List ℕ
 padded bytes = bytes ++ replicate (most_word_bytes - length bytes) 0
+
+abbrev byte_or_zero : Option ℕ → ℕ
+byte_or_zero (Some b) = b
+byte_or_zero None = 0
+
+-- the last of some bytes, or 0 where there is none
+abbrev pub last_byte : List ℕ → ℕ
+last_byte bytes = byte_or_zero (slice_get bytes (length bytes - 1))
 
 -- the bytes of a text as it lies in memory
 abbrev pub bytes_in : Inside → List ℕ

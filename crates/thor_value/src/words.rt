@@ -5,7 +5,7 @@ ghost use Rattle.std.specs.List.{list_all};
 ghost use Rattle.std.specs.Str.{bytes_eq};
 ghost use Rattle.std.specs.Cmp.{on_equiv, on_per, partial_equiv_from_equiv};
 ghost use Rattle.std.specs.Cmp.Lexicographic.{pointwise, nat_list_eq_equiv};
-ghost use Rattle.thor_value.specs.Words.{fits_word, is_text_byte, padded, word_from};
+ghost use Rattle.thor_value.specs.Words.{fits_word, is_text_byte, last_byte, padded, word_from};
 
 use std::fmt;
 use std::marker::Model;
@@ -83,15 +83,33 @@ impl Word {
     {
         self.len
     }
+
+    /// Its last byte, or 0 where it has none.
+    fn last(&self) -> u8
+        ensures { result ≡ last_byte self.now }
+    {
+        match self.bytes().last() {
+            Some(byte) => *byte,
+            None => 0,
+        }
+    }
 }
 
-/// Two texts are equal where their bytes are.
+/// Two texts are equal where their bytes are. Texts that aren't equal mostly differ in their lengths or last bytes, so these
+/// are compared first.
 impl PartialEq for Word {
     ghost eq = { λ a b. pointwise nat_eq a b };
 
     ghost laws = { on_per (λ a. a) (partial_equiv_from_equiv nat_list_eq_equiv) };
 
+    #[tactic(auto, using(crate::proofs::WordsCompared::compared))]
     fn eq(&self, other: &Word) -> bool {
+        if self.len != other.len {
+            return false;
+        }
+        if self.last() != other.last() {
+            return false;
+        }
         self.bytes() == other.bytes()
     }
 }
