@@ -7,7 +7,6 @@ use Rattle.serial_model.proofs.Replayed.{front_legal}
 use Rattle.serial_model.specs.History.{IsLegal}
 use Rattle.serial_model.specs.Outcomes.{AreAnswered, AreInClientOrder, AreOfItems, Item, all_items}
 use Rattle.serial_model.specs.declared.entries.Did.{Did}
-use Rattle.serial_model.specs.declared.entries.What.{What}
 use Rattle.serial_model.specs.declared.outcomes.Ended.{Ended}
 use Rattle.report_parse.specs.declared.report.Backup.{Backup}
 use Rattle.report_parse.specs.declared.report.Line.{Line}

@@ -11,7 +11,7 @@ use Rattle.std.specs.Option.{IfSome, option_to_list}
 use Rattle.std.specs.Prelude.{◌++◌, ◌||◌}
 use Rattle.std.specs.declared.cmp.Ordering.TheVariants.{Less, Equal, Greater}
 use Rattle.thor_value.proofs.NameOrders.{oref_total, oref_exact}
-use Rattle.thor_value.proofs.Rising.{all_at, even, none_below, over}
+use Rattle.thor_value.proofs.Rising.{all_at, none_below, over}
 use Rattle.thor_value.specs.Names.{oref_cmp}
 use Rattle.thor_value.specs.Rising.{Rise}
 use Rattle.thor_value.specs.declared.names.Oref.{Oref}

@@ -2,14 +2,14 @@
 use Rattle.client_cache.specs.Copies.{Contents, kept}
 use Rattle.client_state.specs.Writing.{HoldsWritten, is_held_or_created}
 use Rattle.log_entries.specs.declared.request.Request.{Request}
-use Rattle.spec_history.specs.Requests.{has_created, has_written}
+use Rattle.spec_history.specs.Requests.{has_created}
 use Rattle.std.proofs.Common.{Bool, Equal, Greater, Less, List, Ordering, [], ap, cond, false, is_eq, refl, subst, sym, true, ◌∙◌, ◌∷◌, ◌≡◌}
 use Rattle.std.proofs.lemmas.Bool.{and_parts}
 use Rattle.std.proofs.lemmas.Cmp.{eq_by_cmp_equiv}
 use Rattle.std.specs.List.{list_all}
 use Rattle.std.specs.Option.{is_some}
 use Rattle.std.specs.Ordering.{eq_by_cmp}
-use Rattle.std.specs.Prelude.{Option, Some, ◌&&◌, ◌||◌}
+use Rattle.std.specs.Prelude.{Some, ◌&&◌, ◌||◌}
 use Rattle.thor_value.proofs.FiniteMap.{get-insert}
 use Rattle.thor_value.proofs.NameOrders.{oref_exact, oref_total}
 use Rattle.thor_value.specs.FiniteMap.{Map, empty, get, has, insert, overwrite}

@@ -1,5 +1,5 @@
 -- The methods of an epoch are those of its schema.
-use Rattle.std.proofs.Common.{◌≡◌, List, ℕ, zero, suc, map, ap, refl, sym, ◌∙◌}
+use Rattle.std.proofs.Common.{◌≡◌, List, ℕ, zero, suc, ap, sym, ◌∙◌}
 use Rattle.std.proofs.lemmas.Option.{slice_get-map}
 use Rattle.std.specs.Prelude.{Option, Some, None, option_map, slice_get}
 use Rattle.class_defs.specs.Epochs.{schema_at}

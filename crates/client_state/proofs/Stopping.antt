@@ -1,15 +1,14 @@
 -- How links change, one after the other, and at one place.
 use Rattle.client_cache.specs.Copies.{kept}
 use Rattle.client_state.specs.Links.{at_repo, changed_at, link_in, session_in, stopped, waiting}
-use Rattle.client_state.specs.Moving.{HasLeft, HoldsLess, IsSettled, LeavesSome, StopsWaiting}
+use Rattle.client_state.specs.Moving.{HasLeft, LeavesSome, StopsWaiting}
 use Rattle.client_state.specs.declared.held.Held.{Held}
 use Rattle.client_state.specs.declared.link.Link.TheVariants.{Apart, Joined, Unsettled}
 use Rattle.client_state.specs.declared.link.Link.{Link}
-use Rattle.client_state.specs.declared.link.Waits.TheVariants.{Epoch, Idle, Past, Reply}
-use Rattle.client_state.specs.declared.link.Waits.{Waits}
+use Rattle.client_state.specs.declared.link.Waits.TheVariants.{Idle}
 use Rattle.client_state.specs.declared.transaction.Sent.{Sent}
 use Rattle.paused_eval.specs.Copies.{AreAmong}
-use Rattle.std.proofs.Common.{List, [], ap, arith, inl, inr, length, refl, subst, suc, sym, zero, ℕ, ◌+◌, ◌<◌, ◌≡◌, ◌≢◌, ◌≤◌, ◌∙◌, ◌∷◌}
+use Rattle.std.proofs.Common.{List, [], ap, arith, inl, inr, length, refl, suc, sym, zero, ℕ, ◌+◌, ◌<◌, ◌≡◌, ◌≢◌, ◌≤◌, ◌∙◌, ◌∷◌}
 use Rattle.std.proofs.Math.Nat.{eq-or-lt_of_le}
 use Rattle.std.proofs.lemmas.Bool.{cases_eq, cases_lt}
 use Rattle.std.proofs.lemmas.Option.{same_Some, slice_get_past}

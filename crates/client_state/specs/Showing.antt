@@ -13,7 +13,7 @@ use Rattle.client_port.specs.Acting.{Refuses}
 use Rattle.client_port.specs.Views.{View}
 use Rattle.client_port.specs.Works.{AskWork, DecideWork, Does}
 use Rattle.serial_model.specs.declared.outcomes.Cause.{Cause}
-use Rattle.std.specs.Prelude.{Bool, IfOk, Ok, Option, Result, Some, true, ℕ, ◌≡◌}
+use Rattle.std.specs.Prelude.{Bool, IfOk, Ok, Result, Some, true, ℕ, ◌≡◌}
 use Rattle.thor_value.specs.declared.memory.NoMemory.{NoMemory}
 use Rattle.thor_value.specs.declared.names.Ts.{Ts}
 use Rattle.repo_refusals.specs.declared.refusal.Refusal.{Refusal}

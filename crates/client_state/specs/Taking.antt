@@ -1,7 +1,7 @@
 -- What a client makes of a message that it has taken (this project's).
 use Rattle.client_cache.specs.Copies.{changed, kept}
 use Rattle.client_cache.specs.Pages.{on, page_of, same_name, same_page}
-use Rattle.client_cache.specs.Placing.{IsObjectPage, IsPageOf}
+use Rattle.client_cache.specs.Placing.{IsPageOf}
 use Rattle.client_cache.specs.Copies.{Contents}
 use Rattle.client_state.specs.Links.{acknowledged, answered, at_repo}
 use Rattle.client_state.specs.declared.link.Link.{Link}

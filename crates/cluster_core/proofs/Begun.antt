@@ -7,7 +7,7 @@ use Rattle.cluster_port.specs.Begun.{new_base}
 use Rattle.cluster_port.specs.Run.{Run, no_run}
 use Rattle.std.proofs.Common.{Bool, List, [], ap, arith, false, length, refl, subst, suc, sym, true, ℕ, ◌&&◌, ◌+◌, ◌∙◌, ◌∷◌, ◌≡◌}
 use Rattle.std.specs.List.{slice_get}
-use Rattle.std.specs.Prelude.{Option, Some}
+use Rattle.std.specs.Prelude.{Some}
 use Rattle.store_opening.specs.declared.closed.Closed.TheVariants as found
 use Rattle.store_opening.specs.declared.closed.Closed.{Closed}
 

@@ -6,7 +6,7 @@ use Rattle.cluster_port.specs.Run.{Run}
 use Rattle.cluster_port.specs.Sited.{IsLeftOf, IsRightTrace}
 use Rattle.disk_trait.specs.Disks.{Disks}
 use Rattle.repo_trace.specs.declared.trace.Trace.{Trace}
-use Rattle.std.proofs.Common.{Bool, Err, IfOk, List, Ok, OnOk, Result, [], ap, arith, false, length, refl, subst, suc, sym, ℕ, ◌++◌, ◌+◌, ◌∙◌, ◌∷◌, ◌≡◌}
+use Rattle.std.proofs.Common.{Bool, Err, IfOk, List, Ok, OnOk, Result, [], ap, arith, false, length, subst, suc, sym, ℕ, ◌++◌, ◌+◌, ◌∙◌, ◌∷◌, ◌≡◌}
 use Rattle.std.specs.Prelude.{IsOkAnd}
 
 -- so many traces, each right by its base

@@ -6,7 +6,7 @@ use Rattle.cluster_port.specs.Counting.{FailedAt}
 use Rattle.cluster_port.specs.Failing.{HasFailed, NoneFell}
 use Rattle.cluster_port.specs.Sited.{Sited}
 use Rattle.disk_trait.specs.AllDisks.{GoesOn}
-use Rattle.disk_trait.specs.Disks.{Disks, Rose}
+use Rattle.disk_trait.specs.Disks.{Disks}
 use Rattle.repo_core.proofs.DiskFaults.{failed_after, failed_before, fell_fewer, fell_then as falls_then}
 use Rattle.repo_core.specs.Shown.{faults_of}
 use Rattle.repo_opening.specs.Unsound.{Failing}
@@ -17,7 +17,7 @@ use Rattle.std.specs.Prelude.{IsErrOf, IsOk, Some}
 use Rattle.store_opening.proofs.Failing.{get_last, get_more, part_to, zip_at, zip_from, zip_through}
 use Rattle.store_opening.proofs.Places.{none_in, zip_more}
 use Rattle.store_opening.specs.Failing.{AreCalled, FailsAt, IsCalled}
-use Rattle.store_opening.specs.Seated.{HasPart, disks_at}
+use Rattle.store_opening.specs.Seated.{disks_at}
 use Rattle.store_opening.specs.declared.closed.Closed as closed
 
 -- ---- one place

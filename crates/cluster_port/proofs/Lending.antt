@@ -3,7 +3,7 @@ use Rattle.client_port.specs.Growing.{Called, Grew}
 use Rattle.client_port.specs.Views.{Calm, Halted, MayCome, Opened, Unsettled, View}
 use Rattle.client_port.specs.Works.{Answered, Does, IsDown}
 use Rattle.cluster_port.specs.Lent.{AreInPlace, Lent, trace_at, unsettled_at, view_of}
-use Rattle.cluster_port.proofs.Placing.{past, placed_with, set_here, set_length, set_there}
+use Rattle.cluster_port.proofs.Placing.{past, set_here, set_length, set_there}
 use Rattle.repo_site.proofs.Grown.{none_grew}
 use Rattle.repo_site.proofs.Stopping.{does_down}
 use Rattle.repo_site.specs.Standing.{is_client, unsettled_of}
@@ -18,10 +18,10 @@ use Rattle.repo_site.specs.Working.{IfUp, SiteShows}
 use Rattle.spec_history.specs.History.{Base}
 use Rattle.spec_trace.specs.Gaps.{maker}
 use Rattle.spec_trace.specs.Trace.{E, Item}
-use Rattle.std.proofs.Common.{Bool, List, Option, [], ap, cond, false, get_or, inl, inr, length, refl, subst, sym, true, ◌<◌, ◌∙◌, ◌∷◌, ◌≡◌, ◌≤◌, ℕ}
-use Rattle.std.proofs.lemmas.Option.{slice_get_cases, slice_get_read}
+use Rattle.std.proofs.Common.{Bool, List, Option, [], ap, cond, false, get_or, length, refl, subst, sym, true, ◌<◌, ◌∙◌, ◌∷◌, ◌≡◌, ◌≤◌, ℕ}
+use Rattle.std.proofs.lemmas.Option.{slice_get_read}
 use Rattle.std.specs.List.{slice_get}
-use Rattle.std.specs.Prelude.{None, Result, Some, nat_eq, slice_set, suc, zero, ◌≢◌, ◌⊎◌}
+use Rattle.std.specs.Prelude.{None, Result, Some, slice_set, suc, zero, ◌≢◌, ◌⊎◌}
 
 -- ---- what is unsettled of one that is down
 

@@ -1,7 +1,7 @@
 -- Another repository at a place of the list.
 use Rattle.cluster_port.specs.Lent.{AreInPlace}
 use Rattle.repo_site.specs.Sited.{Sited}
-use Rattle.std.proofs.Common.{List, Option, [], ap, false, get_or, inl, inr, length, refl, subst, suc, sym, true, zero, ℕ, ◌<◌, ◌∙◌, ◌∷◌, ◌≡◌, ◌≤◌}
+use Rattle.std.proofs.Common.{List, [], ap, false, get_or, inl, inr, length, refl, subst, suc, sym, true, zero, ℕ, ◌<◌, ◌∙◌, ◌∷◌, ◌≡◌, ◌≤◌}
 use Rattle.std.proofs.lemmas.Option.{slice_get_cases, slice_get_read}
 use Rattle.std.specs.List.{slice_get}
 use Rattle.std.specs.Prelude.{None, Some, slice_set, ◌≢◌, ◌⊎◌}

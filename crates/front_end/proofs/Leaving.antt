@@ -6,10 +6,9 @@ use Rattle.client_state.specs.Links.{at_repo}
 use Rattle.client_state.specs.Moving.{HoldsLess, LeavesLess, LeavesSome}
 use Rattle.client_state.specs.declared.held.Held.{Held}
 use Rattle.client_state.specs.declared.link.Link.TheVariants.{Unsettled}
-use Rattle.client_state.specs.declared.link.Link.{Link}
 use Rattle.client_state.specs.declared.transaction.Sent.{Sent}
 use Rattle.paused_eval.specs.Copies.{AreAmong}
-use Rattle.std.proofs.Common.{ap, inl, refl, subst, sym, ℕ, ◌≡◌, ◌∙◌}
+use Rattle.std.proofs.Common.{ap, inl, refl, ℕ, ◌≡◌, ◌∙◌}
 use Rattle.std.specs.Prelude.{None}
 use Rattle.thor_value.specs.declared.names.Oref.{Oref}
 

@@ -5,15 +5,15 @@ use Rattle.client_items.specs.Meanings.{settled_as}
 use Rattle.client_items.specs.declared.news.Settled.{Settled}
 use Rattle.client_state.proofs.Stopping.{put_back, unsettled_there}
 use Rattle.client_state.specs.Links.{at_repo, link_in}
-use Rattle.client_state.specs.Moving.{HoldsLess, IsSettled, MaySettle}
+use Rattle.client_state.specs.Moving.{HoldsLess, IsSettled}
 use Rattle.client_state.specs.Settling.{SettlesAsSent}
 use Rattle.client_state.specs.declared.held.Held.{Held}
 use Rattle.client_state.specs.declared.link.Link.TheVariants.{Apart, Unsettled}
 use Rattle.client_state.specs.declared.link.Link.{Link}
 use Rattle.client_state.specs.declared.transaction.Sent.{Sent}
 use Rattle.front_end.specs.Moving.{TakesUnsettled}
-use Rattle.std.proofs.Common.{Bool, List, ap, inl, inr, subst, sym, ℕ, ◌≡◌, ◌∙◌}
-use Rattle.std.specs.Prelude.{Option, Some, slice_get}
+use Rattle.std.proofs.Common.{Bool, List, ap, inl, subst, sym, ℕ, ◌≡◌, ◌∙◌}
+use Rattle.std.specs.Prelude.{Some, slice_get}
 
 module _ (repo : ℕ) (a b : Held) (rest : b ≡ record a { links = b.links }) (apart : b.links.items ≡ at_repo a.links.items repo (λ l. Apart)) where
   pub takes_it : (sent : Sent) (index : ℕ) (link : Link) → link ≡ link_in (slice_get a.links.items repo) → link ≡ Unsettled sent index → TakesUnsettled repo sent index a b

@@ -11,7 +11,7 @@ use Rattle.class_defs.specs.declared.classes.Method.{Method}
 use Rattle.class_defs.specs.declared.expressions.Expr.{Expr, out-Expr}
 use Rattle.class_defs.specs.declared.machine.Flow.{Flow}
 use Rattle.class_defs.specs.declared.machine.Receiver.{Receiver}
-use Rattle.class_defs.specs.declared.statements.Stmt.{Stmt, out-Stmt}
+use Rattle.class_defs.specs.declared.statements.Stmt.{Stmt}
 
 abbrev pub value_of : World → ℕ → Expr → Action Value
 value_of w n = (meaning w n).value_of

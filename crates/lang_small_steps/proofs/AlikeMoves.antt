@@ -1,21 +1,21 @@
 -- Small steps go alike over objects among which those that were read are the same; and each `this` that waits is known.
-use Rattle.std.proofs.Common.{◌≡◌, ℕ, zero, suc, Bool, true, false, cond, List, [], ◌∷◌, ◌++◌, Option, Some, None, Result, Ok, Err, refl, ap, sym, ◌∙◌, subst}
+use Rattle.std.proofs.Common.{◌≡◌, ℕ, zero, suc, Bool, true, false, cond, List, [], ◌∷◌, ◌++◌, Option, Some, None, Result, Ok, Err, refl, ap, ◌∙◌, subst}
 use Rattle.std.specs.Prelude.{nat_lt, ◌==◌, if◌then◌else◌}
 use Rattle.thor_value.specs.declared.names.Oref.{Oref}
 use Rattle.thor_value.specs.declared.values.Value.{Value}
 use Rattle.thor_value.specs.declared.values.Value.TheVariants as value
 use Rattle.thor_value.specs.declared.values.Fault.TheVariants as fault
-use Rattle.law_frame.proofs.Alike.{ThisKnown, Sound, Grows, grows_no, grows_on, this_grows, known}
+use Rattle.law_frame.proofs.Alike.{Sound, Grows, grows_no, this_grows, known}
 use Rattle.class_defs.proofs.ActionWords.{over}
-use Rattle.law_frame.proofs.AlikeSteps.{Agree, Alike, Went, on, gives, stops, steps}
+use Rattle.law_frame.proofs.AlikeSteps.{Went, on, gives, stops, steps}
 use Rattle.law_frame.proofs.AlikeObjects.{touch_alike, touch_known, field_value_alike, assign_field_alike, create_alike}
 use Rattle.class_defs.specs.Calls.{owners_at}
-use Rattle.class_defs.specs.Objects.{create, touch, field_value, assign_field}
+use Rattle.class_defs.specs.Objects.{touch}
 use Rattle.class_defs.specs.Statements.{holds}
-use Rattle.class_defs.specs.Steps.{World, Action, after, ◌>>=◌, ◌>>◌, pure, step, change}
+use Rattle.class_defs.specs.Steps.{World, Action, after, ◌>>=◌, ◌>>◌}
 use Rattle.class_defs.specs.Types.{method_of}
 use Rattle.lang_small_steps.specs.Reaches.{Waiting, receiver_in}
-use Rattle.lang_small_steps.specs.Resume.{Left, given, taken, next, give, start, begin, open_block, open_body, open_as, enters, ready, collect, go_on, turned, pop, move, inside, outside, shorten}
+use Rattle.lang_small_steps.specs.Resume.{Left, given, taken, give, start, begin, open_block, open_body, open_as, ready, collect, go_on, turned, pop, move, inside, outside}
 use Rattle.class_defs.specs.declared.classes.Method.{Method}
 use Rattle.class_defs.specs.declared.expressions.Expr.{Expr, out-Expr}
 use Rattle.class_defs.specs.declared.expressions.Expr.TheOpen.{Expr-F}

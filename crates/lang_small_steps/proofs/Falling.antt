@@ -1,8 +1,8 @@
 -- A small step leaves fewer small steps to do.
-use Rattle.std.proofs.Common.{◌≡◌, ℕ, zero, suc, Bool, true, false, cond, List, [], ◌∷◌, ◌++◌, length, Option, Some, None, Result, Ok, Err, refl, ap, sym, ◌∙◌, subst, ◌<◌, ◌≤◌, ◌+◌, ◌-◌, ◌*◌, arith}
+use Rattle.std.proofs.Common.{◌≡◌, ℕ, zero, suc, Bool, true, false, cond, List, [], ◌∷◌, ◌++◌, length, Option, Some, None, Result, Ok, Err, refl, ◌∙◌, subst, ◌<◌, ◌≤◌, ◌+◌, ◌-◌, ◌*◌, arith}
 use Rattle.std.proofs.lemmas.Bool.{ltb-true}
 use Rattle.std.specs.Prelude.{nat_lt, ◌==◌, ◌||◌, if◌then◌else◌, find, is_some}
-use Rattle.lang_small_steps.specs.Due.{due, size, sizes, size_of, IsOpen}
+use Rattle.lang_small_steps.specs.Due.{due, sizes, size_of, IsOpen}
 use Rattle.class_defs.specs.declared.machine.NameSupply.{NameSupply}
 use Rattle.thor_value.specs.FiniteMap.{has, len}
 use Rattle.thor_value.specs.Names.{same_oref}
@@ -12,12 +12,11 @@ use Rattle.thor_value.specs.declared.values.Value.TheVariants as value
 use Rattle.thor_value.specs.declared.values.Fault.TheVariants as fault
 use Rattle.class_defs.specs.declared.limits.TheConstants.{CREATE_LIMIT, READ_LIMIT, STEP_LIMIT}
 use Rattle.class_defs.specs.Calls.{owners_at}
-use Rattle.class_defs.specs.Objects.{make, create_in, take_name, repo_for, assign_receiver, create, touch, seen, with_field, scope_at, named_value, class_found, field_value, assign_field}
+use Rattle.class_defs.specs.Objects.{make, create_in, take_name, repo_for, assign_receiver, create, touch, seen, with_field, class_found, assign_field}
 use Rattle.class_defs.specs.Statements.{holds}
-use Rattle.class_defs.specs.Steps.{World, Action, after, ◌>>=◌, ◌>>◌, pure, step, change}
+use Rattle.class_defs.specs.Steps.{World, Action, after, ◌>>=◌, ◌>>◌, step}
 use Rattle.class_defs.specs.Types.{class_named, field_named, method_of}
-use Rattle.lang_small_steps.specs.Reaches.{Waiting, receiver_in}
-use Rattle.lang_small_steps.specs.Resume.{Left, given, taken, next, give, start, begin, open_block, open_body, open_as, enters, ready, collect, go_on, turned, pop, move, inside, outside, shorten}
+use Rattle.lang_small_steps.specs.Resume.{Left, given, taken, give, start, begin, open_block, open_body, open_as, ready, collect, go_on, turned, pop, move}
 use Rattle.class_defs.specs.declared.classes.Method.{Method}
 use Rattle.class_defs.specs.declared.expressions.Expr.{Expr, out-Expr}
 use Rattle.class_defs.specs.declared.expressions.Expr.TheOpen.{Expr-F}
@@ -35,7 +34,6 @@ use Rattle.class_defs.specs.declared.machine.Stop.TheVariants as stop
 use Rattle.class_defs.specs.declared.statements.Stmt.{Stmt, out-Stmt}
 use Rattle.class_defs.specs.declared.statements.Stmt.TheOpen.{Stmt-F}
 use Rattle.class_defs.specs.declared.store.Object.{Object}
-use Rattle.class_defs.specs.declared.store.Schema.{Schema}
 use Rattle.class_defs.specs.declared.types.ExprType.{ExprType}
 use Rattle.class_defs.specs.declared.types.ExprType.TheVariants as type
 

@@ -1,5 +1,5 @@
 -- Other names at hand: every small step but a creation goes as before, and leaves them.
-use Rattle.std.proofs.Common.{◌≡◌, ℕ, zero, suc, Bool, true, false, cond, List, [], ◌∷◌, ◌++◌, Option, Some, None, Result, Ok, Err, refl, ap, sym, ◌∙◌}
+use Rattle.std.proofs.Common.{◌≡◌, ℕ, zero, suc, Bool, true, false, cond, List, [], ◌∷◌, ◌++◌, Option, Some, None, Result, Ok, Err, refl, ap, ◌∙◌}
 use Rattle.std.specs.Prelude.{nat_lt, ◌+◌, ◌==◌, ◌||◌, if◌then◌else◌, find, is_some}
 use Rattle.thor_value.specs.FiniteMap.{has, len}
 use Rattle.thor_value.specs.Names.{same_oref}
@@ -9,12 +9,11 @@ use Rattle.thor_value.specs.declared.values.Value.TheVariants as value
 use Rattle.thor_value.specs.declared.values.Fault.TheVariants as fault
 use Rattle.class_defs.specs.declared.limits.TheConstants.{READ_LIMIT, STEP_LIMIT}
 use Rattle.class_defs.specs.Calls.{owners_at}
-use Rattle.class_defs.specs.Objects.{assign_receiver, create, touch, seen, with_field, scope_at, named_value, class_found, field_value, assign_field}
+use Rattle.class_defs.specs.Objects.{assign_receiver, touch, seen, with_field, scope_at, named_value, class_found, field_value, assign_field}
 use Rattle.class_defs.specs.Statements.{holds}
-use Rattle.class_defs.specs.Steps.{World, Action, after, ◌>>=◌, ◌>>◌, pure, step, change}
+use Rattle.class_defs.specs.Steps.{World, Action, after, ◌>>=◌, ◌>>◌, step}
 use Rattle.class_defs.specs.Types.{field_named, method_of}
-use Rattle.lang_small_steps.specs.Reaches.{Waiting, receiver_in}
-use Rattle.lang_small_steps.specs.Resume.{Left, given, taken, next, give, start, begin, open_block, open_body, open_as, enters, ready, collect, go_on, turned, pop, move, inside, outside, shorten}
+use Rattle.lang_small_steps.specs.Resume.{Left, given, taken, give, start, begin, open_block, open_body, open_as, enters, ready, collect, go_on, turned, pop, move}
 use Rattle.class_defs.specs.declared.classes.Method.{Method}
 use Rattle.class_defs.specs.declared.expressions.Expr.{Expr, out-Expr}
 use Rattle.class_defs.specs.declared.expressions.Expr.TheOpen.{Expr-F}
@@ -33,7 +32,6 @@ use Rattle.class_defs.specs.declared.machine.Stop.TheVariants as stop
 use Rattle.class_defs.specs.declared.statements.Stmt.{Stmt, out-Stmt}
 use Rattle.class_defs.specs.declared.statements.Stmt.TheOpen.{Stmt-F}
 use Rattle.class_defs.specs.declared.store.Object.{Object}
-use Rattle.class_defs.specs.declared.store.Schema.{Schema}
 use Rattle.class_defs.specs.declared.types.ExprType.{ExprType}
 use Rattle.class_defs.specs.declared.types.ExprType.TheVariants as type
 

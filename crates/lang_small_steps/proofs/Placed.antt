@@ -1,6 +1,5 @@
 -- The statement at a place of a block.
 use Rattle.std.proofs.Common.{◌≡◌, ◌+◌, ◌<◌, ◌≤◌, List, [], ◌∷◌, ℕ, zero, suc, drop, length, refl, ap, ◌∙◌, arith, slice_get, Some, None}
-use Rattle.std.specs.Prelude.{unwrap_or}
 use Rattle.class_defs.specs.declared.statements.Stmt.{Stmt}
 use Rattle.lang_small_steps.specs.Placed.{stmt_at}
 

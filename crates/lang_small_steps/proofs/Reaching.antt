@@ -1,5 +1,5 @@
 -- Runs of small steps: they go on, over any objects that agree on what was read, and with any more names.
-use Rattle.std.proofs.Common.{◌≡◌, ℕ, List, [], ◌∷◌, ◌++◌, Option, Some, None, Result, Ok, Err, refl, ap, sym, ◌∙◌, subst}
+use Rattle.std.proofs.Common.{◌≡◌, ℕ, List, [], ◌∷◌, ◌++◌, Option, Result, Ok, Err, refl, ap, sym, ◌∙◌, subst}
 use Rattle.std.proofs.Common.{append_assoc}
 use Rattle.std.proofs.lemmas.List.{append-nil}
 use Rattle.thor_value.specs.declared.names.Oref.{Oref}
@@ -7,9 +7,9 @@ use Rattle.law_frame.proofs.Alike.{Sound}
 use Rattle.lang_small_steps.proofs.AlikeMoves.{Goes, move_goes}
 use Rattle.lang_small_steps.proofs.MoreCreated.{GoesOn, move_more}
 use Rattle.lang_small_steps.proofs.Sound.{move_sound}
-use Rattle.lang_small_steps.specs.Reaches.{Agree, Begins, Reaches, granted, over, whole}
+use Rattle.lang_small_steps.specs.Reaches.{Agree, Begins, Reaches, granted, over}
 use Rattle.lang_small_steps.specs.Resume.{Left, move, rest_of}
-use Rattle.class_defs.specs.Run.{begun, execute_all}
+use Rattle.class_defs.specs.Run.{execute_all}
 use Rattle.class_defs.specs.Statements.{block_of}
 use Rattle.class_defs.specs.Steps.{Action, after}
 use Rattle.class_defs.specs.declared.machine.Flow.{Flow}

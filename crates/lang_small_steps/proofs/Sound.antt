@@ -1,21 +1,20 @@
 -- A small step leaves what is left of a run, as an action, the same: the whole language.
-use Rattle.std.proofs.Common.{◌≡◌, ℕ, ℤ, zero, suc, Bool, true, false, cond, List, [], ◌∷◌, ◌++◌, length, Option, Some, None, Result, Ok, Err, refl, ap, sym, ◌∙◌}
-use Rattle.std.specs.Prelude.{slice_get, if◌then◌else◌, nat_lt, ◌==◌, pos}
+use Rattle.std.proofs.Common.{◌≡◌, ℕ, ℤ, zero, suc, Bool, true, false, List, [], ◌∷◌, ◌++◌, length, Option, Some, None, Result, Ok, Err, refl, ap, sym, ◌∙◌}
+use Rattle.std.specs.Prelude.{if◌then◌else◌, nat_lt, ◌==◌}
 use Rattle.thor_value.specs.declared.names.Oref.{Oref}
 use Rattle.thor_value.specs.declared.values.Value.{Value}
 use Rattle.thor_value.specs.declared.values.Value.TheVariants as value
 use Rattle.class_defs.specs.Calls.{call, call_object, enter, enter_as, owners_at, result_of, run_body}
-use Rattle.class_defs.specs.Expressions.{combined, expression, value_at, values_from, values_of, called}
+use Rattle.class_defs.specs.Expressions.{combined, expression, value_at, values_from, values_of}
 use Rattle.class_defs.specs.Objects.{create, scope_at, touch}
 use Rattle.class_defs.specs.Run.{meaning}
 use Rattle.class_defs.specs.Statements.{block_of, holds, in_order, repeat, statement, statement_at, turn, unless_returned}
-use Rattle.class_defs.specs.Steps.{World, Action, after, ◌>>=◌, ◌>>◌, pure, step, change, number}
+use Rattle.class_defs.specs.Steps.{World, Action, after, ◌>>=◌, ◌>>◌, pure, step, change}
 use Rattle.class_defs.specs.Types.{method_of, type_named, type_of}
-use Rattle.lang_small_steps.specs.Resume.{Left, giving, given, taken, ended, value_in, block_in, shorten, inside, outside, print, negated, resumed_frame, resume, does, rest_of, next, give, start, begin, open_block, open_body, open_as, enters, ready, collect, go_on, turned, pop, move}
+use Rattle.lang_small_steps.specs.Resume.{Left, giving, given, taken, ended, value_in, block_in, shorten, inside, outside, negated, resumed_frame, resume, does, rest_of, next, give, start, begin, open_block, open_body, open_as, enters, ready, collect, go_on, turned, pop, move}
 use Rattle.class_defs.specs.declared.classes.Method.{Method}
 use Rattle.class_defs.specs.declared.expressions.Expr.{Expr, out-Expr}
 use Rattle.class_defs.specs.declared.expressions.Expr.TheOpen.{Expr-F}
-use Rattle.class_defs.specs.declared.expressions.Operator.{Operator}
 use Rattle.lang_small_steps.specs.declared.frames.Doing.{Doing}
 use Rattle.lang_small_steps.specs.declared.frames.Doing.TheVariants as doing
 use Rattle.lang_small_steps.specs.declared.frames.Frame.{Frame}

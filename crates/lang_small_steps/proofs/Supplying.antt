@@ -2,7 +2,7 @@
 use Rattle.std.proofs.Common.{◌≡◌, ◌<◌, Bool, true, false, cond, List, [], ◌∷◌, ◌++◌, length, ℕ, zero, suc, refl, ap, sym, subst, ◌∙◌, arith, append_assoc, slice_get, Option, Some, None, option_map, Result, Ok, Err}
 use Rattle.std.proofs.lemmas.Bool.Decides.{nat_tests}
 use Rattle.std.specs.List.{position_or_len}
-use Rattle.std.specs.Prelude.{nat_lt, not, position, remove, ◌==◌, ◌+◌}
+use Rattle.std.specs.Prelude.{nat_lt, not, remove, ◌==◌, ◌+◌}
 use Rattle.thor_value.specs.declared.names.Oref.{Oref}
 use Rattle.thor_value.specs.declared.values.Fault.TheVariants as fault
 use Rattle.thor_value.specs.declared.values.Value.{Value}
@@ -13,7 +13,7 @@ use Rattle.class_defs.specs.Steps.{World, Action, after}
 use Rattle.class_defs.specs.Types.{class_named}
 use Rattle.class_defs.specs.declared.expressions.At.{At}
 use Rattle.class_defs.specs.declared.limits.TheConstants.{CREATE_LIMIT}
-use Rattle.class_defs.specs.declared.machine.Flow.TheVariants.{Returned, Next}
+use Rattle.class_defs.specs.declared.machine.Flow.TheVariants.{Returned}
 use Rattle.class_defs.specs.declared.machine.Flow.{Flow}
 use Rattle.class_defs.specs.declared.machine.Machine.{Machine}
 use Rattle.class_defs.specs.declared.machine.NameSupply.{NameSupply}
@@ -24,7 +24,7 @@ use Rattle.lang_small_steps.proofs.Falling.{falls_by}
 use Rattle.lang_small_steps.proofs.MoreNames.{move_adds, IsNoCreation}
 use Rattle.lang_small_steps.proofs.Sound.{move_sound}
 use Rattle.lang_small_steps.specs.Due.{IsOpen, due}
-use Rattle.lang_small_steps.specs.Reaches.{over, whole}
+use Rattle.lang_small_steps.specs.Reaches.{whole}
 use Rattle.lang_small_steps.specs.Resume.{Left, give, move, rest_of}
 use Rattle.lang_small_steps.specs.declared.frames.Doing.{Doing}
 use Rattle.lang_small_steps.specs.declared.frames.Doing.TheVariants as doing

@@ -1,5 +1,5 @@
 -- What is left of a run, as data: what it means, and the small steps that do it.
-use Rattle.std.specs.Prelude.{◌≡◌, ℕ, ℤ, pos, zero, suc, if◌then◌else◌, nat_lt, ◌==◌, ◌+◌, List, [], ◌∷◌, ◌++◌, length, take, Option, Some, None, slice_get, Result, Ok, Err}
+use Rattle.std.specs.Prelude.{◌≡◌, ℕ, ℤ, pos, zero, suc, if◌then◌else◌, nat_lt, ◌==◌, ◌+◌, List, [], ◌∷◌, ◌++◌, length, take, Option, Some, None, Err}
 use Rattle.std.specs.Int.{int_wrapping_sub, w64}
 use Rattle.thor_value.specs.declared.names.Oref.{Oref}
 use Rattle.thor_value.specs.declared.values.Fault.TheVariants.{Steps, NullCall, Depth}

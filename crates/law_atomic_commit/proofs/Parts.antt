@@ -9,7 +9,7 @@ use Rattle.spec_trace.specs.Current.{NoneAborted}
 use Rattle.spec_history.specs.History.{Aborted, Committed, Fate, IsCommitted, Lives, Open, Known, known_by}
 use Rattle.spec_history.specs.Participants.{takes_part}
 use Rattle.spec_history.specs.Sound.{sound}
-use Rattle.std.proofs.Common.{Bool, List, [], ap, arith, false, inl, inr, refl, subst, sym, true, ℕ, ◌++◌, ◌<◌, ◌≡◌, ◌≤◌, ◌∙◌, ◌∷◌}
+use Rattle.std.proofs.Common.{Bool, List, [], ap, false, inl, inr, refl, subst, sym, true, ℕ, ◌++◌, ◌<◌, ◌≡◌, ◌≤◌, ◌∙◌, ◌∷◌}
 use Rattle.std.proofs.lemmas.Bool.{eqb-true, cases_lt}
 use Rattle.std.specs.List.{AllByRecursion, list_any}
 use Rattle.std.specs.Prelude.{None, Option, Some, nat_eq, ◌||◌, ◌⊎◌}

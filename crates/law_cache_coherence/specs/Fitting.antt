@@ -3,14 +3,14 @@
 use Rattle.log_entries.specs.declared.entry.Entry.{Entry}
 use Rattle.log_entries.specs.declared.request.Request.{Request}
 use Rattle.spec_history.specs.History.{Base, IsCommitted, Known, Open, known_by, objects_at, writers}
-use Rattle.spec_history.specs.Requests.{has_written, written}
+use Rattle.spec_history.specs.Requests.{written}
 use Rattle.client_port.specs.Views.{Calm, Unsettled}
 use Rattle.spec_trace.specs.Current.{InStep, IsCurrent, IsOwnWrite, NoneAborted, OthersSince}
 use Rattle.spec_trace.specs.Notices.{is_unended}
 use Rattle.spec_trace.specs.Session.{Grant, Invalid, Notice, Page, Session, Upgrade, is_news, session, session_lives, upto_of, waiting}
 use Rattle.spec_trace.specs.Trace.{Item, entries}
 use Rattle.std.specs.List.{All, filter, list_any}
-use Rattle.std.specs.Option.{IsSomeAnd, option_or}
+use Rattle.std.specs.Option.{option_or}
 use Rattle.std.specs.Prelude.{Bool, List, None, Option, Some, cond, false, length, nat_eq, not, true, ℕ, ◌&&◌, ◌≡◌, ◌≤◌}
 use Rattle.thor_value.specs.FiniteMap.{get, has}
 use Rattle.thor_value.specs.Names.{same_oref}

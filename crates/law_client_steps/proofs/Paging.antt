@@ -24,7 +24,7 @@ use Rattle.std.proofs.lemmas.Bool.{and_parts, eqb-true}
 use Rattle.std.specs.Prelude.{None, Option, Some, nat_eq}
 use Rattle.thor_value.proofs.FiniteMap.{get-insert}
 use Rattle.thor_value.proofs.NameOrders.{oref_total}
-use Rattle.thor_value.specs.FiniteMap.{empty, get, has, overwrite}
+use Rattle.thor_value.specs.FiniteMap.{empty, get, overwrite}
 use Rattle.thor_value.specs.Names.{oref_cmp}
 use Rattle.thor_value.specs.declared.names.Oref.{Oref}
 use Rattle.thor_value.specs.declared.values.Obj.{Obj}

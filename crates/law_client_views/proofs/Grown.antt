@@ -6,7 +6,7 @@ use Rattle.client_port.specs.Growing.{Gains, GainsAll, Grew, MayHalt}
 use Rattle.client_port.specs.Views.{Calm, Halted, MayCome, Unsettled}
 use Rattle.spec_trace.specs.Gaps.{ByOthers}
 use Rattle.spec_trace.specs.Trace.{E, Item, M}
-use Rattle.std.proofs.Common.{List, [], ap, append_assoc, inl, inr, refl, subst, sym, ℕ, ◌++◌, ◌∙◌, ◌∷◌, ◌≡◌, ◌≢◌}
+use Rattle.std.proofs.Common.{List, [], ap, append_assoc, inr, refl, subst, sym, ℕ, ◌++◌, ◌∙◌, ◌∷◌, ◌≡◌, ◌≢◌}
 use Rattle.std.proofs.lemmas.List.{append-nil}
 use Rattle.std.specs.Prelude.{None, Option, Some}
 

@@ -3,10 +3,10 @@ use Rattle.law_client_views.specs.Standing.{ComesUp, FailsBehind, Restarts, Take
 use Rattle.law_repo_memory.specs.Agreeing.{trace_of}
 use Rattle.law_repo_memory.specs.Running.{Repository, recorded_with}
 use Rattle.law_repo_runs.specs.Restarting as runs
-use Rattle.law_repo_runs.specs.Standing.{Down, Phase, Up}
+use Rattle.law_repo_runs.specs.Standing.{Phase, Up}
 use Rattle.log_entries.specs.declared.entry.Entry.TheVariants.{Life}
 use Rattle.log_entries.specs.declared.entry.Entry.{Entry}
-use Rattle.repo_trace.specs.Recorded.{Recorded, with_entry}
+use Rattle.repo_trace.specs.Recorded.{Recorded}
 use Rattle.spec_history.specs.History.{Base}
 use Rattle.spec_trace.proofs.Traces.{items-entry, trace-end}
 use Rattle.spec_trace.specs.Trace.{E, IsTrace, Item, item_at}

@@ -2,14 +2,14 @@
 use Rattle.log_entries.specs.declared.entry.Entry.TheVariants.{Decided, Finished, Life, One, Prepared, Upgraded}
 use Rattle.log_entries.specs.declared.entry.Entry.{Entry}
 use Rattle.law_client_views.proofs.Grown.{halts_from, stays}
-use Rattle.client_port.specs.Growing.{Gains, GainsAll, Grew, MayHalt}
+use Rattle.client_port.specs.Growing.{Gains, Grew, MayHalt}
 use Rattle.law_client_views.specs.Standing.{ComesUp, FailsBehind, Restarts, Stops, TakesNone, is_client, unsettled_of}
 use Rattle.law_repo_runs.specs.Restarting.{MayTake, StaysPending}
 use Rattle.law_repo_runs.specs.Standing.{Down, Phase, Torn, Up}
 use Rattle.client_port.specs.Views.{Calm, Halted, MayCome, Unsettled}
 use Rattle.spec_history.specs.History.{Base}
 use Rattle.spec_trace.specs.Gaps.{maker}
-use Rattle.spec_trace.specs.Trace.{E, Item, M, item_at}
+use Rattle.spec_trace.specs.Trace.{E, Item, item_at}
 use Rattle.std.proofs.Common.{Bool, List, [], ap, append_assoc, arith, cond, false, inl, inr, refl, subst, sym, true, ◌++◌, ◌∙◌, ◌∷◌, ◌≡◌, ◌≢◌, ℕ}
 use Rattle.std.proofs.lemmas.Bool.Decides.{nat_tests}
 use Rattle.std.proofs.lemmas.List.{append-nil}

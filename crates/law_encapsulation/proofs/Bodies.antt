@@ -34,7 +34,7 @@ use Rattle.law_type_soundness.specs.Fits.{MachineFits, ValueFits}
 use Rattle.law_type_soundness.specs.Strict.{Sure}
 use Rattle.law_encapsulation.proofs.Fields.{NewFor, assign_goes}
 use Rattle.law_encapsulation.proofs.Steps.{Any, AreFree, BlocksGo, Goes, PartsGo, Placed, TidyAt, free_type, on, steps, still, stops}
-use Rattle.law_encapsulation.proofs.Tidy.{grows_no, grows_then}
+use Rattle.law_encapsulation.proofs.Tidy.{grows_no}
 use Rattle.std.proofs.Common.{Bool, List, [], ap, cond, false, map, not, refl, subst, sym, true, ℕ, zero, suc, ◌++◌, ◌≡◌, ◌∙◌, ◌∷◌}
 use Rattle.std.proofs.lemmas.Bool.{both_ways}
 use Rattle.std.specs.Option.{option_and_then}

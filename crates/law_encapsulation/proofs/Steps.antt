@@ -30,7 +30,7 @@ use Rattle.law_type_soundness.specs.Fits.{MachineFits}
 use Rattle.law_encapsulation.proofs.Made.{is_among}
 use Rattle.law_encapsulation.proofs.Tidy.{CanReach, Grows, IsFresh, Tidy, grows_no, grows_read, grows_then, is_known, read_itself, tidy_read}
 use Rattle.law_encapsulation.specs.Owning.{OwnsIn}
-use Rattle.std.proofs.Common.{Bool, List, [], cond, false, inl, inr, not, refl, subst, true, ℕ, ◌+◌, ◌≡◌}
+use Rattle.std.proofs.Common.{Bool, List, [], cond, false, inl, inr, refl, subst, true, ℕ, ◌+◌, ◌≡◌}
 use Rattle.std.proofs.lemmas.Bool.{not-true, both_ways, or_left}
 use Rattle.std.specs.List.{AllByRecursion}
 use Rattle.std.specs.Prelude.{Err, None, Ok, Option, Result, Some, find, is_some, nat_lt, ◌||◌, ◌⊎◌}

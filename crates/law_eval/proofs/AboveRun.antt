@@ -15,7 +15,7 @@ use Rattle.class_defs.specs.Run.{execute_all, meaning}
 use Rattle.class_defs.specs.SchemaRules.{in_item}
 use Rattle.class_defs.specs.StatementRules.{Ruled, assigned_fits, block_rules, broken_at, gives_part, in_turn, must_be_number, place_for, ruled}
 use Rattle.class_defs.specs.Statements.{assign_local, block_of, declare, holds, in_order, repeat, statement, statement_at, unless_returned}
-use Rattle.class_defs.specs.Steps.{Action, World, number, pure, step, ◌>>=◌, ◌>>◌}
+use Rattle.class_defs.specs.Steps.{Action, World, pure, step, ◌>>=◌, ◌>>◌}
 use Rattle.class_defs.specs.Types.{field_of, field_type, type_named}
 use Rattle.class_defs.specs.declared.classes.Class.{Class}
 use Rattle.class_defs.specs.declared.expressions.Expr.{Expr, out-Expr}

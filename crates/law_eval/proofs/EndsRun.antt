@@ -6,7 +6,7 @@ use Rattle.thor_value.specs.declared.values.Value.{Value}
 use Rattle.class_defs.specs.Kinds.{printed_as}
 use Rattle.class_defs.specs.Run.{meaning, execute_all, begun}
 use Rattle.class_defs.specs.Statements.{assign_local, block_of, branch, declare, holds, in_order, repeat, statement, statement_at, turn, unless_returned}
-use Rattle.class_defs.specs.Steps.{World, Action, step, ◌>>◌, pure, change, number}
+use Rattle.class_defs.specs.Steps.{World, Action, step, ◌>>◌, pure, change}
 use Rattle.class_defs.specs.Types.{type_named}
 use Rattle.class_defs.specs.declared.expressions.Expr.{Expr}
 use Rattle.class_defs.specs.declared.machine.Flow.{Flow}

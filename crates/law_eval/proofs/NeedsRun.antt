@@ -13,7 +13,7 @@ use Rattle.class_defs.specs.Kinds.{printed_as}
 use Rattle.class_defs.specs.Objects.{assign_field, field_value, named_value, scope_at, touch}
 use Rattle.class_defs.specs.Run.{begun, execute_all, meaning}
 use Rattle.class_defs.specs.Statements.{assign_local, block_of, branch, declare, holds, in_order, repeat, statement, statement_at, turn, unless_returned}
-use Rattle.class_defs.specs.Steps.{World, Action, change, number, pure, step, ◌>>=◌, ◌>>◌}
+use Rattle.class_defs.specs.Steps.{World, Action, change, pure, step, ◌>>=◌, ◌>>◌}
 use Rattle.class_defs.specs.Types.{method_of, type_named, type_of}
 use Rattle.class_defs.specs.declared.classes.Method.{Method}
 use Rattle.class_defs.specs.declared.expressions.Expr.{Expr, out-Expr}

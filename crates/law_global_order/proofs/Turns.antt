@@ -7,7 +7,7 @@ use Rattle.spec_history.proofs.Meeting.{in_order, not_same}
 use Rattle.spec_history.specs.History.{Aborted, Committed, CommittedBelow, Fate, IsCommitted, Known, Lives, Open, known_by, objects_at}
 use Rattle.spec_history.specs.Laws.{LastWrote, NoneWrote, ReadsObject, WritesObject}
 use Rattle.spec_history.specs.Requests.{has_read, has_written, written}
-use Rattle.std.proofs.Common.{Bool, List, ap, arith, false, inl, inr, refl, subst, sym, true, ℕ, ◌++◌, ◌<◌, ◌≡◌, ◌≢◌, ◌≤◌, ◌∙◌, ◌∷◌}
+use Rattle.std.proofs.Common.{Bool, List, ap, false, inl, inr, refl, subst, sym, true, ℕ, ◌++◌, ◌<◌, ◌≡◌, ◌≢◌, ◌≤◌, ◌∙◌, ◌∷◌}
 use Rattle.std.proofs.lemmas.Bool.{cases_lt}
 use Rattle.std.specs.Prelude.{None, Option, Some, is_some, ◌⊎◌, ◌↔◌}
 use Rattle.thor_value.specs.FiniteMap.{get}

@@ -11,7 +11,7 @@ use Rattle.std.specs.Prelude.{length}
 use Rattle.law_lazy_history.proofs.Runs.{sorted-left}
 use Rattle.law_lazy_history.proofs.Steps.{Leads, fits_brought, fits_installed, leads_brought, leads_first, leads_installed, leads_run, within}
 use Rattle.law_lazy_history.specs.Changes.{Brought, Change, Installed, Ran, changed_by, changed_by_all, entries_of, entry_of}
-use Rattle.law_lazy_history.specs.Standing.{AllRun, AllStand, IsRun, MapFits, Stands}
+use Rattle.law_lazy_history.specs.Standing.{AllRun, AllStand, MapFits, Stands}
 use Rattle.thor_value.specs.FiniteMap.{IsSorted}
 
 after-append : (s : Schemas) (ds es : List Did) (store : Plain) → after s (ds ++ es) store ≡ after s es (after s ds store)

@@ -6,7 +6,7 @@ use Rattle.class_defs.specs.KeptOwnership.{AllKeepClasses}
 use Rattle.class_defs.specs.Levels.{is_due}
 use Rattle.class_defs.specs.Ownership.{IsAbove}
 use Rattle.class_defs.specs.Run.{Ran as RanOn, begun, changed, execute_all, ran_by, run, world_of}
-use Rattle.class_defs.specs.Stored.{Objects, Stored, bare, each_value, in_epoch}
+use Rattle.class_defs.specs.Stored.{Objects, Stored, in_epoch}
 use Rattle.class_defs.specs.WellOwned.{IsWellOwned}
 use Rattle.class_defs.specs.declared.machine.Flow.{Flow}
 use Rattle.class_defs.specs.declared.machine.Machine.{Machine}

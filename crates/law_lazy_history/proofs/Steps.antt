@@ -1,13 +1,11 @@
 -- Each change that stands is legal on the store that the map stands for, and leads to that for which the map behind it
 -- stands.
-use Rattle.class_defs.specs.Eager.{brought, eager}
+use Rattle.class_defs.specs.Eager.{eager}
 use Rattle.class_defs.specs.Epochs.{classes_of, upgrade_to}
 use Rattle.class_defs.specs.KeptOwnership.{AllKeepClasses}
 use Rattle.class_defs.specs.Run.{Ran as RanOn, changed}
 use Rattle.class_defs.specs.Stored.{Stored}
 use Rattle.class_defs.specs.UpgradeLinesAside.{upgrade_on_line_1}
-use Rattle.class_defs.specs.Upgrades.{up}
-use Rattle.class_defs.specs.declared.store.Plain.{Plain}
 use Rattle.class_defs.specs.declared.store.Schemas.{Schemas}
 use Rattle.class_defs.specs.declared.store.UpgradedSchema.{UpgradedSchema}
 use Rattle.class_defs.specs.declared.upgrades.Upgrade.{Upgrade}
@@ -16,16 +14,14 @@ use Rattle.law_lazy_upgrade.proofs.OwnedMaps.{next_owned, one_kinds, one_owned}
 use Rattle.law_lazy_upgrade.proofs.Unseen.{unseen}
 use Rattle.serial_model.specs.History.{AreLegal, IsLegalDoing, IsLegalEntry, after, after_doing, after_entry, run_on}
 use Rattle.serial_model.specs.declared.entries.Did.{Did}
-use Rattle.serial_model.specs.declared.entries.What.TheVariants.{Tx, Upgrade as UpgradeItem}
-use Rattle.serial_model.specs.declared.entries.What.{What}
 use Rattle.std.proofs.Common.{List, [], ap, arith, refl, subst, sym, zero, ℕ, suc, ◌+◌, ◌<◌, ◌≡◌, ◌≤◌, ◌∙◌, ◌∷◌}
 use Rattle.std.proofs.lemmas.Option.{same_Some}
 use Rattle.std.specs.Option.{IsSomeAnd, option_map, unwrap_or}
 use Rattle.std.specs.Prelude.{None, Option, Some, length, slice_get}
 use Rattle.law_lazy_history.proofs.Aside.{up-aside}
-use Rattle.law_lazy_history.proofs.Runs.{eager_changed, ran_changed, same_apart, same_at_first, sorted-left}
+use Rattle.law_lazy_history.proofs.Runs.{eager_changed, ran_changed, same_apart, same_at_first}
 use Rattle.law_lazy_history.specs.Changes.{Brought, Change, Installed, Ran, changed_by, entry_of}
-use Rattle.law_lazy_history.specs.Standing.{Brings, Gave, Installs, IsRun, MapFits, Runs, RunsOn, Stands, left_at}
+use Rattle.law_lazy_history.specs.Standing.{Brings, Gave, Installs, MapFits, Runs, RunsOn}
 use Rattle.thor_value.specs.FiniteMap.{IsSorted}
 use Rattle.thor_value.specs.declared.names.Oref.{Oref}
 use Rattle.thor_value.specs.declared.values.Obj.{Obj}

@@ -16,7 +16,7 @@ use Rattle.law_ownership.proofs.Closed.{owners_touched}
 use Rattle.law_ownership.proofs.Plainly.{parts_kept, some_and}
 use Rattle.law_ownership.specs.Checked.{AreItsWrites, CheckedRun, TouchedUndue}
 use Rattle.law_frame.proofs.TouchedStores.{store_alike}
-use Rattle.std.proofs.Common.{Bool, List, ap, false, inl, inr, refl, sym, subst, true, ℕ, zero, suc, ◌≡◌, ◌∙◌}
+use Rattle.std.proofs.Common.{List, ap, inl, inr, refl, sym, subst, true, ℕ, zero, suc, ◌≡◌, ◌∙◌}
 use Rattle.std.proofs.lemmas.Bool.{both_ways}
 use Rattle.std.proofs.lemmas.Option.{none-some}
 use Rattle.std.specs.List.{Contains}

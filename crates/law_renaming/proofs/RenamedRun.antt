@@ -14,7 +14,7 @@ use Rattle.law_renaming.proofs.RenamedObjects.{assign_field_same}
 use Rattle.class_defs.specs.Run.{meaning, execute_all}
 use Rattle.class_defs.specs.Statements.{assign_local, assigned, assigned_at, block_of, branch, declare, holds, in_order, repeat, statement, statement_at, turn, unless_returned, with_value}
 use Rattle.class_defs.specs.Kinds.{printed_as}
-use Rattle.class_defs.specs.Steps.{Action, step, ◌>>=◌, ◌>>◌, pure, change, number}
+use Rattle.class_defs.specs.Steps.{Action, step, ◌>>=◌, ◌>>◌, pure, change}
 use Rattle.class_defs.specs.Types.{type_named}
 use Rattle.class_defs.specs.declared.expressions.Expr.{Expr}
 use Rattle.class_defs.specs.declared.machine.Flow.{Flow}

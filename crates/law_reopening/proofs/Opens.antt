@@ -7,7 +7,6 @@ use Rattle.spec_history.specs.Opening.{IsAtBase, IsBase, IsLeftAtBase, Recovered
 use Rattle.spec_history.specs.Requests.{text_of}
 use Rattle.law_reopening.specs.Recovering.{CanOpen, IsPrepared, IsStored}
 use Rattle.std.proofs.Common.{List, [], arith, refl, subst, sym, ◌++◌, ◌≡◌, ◌∙◌, ◌∷◌, length, ℕ, ◌+◌, ◌≤◌}
-use Rattle.std.proofs.lemmas.Bool.Decides.{nat_tests}
 use Rattle.std.proofs.lemmas.List.{length-append}
 use Rattle.std.proofs.lemmas.Cmp.{nat_eq_equiv}
 use Rattle.std.proofs.lemmas.Bool.{true≢false}

@@ -32,7 +32,7 @@ use Rattle.repo_refusals.proofs.Covered.{held}
 use Rattle.repo_refusals.proofs.Following.{follows}
 use Rattle.repo_refusals.proofs.Queued.{get-queue}
 use Rattle.repo_refusals.specs.Queue as windowed
-use Rattle.repo_refusals.specs.Queue.{close_queue, close_queue_by, queue_of, queued_of, slide_queue}
+use Rattle.repo_refusals.specs.Queue.{close_queue, close_queue_by, queue_of, queued_of}
 use Rattle.repo_refusals.specs.Window.{window}
 use Rattle.repo_volatile.specs.Volatile.{Memory, is_upgrade_kind, transaction_of}
 

@@ -36,7 +36,7 @@ use Rattle.repo_refusals.proofs.Following.{follows}
 use Rattle.repo_refusals.proofs.Queued.{get-queue}
 use Rattle.repo_refusals.specs.Covers.{MemberFits}
 use Rattle.repo_refusals.specs.Queue as windowed
-use Rattle.repo_refusals.specs.Queue.{queue_of, queued_of, slide_queue}
+use Rattle.repo_refusals.specs.Queue.{queue_of, queued_of}
 use Rattle.repo_refusals.specs.Window.{window}
 use Rattle.repo_volatile.specs.Volatile.{Memory, transaction_of}
 

@@ -27,7 +27,6 @@ use Rattle.thor_value.specs.Names.{oref_cmp}
 use Rattle.thor_value.specs.declared.names.Oref.{Oref}
 use Rattle.thor_value.specs.declared.names.Ts.{Ts}
 use Rattle.thor_value.specs.declared.values.Obj.{Obj}
-use Rattle.two_phase.specs.Contents.{Contents, open_at}
 
 -- ---- writes
 

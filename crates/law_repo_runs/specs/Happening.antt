@@ -24,7 +24,6 @@ use Rattle.spec_trace.specs.declared.mark.Mark.{Mark}
 use Rattle.std.specs.Map.{keys_of}
 use Rattle.std.specs.Option.{IsSomeAnd}
 use Rattle.std.specs.Prelude.{List, None, Option, Some, false, length, true, ℕ, ◌+◌, ◌<◌, ◌^◌, ◌≡◌, ◌≢◌, ◌≤◌, ◌⊎◌}
-use Rattle.thor_value.specs.FiniteMap.{has}
 use Rattle.thor_value.specs.declared.names.Ts.{Ts}
 use Rattle.repo_trace.specs.Recorded.{with_entry}
 use Rattle.two_phase.specs.Contents.{open_at}

@@ -11,7 +11,6 @@ use Rattle.log_entries.specs.declared.entry.Entry.{Entry}
 use Rattle.repo_sessions.specs.Sessions.{Kept, begun, ended, no_sessions, without}
 use Rattle.spec_history.specs.History.{Base, State, is_life, state}
 use Rattle.session_outbox.specs.Outbox as outbox
-use Rattle.session_outbox.specs.Outbox.{Waiting}
 use Rattle.session_outbox.specs.declared.message.Message.{Message}
 use Rattle.law_repo_sessions.proofs.Marked.{IsAway, IsSame, away_agrees, is_away, same_agrees}
 use Rattle.law_repo_sessions.proofs.News.{heard_there}

@@ -14,7 +14,6 @@ use Rattle.session_outbox.proofs.Ordered.{behind_push, behind_take}
 use Rattle.session_outbox.specs.Messages as messages
 use Rattle.session_outbox.specs.Messages.{first}
 use Rattle.session_outbox.specs.Outbox as outbox
-use Rattle.session_outbox.specs.Outbox.{Waiting}
 use Rattle.session_outbox.specs.declared.message.Message.TheVariants as their
 use Rattle.session_outbox.specs.declared.message.Message.{Message}
 use Rattle.law_repo_sessions.proofs.Invalidated.{acknowledged_place, cached_place, dead_place, has_cache, last_is_below, live_place, place_where}
@@ -35,9 +34,8 @@ use Rattle.std.proofs.lemmas.Bool.{eqb-true}
 use Rattle.std.proofs.lemmas.List.{append-nil, length-append, map-append}
 use Rattle.std.specs.List.{filter}
 use Rattle.std.specs.Option.{IfSome, is_some, option_and_then, option_map, option_to_list}
-use Rattle.std.specs.Ordering.{nat_cmp}
 use Rattle.std.specs.Prelude.{None, Option, Some, max, suc, zero, ◌&&◌, ◌||◌, ◌↔◌, ◌⊎◌}
-use Rattle.thor_value.specs.FiniteMap.{Map, get, has}
+use Rattle.thor_value.specs.FiniteMap.{get, has}
 use Rattle.thor_value.specs.declared.names.Oref.{Oref}
 
 -- ---- lists

@@ -3,7 +3,7 @@ use Rattle.cached_sets.proofs.Meaning.{get_replace, same_test, touched}
 use Rattle.cached_sets.specs.Invalid.{Invalid, Invalids, change, changed, from, mark, replace, set_of}
 use Rattle.cached_sets.specs.Meaning.{has_page, place_in}
 use Rattle.cached_sets.specs.Sets as sets
-use Rattle.cached_sets.specs.Sets.{Sets, marked, opened, touches}
+use Rattle.cached_sets.specs.Sets.{Sets, marked, touches}
 use Rattle.link_table.specs.Pairs.{is_linked, unlink_left}
 use Rattle.session_outbox.specs.Outbox as outbox
 use Rattle.session_outbox.specs.Outbox.{Waiting, pushed_to, taken_from}

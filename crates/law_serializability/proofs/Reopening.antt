@@ -3,8 +3,8 @@ use Rattle.law_atomic_commit.specs.Several.{Alike, AreSound, IsAtomic, Several}
 use Rattle.law_serializability.proofs.Checked.{here_after}
 use Rattle.law_serializability.specs.Reopening.{IsReopening}
 use Rattle.law_serializability.specs.Resting.{AreHere, IsOpening}
-use Rattle.std.proofs.Common.{Bool, List, [], ap, arith, false, refl, subst, sym, true, ℕ, ◌<◌, ◌≡◌, ◌≤◌, ◌∙◌, ◌∷◌}
-use Rattle.std.specs.Prelude.{None, Option, Some, nat_lt}
+use Rattle.std.proofs.Common.{List, [], ap, refl, subst, sym, ℕ, ◌<◌, ◌≡◌, ◌≤◌, ◌∙◌, ◌∷◌}
+use Rattle.std.specs.Prelude.{None, Option, Some}
 use Rattle.law_lazy_history.proofs.Runs.{sorted-left}
 use Rattle.thor_value.proofs.FiniteMap.{same_map}
 use Rattle.thor_value.proofs.NameOrders.{oref_exact, oref_total}

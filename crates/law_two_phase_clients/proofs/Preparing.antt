@@ -25,13 +25,12 @@ use Rattle.log_entries.specs.declared.request.Request.{Request}
 use Rattle.session_outbox.specs.declared.answers.At.{At}
 use Rattle.spec_history.proofs.Telling.{tell}
 use Rattle.spec_history.specs.History.{Known, known_by}
-use Rattle.spec_history.specs.Laws.{Asks, Stays}
 use Rattle.spec_history.specs.Participants.{takes_part}
 use Rattle.spec_history.specs.Sound.{sound}
 use Rattle.std.proofs.Common.{Bool, List, [], ap, arith, cond, false, inl, inr, length, nat_eq, refl, subst, sym, true, ℕ, ◌++◌, ◌≡◌, ◌∙◌, ◌∷◌}
 use Rattle.std.proofs.lemmas.Bool.Decides.{nat_tests}
 use Rattle.std.proofs.lemmas.Bool.{eqb-true}
-use Rattle.std.specs.List.{AllByRecursion, filter, list_any}
+use Rattle.std.specs.List.{AllByRecursion, list_any}
 use Rattle.std.specs.Prelude.{IsSomeAnd, None, Option, Some, not, slice_get, ◌||◌, ◌⊎◌}
 use Rattle.thor_value.specs.declared.names.Ts.{Ts}
 use Rattle.thor_value.specs.declared.values.Who.{Who}

@@ -6,7 +6,7 @@ use Rattle.client_state.specs.Handing.{AbortsInVain, AbortsNext, ForgetsNext, Ha
 use Rattle.client_state.specs.Moving.{Aborted, AskedInVain, AskedOwn, CommitRefused, Committed, DecideRefused, Decided, Finished, Forgot, Moves, PrepareRefused, Prepared, ReceiveRefused, ReceiveStopped, Received, ReceivedNone, Transformed, Unsent}
 use Rattle.client_state.specs.Participants.{first_in, others_in}
 use Rattle.client_state.specs.Pending.{Pending}
-use Rattle.client_state.specs.Showing.{IsToldBy, ToldByDecision}
+use Rattle.client_state.specs.Showing.{ToldByDecision}
 use Rattle.client_state.specs.Stepping.{HandsSo, Present, StepsSo}
 use Rattle.client_state.specs.declared.duties.Duties.{Duties}
 use Rattle.client_state.specs.declared.duties.Duty.TheVariants.{Finish, Forget}
@@ -17,7 +17,7 @@ use Rattle.client_state.specs.declared.link.Link.{Link}
 use Rattle.law_two_phase_clients.specs.Handing.{DutiesStand, DutyStands, HandsOnSo, HasToHandOn, HelpStands, HoldsOfTold, IsAmongDuties, IsHelpOf, OfVerdicts, StoodOrIsTold}
 use Rattle.session_outbox.specs.declared.answers.At.{At}
 use Rattle.session_outbox.specs.declared.answers.Verdict.{Verdict}
-use Rattle.std.proofs.Common.{Bool, List, [], ap, cond, false, inl, inr, refl, subst, sym, true, ℕ, ◌++◌, ◌≡◌, ◌∙◌, ◌∷◌}
+use Rattle.std.proofs.Common.{Bool, List, [], ap, false, inl, inr, refl, subst, sym, true, ℕ, ◌++◌, ◌≡◌, ◌∙◌, ◌∷◌}
 use Rattle.std.specs.List.{AllByRecursion}
 use Rattle.std.specs.Prelude.{None, Ok, Option, Some, ◌&&◌, ◌⊎◌}
 use Rattle.thor_value.specs.declared.names.Ts.{Ts}

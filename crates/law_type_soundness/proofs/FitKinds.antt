@@ -10,7 +10,7 @@ use Rattle.thor_value.specs.declared.values.Value.{Value}
 use Rattle.thor_value.specs.declared.values.Value.TheVariants as value
 use Rattle.class_defs.specs.ExpressionRules.{Judged, judged, judge_step, kinds_at}
 use Rattle.law_type_soundness.specs.Fits.{ValueFits, RootFits, LocalFits, LocalsFit, ThisFits}
-use Rattle.class_defs.specs.Objects.{first_of, scope_at, named_value}
+use Rattle.class_defs.specs.Objects.{first_of, scope_at}
 use Rattle.class_defs.specs.Objects as run
 use Rattle.class_defs.specs.Rules.{Sight, scope_of}
 use Rattle.class_defs.specs.Rules as rules

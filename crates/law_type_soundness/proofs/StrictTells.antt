@@ -13,7 +13,7 @@ use Rattle.class_defs.specs.Run.{meaning, execute_all}
 use Rattle.class_defs.specs.Statements.{assign_local, block_of, declare, holds, in_order, repeat, statement, statement_at, unless_returned}
 use Rattle.class_defs.specs.Steps.{World, Action, after, step, pure, change, fail, ◌>>=◌, ◌>>◌}
 use Rattle.law_type_soundness.specs.Strict as strict
-use Rattle.law_type_soundness.specs.Strict.{Sure, going, onward, surely, stuck, only_if, strict_body, strict_enter, strict_enter_as, strict_object, strict_call, strict_values_from, strict_value_at, strict_expression, strict_unless_returned, strict_in_order, strict_block, strict_repeat, strict_statement_at, strict_statement, strict_meaning, strict_execute_all, give, alter}
+use Rattle.law_type_soundness.specs.Strict.{Sure, going, onward, surely, only_if, strict_body, strict_enter, strict_enter_as, strict_object, strict_call, strict_values_from, strict_value_at, strict_expression, strict_unless_returned, strict_in_order, strict_block, strict_repeat, strict_statement_at, strict_statement, strict_meaning, strict_execute_all, give}
 use Rattle.class_defs.specs.Types.{method_of, type_named, type_of}
 use Rattle.class_defs.specs.declared.classes.Method.{Method}
 use Rattle.class_defs.specs.declared.expressions.Expr.{Expr, out-Expr}

@@ -1,5 +1,5 @@
 -- What an expression of an upgrade that breaks no rule does: it reads through owned fields, and hands references on.
-use Rattle.std.proofs.Common.{◌≡◌, Bool, true, false, cond, not, List, [], ◌∷◌, ◌++◌, ℕ, zero, suc, Option, Some, None, slice_get, refl, ap, sym, ◌∙◌, subst}
+use Rattle.std.proofs.Common.{◌≡◌, Bool, true, false, cond, List, [], ◌∷◌, ◌++◌, ℕ, zero, suc, Option, Some, None, slice_get, refl, ap, sym, ◌∙◌, subst}
 use Rattle.std.proofs.lemmas.Bool.Decides.{Decides-eqb}
 use Rattle.std.proofs.lemmas.List.Folds.{list_any-append}
 use Rattle.std.proofs.lemmas.Bool.{and_from, and_parts, not-true, or_parts}

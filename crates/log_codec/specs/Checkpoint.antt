@@ -1,5 +1,5 @@
 -- The format of a checkpoint.
-use Rattle.std.specs.Prelude.{map, suc, zero, ◌≡◌, ◌<◌, ◌≤◌, ◌^◌, ◌&&◌, ℕ, Bool, true, not, nat_eq, nat_lt, nat_le, IsTrue, List, [], ◌∷◌, Some}
+use Rattle.std.specs.Prelude.{map, suc, zero, ◌≡◌, ◌<◌, ◌≤◌, ◌^◌, ◌&&◌, ℕ, Bool, true, not, nat_lt, nat_le, IsTrue, List, [], ◌∷◌, Some}
 use Rattle.std.specs.List.{AllByRecursion}
 use Rattle.std.specs.List.Sorted.{IsStrictlySortedBy}
 use Rattle.std.specs.Ordering.{nat_cmp}

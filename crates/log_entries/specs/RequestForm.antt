@@ -1,7 +1,5 @@
 -- The form of a request: what holds of each one, whoever sent it and whatever the history is. A client
 -- keeps to it, and no repository tests it.
-use Rattle.log_entries.specs.declared.request.Kind.TheVariants.{App, Transform, Upgrade}
-use Rattle.log_entries.specs.declared.request.Kind.{Kind}
 use Rattle.log_entries.specs.declared.request.Request.{Request}
 use Rattle.object_codec.specs.Spelling.{ObjFits}
 use Rattle.std.specs.Int.{w64}

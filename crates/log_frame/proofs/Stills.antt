@@ -1,5 +1,5 @@
 -- A call that changes nothing on a disk, and then more of them.
-use Rattle.std.proofs.Common.{ℕ, List, Result}
+use Rattle.std.proofs.Common.{ℕ, Result}
 use Rattle.disk_trait.specs.Calls.{IsCall}
 use Rattle.disk_trait.specs.Disks.{Disks, Leaves, MayLeave, NoNewImage}
 use Rattle.disk_trait.specs.declared.parts.Outage.{Outage}

@@ -1,5 +1,5 @@
 -- That the fault which is told is the least of all.
-use Rattle.std.proofs.Common.{◌≡◌, ◌⊎◌, inl, inr, ℕ, zero, suc, ◌+◌, ◌<◌, slice_index_or, Bool, true, false, cond, List, [], ◌∷◌, length, Option, Some, None, Contains, refl, ap, sym, ◌∙◌, subst, arith, ◌||◌, ◌&&◌, ◌==◌, nat_lt, nat_eq}
+use Rattle.std.proofs.Common.{◌≡◌, ◌⊎◌, inl, inr, ℕ, zero, suc, ◌+◌, ◌<◌, slice_index_or, Bool, true, false, cond, List, [], ◌∷◌, length, Some, None, Contains, refl, sym, ◌∙◌, subst, arith, ◌||◌, ◌&&◌, ◌==◌, nat_lt}
 use Rattle.std.specs.List.{AllByRecursion}
 use Rattle.std.proofs.lemmas.Bool.Decides.{nat_tests}
 use Rattle.std.proofs.lemmas.List.Elements.{Contains-append_right}

@@ -23,7 +23,7 @@ use Rattle.method_parse.specs.Expressions.{at, argument, is_comma, more_argument
 use Rattle.method_parse.specs.Statements as st
 use Rattle.method_parse.specs.Statements.{expression, ended, condition, variable, returned, printed, evaluated, assigned_name, assigned_field, after_expression_by, after_expression, simple, after_branch, branch, while_loop, statement_by, statement, goes_on, more_statements, statements, braces, block_in}
 use Rattle.method_parse.specs.Setups as setups
-use Rattle.method_parse.specs.Setups.{begins_type, field, more_fields, parameter, more_parameters, other_parameters, some_parameters, parameters, method, more_methods, kind, fields, methods, class, more_classes, begins_class, root, more_roots, classes, roots, setup}
+use Rattle.method_parse.specs.Setups.{field, more_fields, parameter, more_parameters, other_parameters, some_parameters, parameters, method, more_methods, kind, fields, methods, class, more_classes, root, more_roots, classes, roots, setup}
 use Rattle.method_parse.proofs.Local.{Local, local_bind, local_give, local_stuck, local_one, local_if, local_by, local_repeat, local_repeat_all, Strict, strict_bind, strict_behind, strict_word, strict_if, strict_by, local_word, local_name, local_number, local_quoted, local_type}
 
 local_at : Local at

@@ -2,20 +2,20 @@
 use Rattle.log_entries.specs.declared.entry.Entry.TheVariants.{Decided, Finished, Life, One, Prepared, Upgraded}
 use Rattle.log_entries.specs.declared.entry.Entry.{Entry}
 use Rattle.log_entries.specs.declared.request.Request.{Request}
-use Rattle.spec_history.specs.History.{Aborted, Base, Committed, Fate, Known, Open, State, change, commit_by, commit_of, is_lost, is_open, is_undecided, known_in, lapse, or_lost, put, settle, settle_by}
-use Rattle.spec_trace.specs.Session.{Notice, Session, begun, meet, move, moved, told_of}
+use Rattle.spec_history.specs.History.{Aborted, Base, Committed, Fate, Known, Open, State, commit_by, commit_of, is_lost, is_open, is_undecided, known_in, lapse, or_lost, put, settle, settle_by}
+use Rattle.spec_trace.specs.Session.{Session, begun, meet, move, moved, told_of}
 use Rattle.spec_trace.specs.Trace.{E, M}
 use Rattle.spec_trace.specs.declared.mark.Mark.TheVariants as the
 use Rattle.spec_trace.specs.declared.mark.Mark.{Mark}
-use Rattle.std.proofs.Common.{ap, refl, sym, ◌≡◌, ◌∙◌}
+use Rattle.std.proofs.Common.{ap, refl, ◌≡◌, ◌∙◌}
 use Rattle.std.specs.Option.{option_and_then, option_map}
 use Rattle.std.specs.Ordering.{nat_cmp}
-use Rattle.std.specs.Prelude.{Bool, List, None, Option, Some, [], cond, false, is_some, nat_eq, nat_lt, true, ℕ, ◌&&◌, ◌∷◌}
+use Rattle.std.specs.Prelude.{Bool, None, Option, Some, [], cond, false, is_some, nat_eq, true, ℕ, ◌&&◌, ◌∷◌}
 use Rattle.thor_value.specs.FiniteMap.{Map, get}
 use Rattle.thor_value.specs.declared.names.Ts.{Ts}
 use Rattle.model_reading.specs.Opening.{base_of}
 use Rattle.model_reading.specs.Reading.{Reading, step, step_marked, step_with}
-use Rattle.model_reading.specs.Settling.{changed, closed, commit_at, committed_by, found_by, met_mark, met_with, noted_with, open_of, passed, put_with, request_of, settled, slid_with, told_with}
+use Rattle.model_reading.specs.Settling.{closed, commit_at, committed_by, found_by, met_mark, met_with, noted_with, open_of, passed, put_with, request_of, settled, slid_with, told_with}
 use Rattle.model_reading.specs.Standings.{open_standing, stands_behind}
 use Rattle.model_reading.specs.declared.opening.Opening.{Opening}
 use Rattle.repo_refusals.specs.Window.{Window, close, close_by, slide}

@@ -5,7 +5,7 @@ use Rattle.std.proofs.Common.{List, [], ap, cond, refl, ◌≡◌, ◌∙◌, �
 use Rattle.std.specs.List.{list_any}
 use Rattle.std.specs.Map.{keys_of}
 use Rattle.std.specs.Ordering.{eq_by_cmp}
-use Rattle.std.specs.Prelude.{Bool, Option, Some, false, is_some, true, ◌||◌}
+use Rattle.std.specs.Prelude.{Bool, Some, false, is_some, true, ◌||◌}
 use Rattle.thor_value.proofs.FiniteMap.{get-insert}
 use Rattle.thor_value.proofs.NameOrders.{oref_total}
 use Rattle.thor_value.specs.FiniteMap.{Map, empty, get, has, insert, overwrite}

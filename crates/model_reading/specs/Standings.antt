@@ -1,7 +1,7 @@
 -- Undecided transactions, by the place at which the present life began.
 use Rattle.spec_history.specs.History.{Known, State, is_open}
 use Rattle.log_entries.specs.declared.request.Request.{Request}
-use Rattle.std.specs.Option.{option_and_then, option_map}
+use Rattle.std.specs.Option.{option_and_then}
 use Rattle.std.specs.Prelude.{None, Option, Some, cond, nat_eq, nat_lt, ℕ, ◌&&◌}
 use Rattle.thor_value.specs.FiniteMap.{get}
 use Rattle.thor_value.specs.declared.names.Ts.{Ts}

@@ -17,7 +17,7 @@ use Rattle.client_port.specs.Works.{AskWork, CommitWork, ConnectWork, DecideWork
 use Rattle.law_client_views.proofs.Meeting as meets
 use Rattle.law_client_views.proofs.Stopping as stopping
 use Rattle.law_client_views.specs.Plain as plain
-use Rattle.law_client_views.specs.Plain.{left_by, message_of, refuse, requested}
+use Rattle.law_client_views.specs.Plain.{left_by, message_of, requested}
 use Rattle.spec_trace.specs.Notices.{is_unended}
 use Rattle.spec_trace.specs.Session.{session}
 use Rattle.spec_trace.specs.Trace.{E, Item, M, entries}

@@ -11,7 +11,7 @@ use Rattle.std.proofs.lemmas.Nat.{be_bytes_4, from_be_bytes-to_be_bytes_4}
 use Rattle.std.proofs.Math.Seq.{take-append_seam}
 use Rattle.thor_value.proofs.Exactness.{IsBytes, IsBytes-rest}
 use Rattle.page_format.specs.Formats.{format_number, page_size_in}
-use Rattle.page_format.specs.Pages.{Contents, PageFits, PageFitsIn, ObjectsFit, entries, object_entry, head, head_in, page_bytes, page_bytes_in, taken}
+use Rattle.page_format.specs.Pages.{Contents, PageFits, PageFitsIn, ObjectsFit, entries, object_entry, head_in, page_bytes, page_bytes_in, taken}
 use Rattle.page_format.specs.declared.fault.Damaged.{Damaged}
 use Rattle.page_format.specs.declared.format.StoreFormat.{StoreFormat}
 use Rattle.page_format.specs.declared.format.StoreFormat.TheVariants.{One, Two}

@@ -18,8 +18,8 @@ use Rattle.lru.proofs.Pairs.{lookup-lookup_entry}
 use Rattle.page_format.specs.Pages.{Contents, page_size}
 use Rattle.page_format.specs.Sides.{SidesFit, side_in_use}
 use Rattle.page_store.specs.Objects.{HasObjects, Spells}
-use Rattle.page_store.specs.Sides.{KeepsSides, ReachesSides, Shows, next_side, place_of, side_bytes}
-use Rattle.page_store.specs.Store.{Store, Agrees, AreHeld, Keeps, held_page, page_in, IsStaged, most_held, with_held, with_place, with_side, refreshed}
+use Rattle.page_store.specs.Sides.{Shows, next_side, place_of, side_bytes}
+use Rattle.page_store.specs.Store.{Store, Agrees, AreHeld, Keeps, page_in, most_held, with_held, with_place, with_side, refreshed}
 use Rattle.page_store.proofs.Tears.{Outside}
 use Rattle.page_store.proofs.Sides.{reaches_still, shows_still, spelled_reaches}
 

@@ -1,9 +1,8 @@
 -- What a write leaves as it was, torn or whole.
-use Rattle.std.proofs.Common.{◌≡◌, ℕ, ◌+◌, ◌-◌, ◌<◌, ◌≤◌, List, [], ◌∷◌, ◌++◌, length, take, drop, replicate, slice_index, max, Some, Result, refl, ap, sym, subst, ◌∙◌, arith, inl, inr, ◌⊎◌, length-append, append_assoc}
-use Rattle.std.proofs.lemmas.Bool.{cases_lt}
-use Rattle.std.proofs.lemmas.List.{append-nil, length-take-le, length-take, length-drop, length-replicate, get_or-take, get_or-drop, get_or_append_left, get_or-append_right, take_at, drop_at, take-append-le}
+use Rattle.std.proofs.Common.{◌≡◌, ℕ, ◌+◌, ◌-◌, ◌<◌, ◌≤◌, List, [], ◌∷◌, ◌++◌, length, take, drop, replicate, slice_index, Some, Result, refl, ap, sym, subst, ◌∙◌, arith, inl, inr, ◌⊎◌, length-append, append_assoc}
+use Rattle.std.proofs.lemmas.List.{length-take-le, length-drop, length-replicate, get_or-take, get_or-drop, get_or_append_left, get_or-append_right, take_at, drop_at}
 use Rattle.std.proofs.lemmas.Grind.{same_number_lists}
-use Rattle.disk_trait.specs.Disks.{Disks, Leaves, MayLeave, IsSettled, Torn, TornAlone, NoNewImage, written}
+use Rattle.disk_trait.specs.Disks.{Disks, Leaves, IsSettled, Torn, TornAlone, NoNewImage, written}
 use Rattle.disk_trait.specs.Calls.{IsCall}
 use Rattle.disk_trait.specs.declared.parts.Outage.{Outage}
 use Rattle.disk_trait.proofs.Runs.{leaves_none, leaves_call}

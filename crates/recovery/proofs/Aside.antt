@@ -1,9 +1,9 @@
 -- A log of an older format is read as one of the format that is written.
 use Rattle.std.proofs.Common.{◌≡◌, Bool, List, None, Option, Some, [], ◌∷◌, ap, refl, sym, ◌||◌, ◌∙◌}
 use Rattle.std.specs.List.{fold}
-use Rattle.std.specs.Option.{option_and_then, option_map}
+use Rattle.std.specs.Option.{option_map}
 use Rattle.commit_log.proofs.Formats.{next_aside, whole_aside}
-use Rattle.commit_log.specs.Recovered.{in_format, next, whole}
+use Rattle.commit_log.specs.Recovered.{in_format, whole}
 use Rattle.log_codec.specs.declared.body.Body.TheVariants.{Entry as AnEntry, Installed}
 use Rattle.log_codec.specs.declared.body.Body.{Body}
 use Rattle.log_codec.specs.declared.state.State.{State}

@@ -16,7 +16,6 @@ use Rattle.recovery.specs.Faults.{log_fault, page_fault}
 use Rattle.recovery.specs.Migrating.{IsMigrated, SaysMigrated}
 use Rattle.recovery.specs.Paged.{Stays}
 use Rattle.recovery.specs.declared.fault.RecoverFault.TheVariants as recovered
-use Rattle.recovery.specs.declared.fault.RecoverFault.{RecoverFault}
 use Rattle.repo_state.specs.Said.{said, spelled}
 use Rattle.repo_state.specs.declared.held.Held.{Held}
 use Rattle.thor_value.specs.declared.names.Oref.{Oref}

@@ -3,7 +3,7 @@ use Rattle.mob_flusher.specs.Images.{name_of}
 use Rattle.object_codec.specs.Spelling.{ObjFits, obj_bytes}
 use Rattle.page_format.specs.Pages.{Contents}
 use Rattle.recovery.specs.Paged.{AreOfPage, IsPaged}
-use Rattle.std.proofs.Common.{List, Some, [], arith, ap, length, refl, slice_get, subst, suc, sym, take, zero, ◌++◌, ◌<◌, ◌≡◌, ◌∷◌, ◌≤◌, ℕ}
+use Rattle.std.proofs.Common.{List, Some, [], ap, length, slice_get, subst, suc, sym, take, zero, ◌++◌, ◌<◌, ◌≡◌, ◌∷◌, ◌≤◌, ℕ}
 use Rattle.std.proofs.lemmas.List.{take_all}
 use Rattle.std.proofs.lemmas.Slice.Zip.{all_zipped_more}
 use Rattle.std.specs.List.{AllZip}

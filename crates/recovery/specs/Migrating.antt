@@ -5,9 +5,7 @@ use Rattle.disk_trait.specs.Disks.{Disks, WhereTold}
 use Rattle.log_codec.specs.declared.state.State.{State}
 use Rattle.page_format.specs.declared.format.StoreFormat.{StoreFormat}
 use Rattle.page_format.specs.declared.format.StoreFormat.TheVariants.{One, Two}
-use Rattle.recovery.specs.Found.{recorded}
 use Rattle.recovery.specs.Paged.{AreOnPage, ArePaged, IsOnSide}
-use Rattle.recovery.specs.declared.recovered.Recovered.{Recovered}
 use Rattle.std.specs.Prelude.{List, ℕ, ◌++◌, ◌<◌, ◌≡◌, ◌≤◌, ◌⊎◌}
 use Rattle.thor_value.specs.declared.names.Oref.{Oref}
 use Rattle.thor_value.specs.declared.values.Obj.{Obj}

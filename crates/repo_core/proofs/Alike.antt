@@ -2,7 +2,6 @@
 use Rattle.log_entries.specs.declared.entry.Entry.{Entry}
 use Rattle.repo_state.specs.declared.held.Held.{Held}
 use Rattle.repo_sessions.specs.Sessions.{Kept}
-use Rattle.repo_core.specs.Behind.{MovesObjects}
 use Rattle.repo_core.specs.Moving.{MakesRoom}
 use Rattle.repo_core.specs.Shown.{Shown}
 use Rattle.repo_core.specs.Telling.{Tells}

@@ -8,7 +8,7 @@ use Rattle.base_reasons.specs.declared.reason.Reason.TheVariants.{Gone}
 use Rattle.base_reasons.specs.declared.reason.Reason.{Reason}
 use Rattle.repo_durable.specs.Kept.{StandsAfter, held_of, is_fault, is_up, repo_named}
 use Rattle.repo_durable.specs.declared.stable.Stable.{Stable}
-use Rattle.std.proofs.Common.{Bool, Err, Ok, Option, Result, ap, false, refl, subst, sym, true, ℕ, ◌∙◌, ◌≡◌}
+use Rattle.std.proofs.Common.{Err, Ok, Option, Result, ap, false, refl, subst, sym, true, ℕ, ◌∙◌, ◌≡◌}
 use Rattle.std.specs.Prelude.{IfErr}
 use Rattle.repo_refusals.specs.declared.refusal.Refusal.TheVariants as refused
 use Rattle.repo_refusals.specs.declared.refusal.Refusal.{Refusal}

@@ -8,7 +8,7 @@ use Rattle.repo_durable.specs.Kept.{IsFallen, IsKept, IsOpenIn, StandsAfter, dis
 use Rattle.repo_durable.specs.declared.stable.Phase.TheVariants.{Down, Torn, Up}
 use Rattle.repo_durable.specs.declared.stable.Phase.{Phase}
 use Rattle.repo_durable.specs.declared.stable.Stable.{Stable}
-use Rattle.std.proofs.Common.{Bool, Option, ap, cond, false, refl, sym, true, ◌≡◌, ◌∙◌}
+use Rattle.std.proofs.Common.{Bool, Option, ap, cond, false, refl, true, ◌≡◌, ◌∙◌}
 use Rattle.repo_refusals.specs.declared.refusal.Refusal.TheVariants as refused
 use Rattle.repo_refusals.specs.declared.refusal.Refusal.{Refusal}
 

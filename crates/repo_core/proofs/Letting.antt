@@ -1,7 +1,7 @@
 -- Decisions of earlier lives that go.
 use Rattle.repo_state.specs.declared.held.Held.{Held}
 use Rattle.repo_core.specs.Restarting.{LetsGo}
-use Rattle.std.proofs.Common.{Bool, List, Option, ap, arith, cond, false, refl, subst, sym, true, ℕ, ◌<◌, ◌∙◌, ◌≡◌, ◌≤◌}
+use Rattle.std.proofs.Common.{Bool, Option, ap, arith, cond, false, refl, subst, sym, true, ℕ, ◌<◌, ◌∙◌, ◌≡◌, ◌≤◌}
 use Rattle.std.specs.Cmp.{Equal-is}
 use Rattle.std.specs.Ordering.{eq_by_cmp}
 use Rattle.std.specs.Prelude.{None, Some, option_and_then}
@@ -10,7 +10,7 @@ use Rattle.thor_value.proofs.NameOrders.{ts_exact, ts_total}
 use Rattle.thor_value.specs.FiniteMap.{get}
 use Rattle.thor_value.specs.Names.{ts_cmp}
 use Rattle.thor_value.specs.declared.names.Ts.{Ts}
-use Rattle.two_phase.specs.Contents.{Contents, keeps, open_at, request_of, without}
+use Rattle.two_phase.specs.Contents.{Contents, keeps, request_of, without}
 use Rattle.two_phase.specs.declared.transaction.Transaction.TheVariants as kept
 use Rattle.two_phase.specs.declared.transaction.Transaction.{Transaction}
 

@@ -3,7 +3,7 @@ use Rattle.log_entries.specs.declared.entry.Entry.TheVariants.{Life}
 use Rattle.log_entries.specs.declared.entry.Entry.{Entry}
 use Rattle.repo_state.specs.Entering.{entered}
 use Rattle.repo_state.specs.declared.held.Held.{Held}
-use Rattle.repo_core.specs.Behind.{HasMoved, IsRecovered, IsRestarted, MovesObjects}
+use Rattle.repo_core.specs.Behind.{HasMoved, IsRestarted, MovesObjects}
 use Rattle.repo_durable.specs.Flushes.{HasFlushed}
 use Rattle.std.proofs.Common.{Err, Ok, OnOk, Result, ap, inl, inr, refl, subst, ℕ, ◌∙◌, ◌≡◌}
 use Rattle.thor_value.specs.declared.memory.NoMemory.{NoMemory}

@@ -8,7 +8,7 @@ use Rattle.log_entries.specs.declared.request.Kind.{Kind}
 use Rattle.log_entries.specs.declared.request.Request.{Request}
 use Rattle.mob_buffer.proofs.Sizes.{found_fits}
 use Rattle.mob_buffer.specs.Buffer.{AreOf, Objects, object_of}
-use Rattle.mob_flusher.specs.Images.{IsImage, ShowsImage, name_of, over}
+use Rattle.mob_flusher.specs.Images.{IsImage, ShowsImage, name_of}
 use Rattle.mob_flusher.specs.Map.{Has, HasOver, Kept, PageHas}
 use Rattle.object_codec.specs.Spelling.{obj_bytes}
 use Rattle.page_format.proofs.Pages.{one_page}

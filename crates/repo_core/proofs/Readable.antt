@@ -3,10 +3,8 @@ use Rattle.disk_trait.specs.Disks.{Disks}
 use Rattle.repo_core.specs.Shown.{Shown, ShowsPages, shown}
 use Rattle.repo_durable.specs.Pages.{HasPages}
 use Rattle.repo_durable.specs.declared.stable.Stable.{Stable}
-use Rattle.std.proofs.Common.{Err, IsErrOf, Ok, Result, subst, sym, ℕ, ◌≡◌}
-use Rattle.std.specs.Prelude.{IfErr}
+use Rattle.std.proofs.Common.{subst, sym, ℕ, ◌≡◌}
 use Rattle.repo_trace.specs.Recorded.{Recorded}
-use Rattle.repo_refusals.specs.declared.refusal.Refusal.{Refusal}
 use Rattle.repo_volatile.specs.Volatile.{Memory}
 
 -- of what is shown and of the store

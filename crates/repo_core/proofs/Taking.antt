@@ -2,11 +2,10 @@
 use Rattle.log_entries.specs.declared.entry.Entry.{Entry}
 use Rattle.repo_core.specs.Objects.{ObjectsTake, TakesOrPends, writes_in}
 use Rattle.repo_state.specs.Entering.{entered, loaded}
-use Rattle.repo_state.specs.declared.held.Held.{Held}
-use Rattle.repo_core.proofs.Refused.{falls_behind, moved_none, moved_on}
+use Rattle.repo_core.proofs.Refused.{moved_none, moved_on}
 use Rattle.repo_core.specs.Behind.{MovesObjects}
 use Rattle.repo_core.specs.Refusing.{GoesDown, Moved}
-use Rattle.repo_core.specs.Restarting.{AllTold, ComesUp, DropsEarlier, FailsBehind, Recovers, StaysDown, Takes, TakesNone, content_of, life_behind}
+use Rattle.repo_core.specs.Restarting.{AllTold, ComesUp, DropsEarlier, Recovers, StaysDown, Takes, TakesNone, content_of, life_behind}
 use Rattle.repo_core.specs.Shown.{Shown, shown}
 use Rattle.law_repo_memory.specs.Coming.{BeginsLife}
 use Rattle.law_repo_memory.specs.Running.{came_with}
@@ -19,12 +18,9 @@ use Rattle.repo_durable.specs.declared.stable.Phase.{Phase}
 use Rattle.repo_durable.specs.Taking.{TakesFrom}
 use Rattle.repo_durable.specs.declared.recovering.Taken.TheVariants as taken
 use Rattle.repo_durable.specs.declared.recovering.Taken.{Taken}
-use Rattle.std.proofs.Common.{Bool, Err, List, Ok, OnOk, Option, Result, ap, arith, false, inl, inr, refl, subst, suc, sym, true, zero, ◌<◌, ◌∙◌, ◌≡◌, ℕ}
+use Rattle.std.proofs.Common.{Err, List, Ok, OnOk, Option, Result, ap, arith, false, inl, inr, refl, subst, suc, sym, zero, ◌<◌, ◌∙◌, ◌≡◌, ℕ}
 use Rattle.std.specs.Prelude.{None, Some, [], ◌⊎◌}
-use Rattle.thor_value.specs.FiniteMap.{Set}
-use Rattle.thor_value.specs.Names.{ts_cmp}
 use Rattle.repo_trace.specs.Recorded.{Recorded, with_entry}
-use Rattle.repo_volatile.proofs.Lasting.{lasts_itself}
 use Rattle.repo_volatile.specs.Volatile.{Memory, Outlasts}
 
 -- nothing beside what was held

@@ -1,5 +1,5 @@
 -- What is in memory behind what it was told.
-use Rattle.log_entries.specs.declared.entry.Entry.TheVariants.{One, Prepared, Upgraded}
+use Rattle.log_entries.specs.declared.entry.Entry.TheVariants.{Prepared}
 use Rattle.log_entries.specs.declared.request.Kind.TheVariants.{App, Transform, Upgrade}
 use Rattle.log_entries.specs.declared.request.Kind.{Kind}
 use Rattle.log_entries.specs.declared.request.Request.{Request}
@@ -9,7 +9,7 @@ use Rattle.repo_core.specs.Behind.{alone_entry}
 use Rattle.repo_core.specs.Calls.{IsTold}
 use Rattle.law_repo_memory.proofs.Reopening.{reopens-other, reopens-own}
 use Rattle.law_repo_memory.specs.Coming.{Becomes, Moves, ReopensTo, alone_queue, decided_queue}
-use Rattle.std.proofs.Common.{Bool, Err, List, Ok, OnOk, Result, ap, cond, refl, subst, sym, ℕ, ◌≡◌, ◌∙◌}
+use Rattle.std.proofs.Common.{Bool, Err, Ok, OnOk, Result, ap, cond, refl, subst, sym, ℕ, ◌≡◌, ◌∙◌}
 use Rattle.std.specs.Prelude.{None, Option, Some, false, nat_eq, true}
 use Rattle.thor_value.specs.FiniteMap.{add, has}
 use Rattle.thor_value.specs.Names.{ts_cmp}

@@ -12,7 +12,6 @@ use Rattle.session_outbox.specs.declared.answers.Asked.{Asked}
 use Rattle.session_outbox.specs.declared.answers.Verdict.{Verdict}
 use Rattle.session_outbox.specs.declared.message.Message.{Message}
 use Rattle.spec_trace.specs.declared.mark.Mark.TheVariants.{Refused, Took}
-use Rattle.spec_trace.specs.declared.mark.Mark.{Mark}
 use Rattle.repo_durable.specs.Flushes.{HasFlushed}
 use Rattle.repo_durable.specs.Kept.{is_fault}
 use Rattle.std.specs.Prelude.{Bool, Err, None, Ok, Option, Result, Some, cond, false, is_some, length, min, nat_eq, true, ℕ, ◌-◌, ◌^◌, ◌≡◌, ◌⊎◌}

@@ -14,7 +14,7 @@ use Rattle.law_repo_memory.specs.Running.{held_with, recorded_with, requested_wi
 use Rattle.std.specs.Option.{IfSome}
 use Rattle.std.specs.Prelude.{List, None, Option, Some, false, suc, zero, ℕ, ◌+◌, ◌<◌, ◌≡◌, ◌≤◌, ◌⊎◌}
 use Rattle.repo_format.specs.Fresh.{IsFresh}
-use Rattle.thor_value.specs.FiniteMap.{IsSorted, empty, get, has}
+use Rattle.thor_value.specs.FiniteMap.{IsSorted, empty, get}
 use Rattle.thor_value.specs.declared.names.Ts.{Ts}
 use Rattle.repo_trace.specs.Recorded.{with_entry}
 use Rattle.two_phase.specs.Contents.{Contents, keeps, open_at}

@@ -1,6 +1,6 @@
 -- A disk fails in one of several calls.
 use Rattle.disk_trait.proofs.Several.{goes_one, goes_then}
-use Rattle.disk_trait.specs.AllDisks.{GoesOn, LeavesAll, MayLeaveAll}
+use Rattle.disk_trait.specs.AllDisks.{GoesOn, LeavesAll}
 use Rattle.disk_trait.specs.Disks.{Disks, OnDisk, Rose}
 use Rattle.disk_trait.specs.Fused.{armed, fell_of, fused_disks, parts_of}
 use Rattle.disk_trait.specs.declared.fused.Fused.{Fused}
@@ -14,7 +14,7 @@ use Rattle.std.proofs.lemmas.Bool.{cases_lt}
 use Rattle.std.proofs.lemmas.List.Sums.{get_or-le-sum_by}
 use Rattle.std.specs.List.{sum}
 use Rattle.std.specs.Prelude.{slice_get}
-use Rattle.std.proofs.Common.{Bool, IfSome, List, None, [], ap, arith, false, inl, inr, length, refl, slice_index, subst, suc, sym, true, zero, ℕ, ◌<◌, ◌≤◌, ◌∙◌, ◌∷◌, ◌≡◌}
+use Rattle.std.proofs.Common.{Bool, IfSome, List, None, [], ap, arith, false, inl, inr, length, refl, slice_index, subst, suc, true, zero, ℕ, ◌<◌, ◌≤◌, ◌∙◌, ◌∷◌, ◌≡◌}
 
 -- a disk failed behind calls
 pub failed_behind : (old mid new : ℕ → ℕ) → NoFewer old mid → HasFailed mid new → HasFailed old new

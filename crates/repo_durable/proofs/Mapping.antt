@@ -1,6 +1,6 @@
 -- What becomes of the objects of a repository through each call.
 use Rattle.commit_log.proofs.ValueLaws.{object_in-writes}
-use Rattle.commit_log.specs.Recovered.{after, is_off}
+use Rattle.commit_log.specs.Recovered.{after}
 use Rattle.commit_log.specs.Values.{object_in, writes_if, writes_of, written_last}
 use Rattle.disk_trait.specs.AllDisks.{GoesOn, MayLeaveAll, ReadsAs, TellsAll}
 use Rattle.disk_trait.specs.Disks.{Disks, Leaves, OnDisk, WhereTold}
@@ -46,13 +46,11 @@ use Rattle.std.proofs.Common.{Bool, Err, IfOk, List, None, Ok, OnOk, Option, Res
 use Rattle.std.proofs.lemmas.Map.Views.{tells_apart}
 use Rattle.std.specs.BTreeMap.{insert_entry, is_at}
 use Rattle.std.specs.Cmp.{eq_by_cmp_equiv}
-use Rattle.std.specs.Map.{lookup}
 use Rattle.std.specs.Ordering.{nat_cmp}
 use Rattle.two_phase.specs.Contents.{open_at}
 use Rattle.thor_value.proofs.NameOrders.{oref_exact, oref_total}
 use Rattle.thor_value.specs.Names.{oref_cmp, same_oref}
 use Rattle.thor_value.specs.declared.names.Oref.{Oref}
-use Rattle.thor_value.specs.declared.names.Ts.{Ts}
 use Rattle.thor_value.specs.declared.values.Obj.{Obj}
 
 -- ---- the buffer

@@ -14,8 +14,7 @@ use Rattle.repo_durable.proofs.Failing.{failed_behind}
 use Rattle.repo_durable.specs.Causes.{cause_of_log, cause_of_outage, cause_of_store}
 use Rattle.repo_durable.specs.Failing.{HasFailed}
 use Rattle.repo_durable.specs.declared.fault.OpenCause.TheVariants as cause
-use Rattle.repo_durable.specs.declared.fault.OpenCause.{OpenCause}
-use Rattle.std.proofs.Common.{Err, IsErrOf, Ok, Result, ap, arith, refl, sym, ◌<◌, ◌∙◌, ◌≡◌, ℕ}
+use Rattle.std.proofs.Common.{IsErrOf, Result, arith, refl, ◌<◌, ◌∙◌, ◌≡◌, ℕ}
 
 -- in a call of this disk
 pub call_failed : {T : Type 0} (old new : Disks) (disk : ℕ) (result : Result T Outage) → disk < 2 → IsCall old new disk result → IsErrOf result Failed → HasFailed old.faults new.faults

@@ -1,11 +1,10 @@
 -- The first state has a spelling.
-use Rattle.class_defs.specs.declared.store.Root.{Root}
 use Rattle.log_entries.specs.RequestForm.{RequestFits, WriteFits}
 use Rattle.log_entries.specs.declared.request.Request.{Request}
 use Rattle.log_codec.specs.Checkpoint.{RootFits, StampFits, StateFits, are_new, client_of, tx_of}
 use Rattle.log_codec.specs.declared.state.State.{State}
 use Rattle.page_format.specs.Sides.{SidesFit}
-use Rattle.std.proofs.Common.{IsTrue, List, [], arith, map, refl, rules, subst, sym, ◌<◌, ◌^◌, ◌≡◌, ◌≤◌, ℕ}
+use Rattle.std.proofs.Common.{IsTrue, List, [], arith, map, rules, subst, sym, ◌<◌, ◌^◌, ◌≡◌, ◌≤◌, ℕ}
 use Rattle.std.specs.List.Sorted.{IsStrictlySortedBy}
 use Rattle.std.specs.List.{AllByRecursion}
 use Rattle.std.specs.Ordering.{nat_cmp}

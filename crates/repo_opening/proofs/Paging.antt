@@ -3,15 +3,13 @@ use Rattle.class_defs.specs.Stored.{Objects}
 use Rattle.page_format.specs.declared.format.StoreFormat.{StoreFormat}
 use Rattle.recovery.specs.Paged.{IsOnSide}
 use Rattle.repo_opening.specs.Paged.{PutsPaged, PutsSide}
-use Rattle.std.proofs.Common.{List, None, OnOk, Result, Some, [], arith, ap, cond, get_or, length, refl, slice_get, subst, suc, sym, take, zero, ◌++◌, ◌+◌, ◌<◌, ◌∙◌, ◌≡◌, ◌∷◌, ◌≤◌, ℕ}
+use Rattle.std.proofs.Common.{List, Some, [], arith, ap, get_or, length, refl, slice_get, subst, suc, sym, take, zero, ◌++◌, ◌+◌, ◌<◌, ◌∙◌, ◌≡◌, ◌∷◌, ◌≤◌, ℕ}
 use Rattle.std.proofs.Math.Seq.{take-suc}
 use Rattle.std.proofs.lemmas.Grind.{flat_map-append}
 use Rattle.std.proofs.lemmas.List.Sums.{fold-append}
 use Rattle.std.proofs.lemmas.List.{append-nil, take_all}
 use Rattle.std.proofs.lemmas.Slice.Zip.{all_zipped_more}
-use Rattle.std.specs.List.{AllByRecursion, AllZip, flat_map}
-use Rattle.std.specs.Ordering.{is_eq}
-use Rattle.std.specs.declared.cmp.Ordering.{Ordering}
+use Rattle.std.specs.List.{AllByRecursion, flat_map}
 use Rattle.thor_value.specs.FiniteMap.{insert, overwrite}
 use Rattle.thor_value.specs.declared.names.Oref.{Oref}
 use Rattle.thor_value.specs.declared.values.Obj.{Obj}

@@ -13,7 +13,6 @@ use Rattle.std.proofs.lemmas.Option.{same_Some}
 use Rattle.std.specs.Prelude.{Bool, None, Option, Some, false, true}
 use Rattle.thor_value.specs.declared.names.Ts.{Ts}
 use Rattle.validation_queue.specs.Contents as queue
-use Rattle.validation_queue.specs.Contents.{Contents}
 
 module _ (b : Base) (H : List Entry) (sd : sound b H) where
   abbrev W : Window

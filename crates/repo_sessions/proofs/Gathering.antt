@@ -3,7 +3,6 @@ use Rattle.cached_sets.proofs.Meaning.{same_test}
 use Rattle.link_table.specs.Pairs.{is_linked, lefts}
 use Rattle.repo_sessions.specs.Noting.{IsGathered, IsNoted, Named, if_any, named, names_of, noted, noted_behind, noted_for}
 use Rattle.std.proofs.Common.{Bool, List, [], add-one, ap, append_assoc, arith, cond, false, get_or, length, map, nat_eq, refl, subst, suc, sym, take, true, zero, ◌+◌, ◌++◌, ◌<◌, ◌∙◌, ◌∷◌, ◌≡◌, ℕ}
-use Rattle.std.proofs.lemmas.Bool.Decides.{nat_tests}
 use Rattle.std.proofs.lemmas.Bool.{eqb-true}
 use Rattle.std.proofs.lemmas.Cmp.{eq_by_cmp_equiv, nat_eq_equiv}
 use Rattle.std.proofs.lemmas.List.Elements.{filter-append}

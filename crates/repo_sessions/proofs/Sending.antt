@@ -5,7 +5,7 @@ use Rattle.session_outbox.proofs.Ordered.{behind_push}
 use Rattle.session_outbox.specs.Outbox.{Waiting, push, pushed_to, waiting}
 use Rattle.session_outbox.specs.declared.message.Message.TheVariants.{Invalid, Upgrade}
 use Rattle.session_outbox.specs.declared.message.Message.{Message}
-use Rattle.std.proofs.Common.{Bool, List, [], ap, append_assoc, arith, cond, false, nat_eq, refl, subst, sym, true, ◌++◌, ◌∙◌, ◌∷◌, ◌≡◌, ℕ}
+use Rattle.std.proofs.Common.{Bool, List, [], ap, append_assoc, cond, false, nat_eq, refl, subst, sym, true, ◌++◌, ◌∙◌, ◌∷◌, ◌≡◌, ℕ}
 use Rattle.std.proofs.lemmas.Bool.{eqb-true}
 use Rattle.std.proofs.lemmas.List.{append-nil}
 use Rattle.std.proofs.lemmas.Map.{keys-set_value}

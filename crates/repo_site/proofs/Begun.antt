@@ -9,7 +9,6 @@ use Rattle.repo_state.specs.Keeps.{Keeps}
 use Rattle.repo_state.specs.declared.held.Held.{Held}
 use Rattle.spec_history.specs.History.{Base}
 use Rattle.std.proofs.Common.{Bool, List, Option, [], cond, eqb-true, false, leb-true, option_and_then, arith, refl, subst, sym, true, ℕ, ◌&&◌, ◌<◌, ◌∙◌, ◌∷◌, ◌≡◌, ◌≤◌}
-use Rattle.std.proofs.lemmas.Map.Lookups.{CmpEqualImpliesEq}
 use Rattle.std.proofs.lemmas.Map.Views.{tells_apart}
 use Rattle.std.specs.BTreeMap.{is_at}
 use Rattle.std.specs.List.{list_all}

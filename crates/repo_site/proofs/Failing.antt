@@ -1,24 +1,19 @@
 -- What a call promises that fails its test: nothing is done, and the repository is down.
-use Rattle.client_port.specs.Works.{AskWork, CommitWork, ConnectWork, DecideWork, FetchWork, FinishWork, ForgetWork, IsHalted, PrepareWork, alone_entry, is_prepared_by}
-use Rattle.client_port.specs.Views.{Unsettled}
+use Rattle.client_port.specs.Works.{AskWork, CommitWork, ConnectWork, DecideWork, FetchWork, FinishWork, ForgetWork, PrepareWork, alone_entry, is_prepared_by}
 use Rattle.law_repo_calls.proofs.Phases.{down_phase}
-use Rattle.law_repo_calls.specs.Seen.{phase}
 use Rattle.law_repo_memory.specs.Agreeing.{trace_of}
 use Rattle.law_repo_runs.specs.Standing.{Phase}
 use Rattle.log_entries.specs.declared.entry.Entry.TheVariants.{Decided, Finished, Prepared}
 use Rattle.log_entries.specs.declared.request.Request.{Request}
 use Rattle.repo_core.specs.Shown.{Shown}
 use Rattle.repo_refusals.specs.declared.refusal.Refusal.TheVariants as refused
-use Rattle.repo_refusals.specs.declared.refusal.Refusal.{Refusal}
 use Rattle.repo_site.proofs.Leaving.{have_halted}
 use Rattle.repo_site.specs.Working.{AnyBase, Halts, MayLeave, RunsBy, WorksBy}
 use Rattle.session_outbox.specs.declared.answers.Asked as answer
-use Rattle.session_outbox.specs.declared.answers.Verdict.{Verdict}
-use Rattle.session_outbox.specs.declared.answers.Welcome.{Welcome}
 use Rattle.spec_history.specs.History.{Base, is_undecided, known_by}
 use Rattle.spec_trace.specs.Trace.{entries}
 use Rattle.spec_trace.specs.Verdict.{verdict}
-use Rattle.std.proofs.Common.{Bool, Err, Option, Result, ap, false, subst, true, ℕ, ◌≡◌}
+use Rattle.std.proofs.Common.{Bool, Err, ap, false, subst, true, ℕ, ◌≡◌}
 use Rattle.std.specs.Prelude.{None}
 use Rattle.thor_value.specs.declared.names.Ts.{Ts}
 

@@ -8,7 +8,7 @@ use Rattle.law_repo_memory.proofs.Answering.{session-answers}
 use Rattle.law_repo_memory.proofs.Judging.{accepted-by-trace}
 use Rattle.law_repo_memory.specs.Agreeing.{state_of, trace_of}
 use Rattle.law_repo_calls.proofs.Phases.{agreement, right_up}
-use Rattle.law_repo_runs.specs.Happening.{MayMake, WasRefused}
+use Rattle.law_repo_runs.specs.Happening.{WasRefused}
 use Rattle.log_entries.specs.declared.entry.Entry.TheVariants.{Prepared}
 use Rattle.log_entries.specs.declared.request.Kind.TheVariants.{App, Transform, Upgrade}
 use Rattle.log_entries.specs.declared.request.Kind.{Kind}

@@ -1,8 +1,8 @@
 -- Requests, decisions and verdicts do their work.
 use Rattle.base_reasons.specs.declared.reason.Reason.TheVariants as reasons
 use Rattle.base_reasons.specs.declared.reason.Reason.{Reason}
-use Rattle.client_port.specs.Views.{Calm, Halted, MayCome, Unsettled}
-use Rattle.client_port.specs.Works.{AnswersOf, AskWork, CommitWork, DecideWork, Decides, FinishWork, ForgetWork, IsHalted, MayHaveLeft, OutageWith, PrepareWork, RequestRefused, alone_entry, commits_by, is_prepared_by}
+use Rattle.client_port.specs.Views.{Calm, Unsettled}
+use Rattle.client_port.specs.Works.{AnswersOf, AskWork, CommitWork, DecideWork, Decides, FinishWork, ForgetWork, MayHaveLeft, OutageWith, PrepareWork, RequestRefused, alone_entry, commits_by, is_prepared_by}
 use Rattle.law_atomic_commit.proofs.Asked.{table-answers}
 use Rattle.law_atomic_commit.specs.Asking.{answer_by}
 use Rattle.law_repo_calls.proofs.Phases.{agreement}
@@ -17,7 +17,7 @@ use Rattle.log_entries.specs.declared.request.Kind.TheVariants.{App, Transform, 
 use Rattle.log_entries.specs.declared.request.Kind.{Kind}
 use Rattle.log_entries.specs.declared.request.Request.{Request}
 use Rattle.repo_core.specs.Behind as core
-use Rattle.repo_core.specs.Behind.{IsAsked, IsVerdict, Stands, has_prepared, is_committed, is_marked, is_of_session, with_refusal}
+use Rattle.repo_core.specs.Behind.{IsAsked, IsVerdict, Stands, has_prepared, is_committed, is_of_session, with_refusal}
 use Rattle.repo_core.specs.Calls.{judged}
 use Rattle.repo_core.specs.Refusing.{CanRefuse, GoesDown, HasNoReason, IsEnded, Leaves, made_of}
 use Rattle.repo_core.specs.Shown.{Shown}
@@ -25,7 +25,7 @@ use Rattle.repo_durable.specs.Kept.{is_fault}
 use Rattle.repo_refusals.specs.declared.refusal.Refusal.TheVariants as refused
 use Rattle.repo_refusals.specs.declared.refusal.Refusal.{Refusal}
 use Rattle.repo_sessions.specs.Sessions.{has_session}
-use Rattle.repo_site.proofs.Leaving.{behind_refusal, calm, entered_is, fallen, halted, have_halted, have_left, idle, is_down_never, left_with, marked_is, outage, sessions, stays_up}
+use Rattle.repo_site.proofs.Leaving.{behind_refusal, calm, entered_is, fallen, halted, have_halted, have_left, is_down_never, left_with, marked_is, outage, sessions, stays_up}
 use Rattle.repo_site.specs.Working.{MayLeave}
 use Rattle.repo_trace.specs.Recorded.{with_entry, with_mark}
 use Rattle.session_outbox.specs.declared.answers.Asked as answer
@@ -34,18 +34,17 @@ use Rattle.session_outbox.specs.declared.answers.Verdict.{Verdict}
 use Rattle.spec_history.specs.History.{Base, Known, is_open, is_undecided, known_by, state}
 use Rattle.spec_history.specs.Requests.{is_upgrade_kind}
 use Rattle.spec_trace.proofs.Traces.{entries-items}
-use Rattle.spec_trace.specs.Calls.{Asked, Settled, Undecided, asked, is_kept}
+use Rattle.spec_trace.specs.Calls.{Asked, Settled, Undecided, asked}
 use Rattle.spec_trace.specs.Exact.{IsEndedIn}
 use Rattle.spec_trace.specs.Notices.{is_unended}
 use Rattle.spec_trace.specs.Session.{Session, session, session_ended}
-use Rattle.spec_trace.specs.Trace.{E, Item, M, entries}
+use Rattle.spec_trace.specs.Trace.{E, Item, entries}
 use Rattle.spec_trace.specs.Verdict.{verdict}
 use Rattle.spec_trace.specs.declared.mark.Mark.TheVariants as the
-use Rattle.std.proofs.Common.{Bool, Err, List, Ok, OnErr, OnOk, Option, Result, [], ap, arith, cond, false, inl, inr, length, refl, subst, sym, true, ℕ, ◌++◌, ◌<◌, ◌∙◌, ◌≡◌, ◌∷◌}
+use Rattle.std.proofs.Common.{Bool, Err, List, Ok, OnErr, OnOk, Option, Result, [], ap, cond, false, length, refl, subst, sym, true, ℕ, ◌++◌, ◌<◌, ◌∙◌, ◌≡◌, ◌∷◌}
 use Rattle.std.specs.Prelude.{IfErr, IfOk, IsErrOf, None, Some, is_some, nat_eq, not, ◌&&◌, ◌||◌, ◌⊎◌}
-use Rattle.thor_value.specs.FiniteMap.{get}
 use Rattle.thor_value.specs.declared.names.Ts.{Ts}
-use Rattle.two_phase.specs.Contents.{keeps, open_at, standing}
+use Rattle.two_phase.specs.Contents.{open_at, standing}
 use Rattle.two_phase.specs.Contents as tables
 use Rattle.two_phase.specs.declared.standing.Standing.TheVariants as stands
 use Rattle.two_phase.specs.declared.standing.Standing.{Standing}

@@ -10,23 +10,21 @@ use Rattle.law_repo_sessions.specs.Agreeing.{SessionsAgree, client_of, has_cache
 use Rattle.log_entries.specs.declared.request.Request.{Request}
 use Rattle.repo_core.specs.Calls.{MayRequest}
 use Rattle.repo_core.specs.Shown.{Shown}
-use Rattle.repo_site.proofs.Writing.{each_read, each_written, first_so, second_so, written_is_read}
+use Rattle.repo_site.proofs.Writing.{each_read, each_written, second_so, written_is_read}
 use Rattle.repo_site.specs.Sited.{IsBaseOf}
 use Rattle.repo_site.specs.Testing.{IsBare, IsTested}
 use Rattle.spec_history.proofs.Growth.{length-state}
 use Rattle.spec_history.specs.History.{Base}
 use Rattle.spec_history.specs.Participants as parts
 use Rattle.spec_history.specs.Participants.{HasParticipants, takes_part}
-use Rattle.spec_history.specs.Requests.{has_written, is_upgrade}
 use Rattle.spec_history.specs.Sound.{Vouches}
 use Rattle.spec_trace.specs.Exact.{WritesOnPages}
 use Rattle.spec_trace.specs.Session.{Session, session, session_lives}
-use Rattle.std.proofs.Common.{Bool, List, [], ap, arith, cond, false, length, refl, subst, sym, true, ℕ, ◌+◌, ◌<◌, ◌∙◌, ◌≡◌, ◌≤◌, ◌∷◌}
+use Rattle.std.proofs.Common.{Bool, List, [], arith, cond, false, subst, sym, true, ℕ, ◌+◌, ◌<◌, ◌∙◌, ◌≡◌, ◌≤◌, ◌∷◌}
 use Rattle.std.specs.List.{AllByRecursion, list_any, range_with_len}
 use Rattle.std.specs.Option.{IsSomeAnd}
 use Rattle.std.specs.Prelude.{None, Option, Some, nat_eq, suc, zero, ◌&&◌, ◌≢◌}
 use Rattle.thor_value.specs.FiniteMap.{has}
-use Rattle.thor_value.specs.declared.names.Oref.{Oref}
 
 all_map : {X : Type 0} (P Q : X → Type 0) → ((x : X) → P x → Q x) → (xs : List X) → AllByRecursion P xs → AllByRecursion Q xs
 all_map P Q f [] a = tt

@@ -12,7 +12,6 @@ use Rattle.log_entries.specs.declared.entry.Entry.{Entry}
 use Rattle.repo_core.specs.Behind.{Stands, epoch_of, with_refusal, with_taken}
 use Rattle.repo_core.specs.Refusing.{CanRefuse, HasNoReason, IsGone, Leaves}
 use Rattle.repo_core.specs.Shown.{Shown}
-use Rattle.repo_refusals.specs.Queue.{queue_of}
 use Rattle.repo_refusals.specs.Window.{window}
 use Rattle.repo_refusals.specs.declared.refusal.Refusal.{Refusal}
 use Rattle.repo_sessions.specs.Sessions.{is_live}
@@ -32,7 +31,7 @@ use Rattle.spec_trace.specs.Notices.{lives}
 use Rattle.spec_trace.specs.Session.{Session, session, session_lives}
 use Rattle.spec_trace.specs.Trace.{Item, M, entries}
 use Rattle.spec_trace.specs.declared.mark.Mark.TheVariants as the
-use Rattle.std.proofs.Common.{Bool, Err, List, Ok, OnErr, OnOk, Option, Result, [], ap, arith, length, refl, subst, sym, true, ℕ, ◌+◌, ◌++◌, ◌<◌, ◌^◌, ◌∙◌, ◌≡◌, ◌∷◌}
+use Rattle.std.proofs.Common.{Err, List, Ok, OnErr, OnOk, Option, Result, [], ap, arith, length, subst, sym, true, ℕ, ◌+◌, ◌++◌, ◌<◌, ◌^◌, ◌∙◌, ◌≡◌, ◌∷◌}
 use Rattle.std.specs.Option.{IsSomeAnd}
 use Rattle.std.specs.Prelude.{IfErr, IfOk, None, Some}
 use Rattle.thor_value.specs.declared.names.Ts.{Ts}

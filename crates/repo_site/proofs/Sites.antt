@@ -1,21 +1,20 @@
 -- Calls on the repository of a run.
 use Rattle.client_port.specs.Views.{Unsettled}
-use Rattle.client_port.specs.Works.{IsDown}
 use Rattle.law_client_views.specs.Standing.{unsettled_of}
 use Rattle.law_repo_calls.proofs.Restarts.{stands_on}
 use Rattle.law_repo_calls.proofs.Stepping.{runs_same}
-use Rattle.law_repo_calls.specs.Seen.{IsRun, StandsRight, phase}
+use Rattle.law_repo_calls.specs.Seen.{phase}
 use Rattle.law_repo_memory.specs.Agreeing.{trace_of}
 use Rattle.repo_core.specs.Shown.{Shown}
 use Rattle.repo_refusals.specs.declared.refusal.Refusal.TheVariants as refused
 use Rattle.repo_refusals.specs.declared.refusal.Refusal.{Refusal}
 use Rattle.repo_site.proofs.Leaving.{may_leave}
 use Rattle.repo_site.specs.Run.{Run}
-use Rattle.repo_site.specs.Sited.{Happens, IsBaseOf, Sited, StandsIn}
-use Rattle.repo_site.specs.Working.{AnyBase, HasRepos, IfUp, MayLeave, RunsBy, SiteDoes, WorksBy}
+use Rattle.repo_site.specs.Sited.{Happens, Sited, StandsIn}
+use Rattle.repo_site.specs.Working.{AnyBase, HasRepos, IfUp, RunsBy, SiteDoes, WorksBy}
 use Rattle.spec_history.specs.History.{Base}
 use Rattle.spec_trace.specs.Trace.{Item}
-use Rattle.std.proofs.Common.{Bool, Err, List, Result, false, refl, subst, sym, true, ℕ, ◌≡◌}
+use Rattle.std.proofs.Common.{Bool, Err, List, Result, false, refl, subst, true, ℕ, ◌≡◌}
 
 abbrev pub sited : ℕ → Shown → Sited
 sited number x = record { number = number; shown = x }

@@ -8,7 +8,7 @@ use Rattle.std.specs.List.{AllByRecursion}
 use Rattle.std.specs.Map.{keys_of}
 use Rattle.std.specs.Option.{is_some}
 use Rattle.std.specs.Ordering.{eq_by_cmp}
-use Rattle.std.specs.Prelude.{None, Option, Some, false, ◌&&◌, ◌||◌}
+use Rattle.std.specs.Prelude.{Some, false, ◌&&◌, ◌||◌}
 use Rattle.thor_value.proofs.FiniteMap.{get-insert}
 use Rattle.thor_value.proofs.NameOrders.{oref_exact, oref_total}
 use Rattle.thor_value.specs.FiniteMap.{Map, empty, get, has, insert, overwrite}

@@ -7,7 +7,7 @@ use Rattle.repo_sessions.specs.Sessions.{is_live}
 use Rattle.spec_history.specs.Participants.{takes_part}
 use Rattle.spec_history.specs.Requests.{is_upgrade}
 use Rattle.std.specs.List.{AllByRecursion, list_any}
-use Rattle.std.specs.Prelude.{IsTrue, Some, [], length, nat_eq, true, ℕ, ◌<◌, ◌∷◌, ◌≡◌, ◌≢◌, ◌≤◌}
+use Rattle.std.specs.Prelude.{Some, [], length, nat_eq, true, ℕ, ◌<◌, ◌∷◌, ◌≡◌, ◌≢◌, ◌≤◌}
 use Rattle.thor_value.specs.FiniteMap.{get}
 use Rattle.thor_value.specs.declared.values.Answer.TheVariants.{Ints}
 

@@ -3,17 +3,14 @@
 use Rattle.std.proofs.Common.{◌≡◌, ℕ, List, [], ◌∷◌, None, Some, Err, Result, refl}
 use Rattle.std.specs.Prelude.{codes}
 use Rattle.thor_value.specs.FiniteMap.{empty, insert}
-use Rattle.thor_value.specs.Names.{oref_cmp}
-use Rattle.thor_value.specs.declared.names.Oref.{Oref}
 use Rattle.class_defs.proofs.RuleForms.{the_forms}
-use Rattle.rows_language.proofs.RunForms.{deep, types, statements, turns}
+use Rattle.rows_language.proofs.RunForms.{deep, types, statements}
 use Rattle.class_defs.specs.Calls.{call, call_object, owners_at, run_body}
 use Rattle.class_defs.specs.Expressions.{expression, values_of}
 use Rattle.class_defs.specs.Objects.{field_value, named_value, scope_at, seen, touch}
 use Rattle.class_defs.specs.Run.{meaning}
 use Rattle.class_defs.specs.Statements.{block_of, statement}
 use Rattle.class_defs.specs.Steps.{World, step}
-use Rattle.class_defs.specs.declared.expressions.Expr.{Expr}
 use Rattle.thor_value.specs.declared.values.Value.{Value}
 use Rattle.class_defs.specs.declared.machine.Machine.{Machine}
 use Rattle.class_defs.specs.declared.machine.Stop.{Stop}

@@ -1,5 +1,5 @@
 -- A small schema, and how the worked rows of the rules on upgrades write pieces of text. This project's.
-use Rattle.std.specs.Prelude.{ℕ, List, [], ◌∷◌, map, Option, Some, pos, codes}
+use Rattle.std.specs.Prelude.{ℕ, List, [], ◌∷◌, map, Option, pos, codes}
 use Rattle.class_defs.specs.Applied.{applied}
 use Rattle.class_defs.specs.RuleRows.{class_type, field, int, method, named, root}
 use Rattle.class_defs.specs.UpgradeOrder.{own_fault}
@@ -10,7 +10,6 @@ use Rattle.class_defs.specs.declared.expressions.Expr.TheVariants as expr
 use Rattle.class_defs.specs.declared.expressions.TypeName.{TypeName}
 use Rattle.class_defs.specs.declared.literals.Literal.TheVariants as literal
 use Rattle.class_defs.specs.declared.rules.RuleFault.{RuleFault}
-use Rattle.class_defs.specs.declared.rules.Rule.{Rule}
 use Rattle.class_defs.specs.declared.statements.Stmt.{Stmt}
 use Rattle.class_defs.specs.declared.statements.Stmt.TheVariants as stmt
 use Rattle.class_defs.specs.declared.store.Schema.{Schema}

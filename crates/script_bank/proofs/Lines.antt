@@ -1,7 +1,7 @@
 use native.Mathlib.Numerals.{unary_clauses}
 use native.Mathlib.Omega.{arith}
 use Rattle.std.proofs.Common.{◌≡◌, ◌+◌, ◌*◌, ◌-◌, ◌/◌, ◌%◌, ◌++◌, ◌<◌, ℕ, List, refl}
-use Rattle.script_bank.specs.Bank.{draws_before, event_count, item_count, lines, next_state, state}
+use Rattle.script_bank.specs.Bank.{draws_before, lines, next_state, state}
 
 -- the lines with one more
 pub lines_next : (line : ℕ → List ℕ) (k : ℕ) → lines line (k + 1) ≡ lines line k ++ line k

@@ -1,5 +1,5 @@
 -- That each upgrade of a script names a class, as the grammar has it.
-use Rattle.std.proofs.Common.{◌≡◌, ◌<◌, ◌≤◌, ℕ, zero, suc, List, [], ◌∷◌, ◌++◌, length, Some, None, ap, arith, subst}
+use Rattle.std.proofs.Common.{◌≡◌, ◌<◌, ◌≤◌, ℕ, zero, suc, List, [], ◌∷◌, ◌++◌, length, arith, subst}
 use Rattle.std.specs.List.{AllByRecursion, flat_map}
 use Rattle.class_defs.specs.Accepted.{AllNameAClass}
 use Rattle.class_defs.specs.Applied.{applied}

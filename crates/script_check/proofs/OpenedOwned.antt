@@ -1,5 +1,5 @@
 -- That the store with which a fresh store opens is well owned as a stored map, and each object of its class.
-use Rattle.std.proofs.Common.{◌≡◌, true, false, List, [], ◌∷◌, Option, Some, None, refl, ap, sym, ◌∙◌, subst, ℕ, zero, suc, length, map, not, option_map, arith, ◌≤◌}
+use Rattle.std.proofs.Common.{◌≡◌, true, false, List, [], ◌∷◌, Option, Some, None, refl, ap, sym, ◌∙◌, subst, ℕ, zero, suc, length, map, option_map, arith, ◌≤◌}
 use Rattle.std.proofs.lemmas.Map.Made.{lookup-map_values}
 use Rattle.std.proofs.lemmas.Option.{same_Some}
 use Rattle.std.specs.BTreeMap.{is_at}

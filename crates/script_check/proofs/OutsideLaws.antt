@@ -1,5 +1,5 @@
 -- O7 over the transactions of all clients, behind what an upgrade breaks without them.
-use Rattle.std.proofs.Common.{◌≡◌, ℕ, List, [], ◌∷◌, ◌++◌, Option, Some, None, option_map, Result, Ok, Err, refl, ap, sym, ◌∙◌}
+use Rattle.std.proofs.Common.{◌≡◌, ℕ, List, [], ◌∷◌, ◌++◌, Option, Some, None, option_map, Ok, Err, refl, ap, sym, ◌∙◌}
 use Rattle.std.specs.List.{flat_map}
 use Rattle.std.proofs.lemmas.Grind.{flat_map-append}
 use Rattle.std.proofs.lemmas.List.{append-nil}
@@ -21,7 +21,7 @@ use Rattle.method_check.specs.declared.error.CheckError.TheVariants as errors
 use Rattle.ownership_check.proofs.OneTold.{outside_told}
 use Rattle.serial_model.specs.declared.entries.What.{What}
 use Rattle.serial_model.specs.declared.entries.What.TheVariants.{Tx, Upgrade as UpgradeItem}
-use Rattle.script_check.specs.Judging.{items_rules, what_rules}
+use Rattle.script_check.specs.Judging.{items_rules}
 use Rattle.script_check.specs.Upgrading.{Leads, block_in, blocks_of}
 
 -- ---- items and their blocks

@@ -15,7 +15,7 @@ use Rattle.script_text.specs.declared.piece.Piece.TheVariants.{Gap, Lexeme as Pi
 use Rattle.script_text.specs.Bytes.{is_newline, is_separator, is_letter, is_digit, is_word_byte}
 use Rattle.script_text.specs.Words.{is_keyword, long_symbols, short_symbols, comment_mark, quotation_mark}
 use Rattle.script_text.specs.Pieces.{word_piece, number_piece, quoted_piece, symbol_piece, first_piece}
-use Rattle.script_text.specs.Grammar.{is_word, is_number, is_symbol, quoted, IsToken, Stops, EndsBefore, Part, Separator, Comment, Lexeme, bytes_of, IsPart, BeginsNothing}
+use Rattle.script_text.specs.Grammar.{is_word, is_number, is_symbol, IsToken, Stops, EndsBefore, Part, Separator, Comment, Lexeme, bytes_of, IsPart, BeginsNothing}
 use Rattle.script_text.proofs.Parts.{each_among, piece_for, part_piece}
 use Rattle.script_text.proofs.Quoted.{quoted_length, quoted_taken, word_fits}
 

@@ -1,11 +1,11 @@
 -- A piece that is a token has at most 34 bytes.
 use Rattle.std.proofs.Common.{◌≡◌, ℕ, ◌≤◌, Bool, true, false, List, [], ◌∷◌, length, drop, arith, refl}
-use Rattle.std.specs.Prelude.{◌||◌, ◌==◌, not, nat_lt, nat_eq}
+use Rattle.std.specs.Prelude.{◌||◌, ◌==◌, nat_lt, nat_eq}
 use Rattle.std.specs.List.{prefix_len, take_while, list_any, starts_with}
 use Rattle.std.specs.Str.Parse.{digits_value}
 use Rattle.std.proofs.lemmas.Bool.{cond_both, ltb-false}
 use Rattle.thor_value.specs.Words.{is_text_byte}
-use Rattle.script_text.specs.Bytes.{is_newline, is_separator, is_letter, is_digit, is_word_byte}
+use Rattle.script_text.specs.Bytes.{is_separator, is_letter, is_digit, is_word_byte}
 use Rattle.script_text.specs.Words.{long_symbols, short_symbols, comment_mark, quotation_mark}
 use Rattle.script_text.specs.Pieces.{IsShort, word_piece, number_piece, quoted_piece, symbol_piece, first_piece}
 

@@ -1,5 +1,5 @@
 -- Families of lists, of which some are owned.
-use Rattle.std.proofs.Common.{◌≡◌, ◌≢◌, ◌⊎◌, ℕ, suc, Bool, true, false, ◌||◌, ◌==◌, cond, leb, List, [], ◌∷◌, ◌++◌, length, refl, ap, sym, ◌∙◌, subst, ⊎_elim, arith, eq-eqb, true≢false, inl, inr}
+use Rattle.std.proofs.Common.{◌≡◌, ◌≢◌, ◌⊎◌, ℕ, suc, Bool, true, false, ◌||◌, ◌==◌, cond, leb, List, [], ◌∷◌, ◌++◌, length, refl, ap, sym, ◌∙◌, subst, ⊎_elim, arith, eq-eqb, inl, inr}
 use Rattle.std.proofs.lemmas.Bool.{false≢true, or_left, or_right}
 use mathlib.Core.Logic.{dite}
 use mathlib.Core.List.{IsPrefix}

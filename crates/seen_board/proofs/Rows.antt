@@ -1,5 +1,5 @@
 -- What stands in a row after a change.
-use Rattle.std.proofs.Common.{◌≡◌, ◌≢◌, ℕ, zero, suc, Bool, true, false, ◌||◌, ◌==◌, cond, eqb, List, [], ◌∷◌, ◌++◌, get_or, take, length, append_assoc, refl, ap, sym, ◌∙◌, subst, arith, eq-eqb, ne_eqb, true≢false, ◌<◌, ◌⊎◌, inl, inr, ⊎_elim}
+use Rattle.std.proofs.Common.{◌≡◌, ◌≢◌, ℕ, zero, suc, Bool, true, false, ◌||◌, ◌==◌, cond, eqb, List, [], ◌∷◌, ◌++◌, get_or, take, length, append_assoc, refl, ap, sym, ◌∙◌, subst, arith, eq-eqb, ne_eqb, ◌<◌, ◌⊎◌, inl, inr, ⊎_elim}
 use Rattle.std.proofs.lemmas.Bool.{eqb-true}
 use mathlib.Core.Logic.{dite}
 use native.Mathlib.Decide.{ℕ_discrete}

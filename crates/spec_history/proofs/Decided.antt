@@ -21,7 +21,7 @@ use Rattle.std.specs.Bool.{Decides}
 use Rattle.std.specs.List.{Contains, fold, list_all, list_any, range_with_len}
 use Rattle.std.specs.List.Sorted.{IsStrictlySortedBy}
 use Rattle.std.specs.Map.{lookup}
-use Rattle.std.specs.Option.{IfSome, IsSomeAnd, is_some, option_map}
+use Rattle.std.specs.Option.{IfSome, IsSomeAnd, option_map}
 use Rattle.std.specs.Ordering.{is_eq}
 use Rattle.std.specs.Prelude.{Bool, IsTrue, None, Option, Some, false, nat_eq, true}
 use Rattle.thor_value.proofs.FiniteMap.{IsSorted-insert}

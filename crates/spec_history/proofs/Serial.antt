@@ -10,12 +10,12 @@ use Rattle.spec_history.specs.Laws.{BothWrote, CreatedOnce, Creates, FateStays, 
 use Rattle.spec_history.specs.Order.{HasOrder}
 use Rattle.spec_history.specs.Requests.{bars, has_read, has_written, overwrites}
 use Rattle.spec_history.specs.Sound.{Accepts, each_creates_new, sound}
-use Rattle.std.proofs.Common.{◌≡◌, ◌≢◌, ◌≤◌, ◌<◌, ℕ, List, length, take, refl, ap, sym, ◌∙◌, subst, arith, inl, inr, ◌↔◌}
+use Rattle.std.proofs.Common.{◌≡◌, ◌≢◌, ◌≤◌, ◌<◌, ℕ, List, length, take, ap, sym, ◌∙◌, subst, arith, inl, inr, ◌↔◌}
 use Rattle.std.proofs.lemmas.List.{length-take-le}
 use Rattle.std.proofs.lemmas.Option.{MatchOption-at_some, same_Some}
 use Rattle.std.proofs.lemmas.Bool.{false_from_ne_true}
 use Rattle.std.specs.Bool.{⊤}
-use Rattle.std.specs.Prelude.{Bool, IsTrue, Some, true, false}
+use Rattle.std.specs.Prelude.{IsTrue, Some, false}
 use Rattle.thor_value.specs.Names.{Before}
 use Rattle.thor_value.specs.declared.names.Oref.{Oref}
 use Rattle.thor_value.specs.declared.names.Ts.{Ts}

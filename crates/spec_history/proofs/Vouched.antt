@@ -11,7 +11,7 @@ use Rattle.spec_history.proofs.Making.{alone-put}
 use Rattle.spec_history.proofs.Places.{placed}
 use Rattle.spec_history.proofs.Prefixes.{judged}
 use Rattle.spec_history.proofs.Stamps.{at_most_then, first_at_most, second_at_most}
-use Rattle.spec_history.specs.History.{Base, Committed, Known, State, commit_of, commits, epoch_of, put, known_by, start, state, writers}
+use Rattle.spec_history.specs.History.{Base, Committed, Known, State, commit_of, commits, epoch_of, put, known_by, state, writers}
 use Rattle.spec_history.specs.Laws.{KeepsBase, NoUpgrades, UpgradesAreBare, with_stamps, with_texts, with_writes}
 use Rattle.spec_history.specs.Opening.{IsAtBase, IsBase}
 use Rattle.spec_history.specs.Outcomes.{alone_at}

@@ -5,7 +5,7 @@ use Rattle.spec_history.specs.History.{Base, State, commit_of, epoch_of, put, st
 use Rattle.spec_trace.specs.Exact.{IsEndedIn, IsGoneIn}
 use Rattle.spec_trace.specs.Messages.{InOrder, KeepsOrder, WaitsByPlace}
 use Rattle.spec_history.specs.Requests.{is_upgrade, written}
-use Rattle.spec_trace.specs.Session.{Ended, Grant, Invalid, Live, Notice, Page, Retired, Session, Stage, Upgrade, begun, bound, invalid_of, is_ended, is_live, is_silent, meet, move, moved, notice, or_retired, pass, place_of, push, rested, retired, session, session_ended, session_from, session_lives, told, told_of, upto_of}
+use Rattle.spec_trace.specs.Session.{Ended, Grant, Invalid, Live, Notice, Page, Retired, Session, Stage, Upgrade, begun, bound, invalid_of, is_ended, is_live, is_silent, meet, move, moved, notice, or_retired, pass, place_of, push, rested, retired, session, session_from, session_lives, told, told_of, upto_of}
 use Rattle.spec_trace.specs.Trace.{E, Item, M, entries}
 use Rattle.spec_trace.specs.declared.mark.Mark.TheVariants as the
 use Rattle.std.proofs.Common.{Bool, List, [], ap, arith, cond, inl, inr, rules, false, length, refl, subst, suc, take, true, zero, ℕ, ◌+◌, ◌++◌, ◌<◌, ◌≡◌, ◌≤◌, ◌∙◌, ◌∷◌}

@@ -15,7 +15,7 @@ use Rattle.spec_history.specs.History.{Base, State, commit_of, last_write, objec
 use Rattle.spec_trace.specs.Messages.{InOrder, KeepsOrder, WaitsByPlace}
 use Rattle.spec_history.specs.Laws.{NoUpgrades}
 use Rattle.spec_history.specs.Requests.{is_upgrade}
-use Rattle.spec_trace.specs.Session.{Grant, Invalid, Live, Notice, Page, Retired, Session, Stage, Upgrade, bound, cache, is_silent, meet, move, moved, notice, or_retired, pages_after, place_of, push, rested, retired, session, session_lives, upto_of}
+use Rattle.spec_trace.specs.Session.{Grant, Invalid, Live, Notice, Page, Retired, Session, Stage, Upgrade, bound, cache, is_silent, meet, move, moved, notice, or_retired, pages_after, place_of, rested, retired, session, session_lives, upto_of}
 use Rattle.spec_history.specs.Sound.{sound}
 use Rattle.spec_trace.specs.Trace.{E, Item, M, entries}
 use Rattle.spec_trace.specs.declared.mark.Mark.TheVariants as the

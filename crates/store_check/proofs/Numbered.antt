@@ -4,7 +4,7 @@ use Rattle.class_defs.specs.declared.store.Schemas.{Schemas}
 use Rattle.class_defs.specs.declared.store.UpgradedSchema.{UpgradedSchema}
 use Rattle.store_check.specs.Numbers.{HasNumbers}
 use Rattle.store_check.specs.Tests.{numbered}
-use Rattle.std.proofs.Common.{◌≡◌, ◌≤◌, ◌<◌, ◌^◌, ℕ, zero, suc, Bool, true, false, cond, List, [], ◌∷◌, length, nat_lt, option_map, refl, sym, slice_get, arith, ◌∙◌}
+use Rattle.std.proofs.Common.{◌≡◌, ◌≤◌, ◌<◌, ◌^◌, ℕ, zero, suc, Bool, true, false, cond, List, [], ◌∷◌, length, nat_lt, option_map, refl, slice_get, arith, ◌∙◌}
 use Rattle.std.proofs.lemmas.Bool.{ltb-false, both_ways}
 use Rattle.std.specs.List.{fold}
 use Rattle.std.specs.Prelude.{unwrap_or}

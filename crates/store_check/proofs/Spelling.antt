@@ -19,7 +19,7 @@ use Rattle.script_text.specs.declared.syntax.Syntax.{Syntax}
 use Rattle.script_text.specs.declared.syntax.SyntaxError.TheVariants.{Fault}
 use Rattle.script_text.specs.declared.syntax.SyntaxError.{SyntaxError}
 use Rattle.script_text.specs.declared.token.Token.{Token}
-use Rattle.std.proofs.Common.{Err, IfOk, IfSome, List, None, Ok, Option, Result, Some, [], ap, ap₂, append_assoc, arith, drop, false, get_or, length, option_map, refl, subst, suc, sym, true, add-one, ℕ, ◌++◌, ◌+◌, ◌<◌, ◌∙◌, ◌≡◌, ◌≤◌, ◌∷◌}
+use Rattle.std.proofs.Common.{Err, IfOk, IfSome, List, None, Ok, Option, Result, Some, [], ap, ap₂, append_assoc, drop, false, get_or, length, option_map, refl, subst, suc, sym, true, add-one, ℕ, ◌++◌, ◌+◌, ◌<◌, ◌∙◌, ◌≡◌, ◌≤◌, ◌∷◌}
 use Rattle.std.proofs.Math.Seq.{drop-cons}
 use Rattle.std.proofs.lemmas.List.{append-nil, drop_all}
 use Rattle.store_check.specs.Spelled.{AreClasses, BeginWith, FindsOnly, IsEpochOf, IsLawful, SpellEpochs, SpellSchemas, SpellsEpoch, SpellsFirst, are_named, bare_schema, declared_roots, with_roots}

@@ -3,7 +3,7 @@ use Rattle.class_defs.specs.declared.store.Schemas.{Schemas}
 use Rattle.log_codec.specs.declared.state.State.{State}
 use Rattle.repo_opening.proofs.Paging.{next_first}
 use Rattle.store_opening.proofs.Holding.{all_more}
-use Rattle.std.proofs.Common.{List, [], ap, arith, drop, get_or, inl, inr, length, map, refl, subst, suc, sym, take, zero, ℕ, ◌++◌, ◌+◌, ◌<◌, ◌∙◌, ◌≡◌, ◌≤◌, ◌⊎◌, ◌∷◌}
+use Rattle.std.proofs.Common.{List, [], ap, arith, drop, get_or, inl, inr, length, map, subst, suc, sym, take, zero, ℕ, ◌++◌, ◌+◌, ◌<◌, ◌∙◌, ◌≡◌, ◌≤◌, ◌⊎◌, ◌∷◌}
 use Rattle.std.proofs.lemmas.List.{map-append, take_all}
 use Rattle.std.specs.List.{AllByRecursion}
 use Rattle.store_opening.specs.Fitting.{ArePassed, FailsFrom, FailsIn, HasCoordinators, HasOwnNames, IsAlike, IsBelow, IsFirstNot, IsFirstOr, IsRead, Member, PassFrom, SpellFor, SpellsFrom, members_from}

@@ -11,9 +11,8 @@ use Rattle.repo_opening.specs.Recovered.{IsRecovered}
 use Rattle.repo_opening.specs.Same.{Same}
 use Rattle.repo_opening.specs.Unsound.{IsUnsound}
 use Rattle.repo_opening.specs.declared.repository.Read.{Read}
-use Rattle.std.proofs.Common.{IfOk, IfSome, List, None, Ok, OnOk, Option, Result, Some, [], ap, arith, inl, inr, length, refl, slice_get, subst, suc, sym, take, zero, ℕ, ◌++◌, ◌+◌, ◌∙◌, ◌≡◌, ◌∷◌, ◌⊎◌}
+use Rattle.std.proofs.Common.{IfOk, IfSome, List, None, Ok, OnOk, Option, Result, Some, [], ap, arith, length, refl, slice_get, subst, suc, sym, take, zero, ℕ, ◌++◌, ◌+◌, ◌∙◌, ◌≡◌, ◌∷◌, ◌⊎◌}
 use Rattle.std.proofs.lemmas.Slice.Zip.{AllZip-long, all_zipped_more}
-use Rattle.std.specs.List.{AllZip}
 use Rattle.store_opening.proofs.Holding.{dont_fit, ok_at, whole_of}
 use Rattle.store_opening.specs.Fitting.{IsMisfit}
 use Rattle.class_defs.specs.Stored.{Objects}

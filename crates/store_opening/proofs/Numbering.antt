@@ -6,7 +6,7 @@ use Rattle.repo_opening.specs.declared.repository.Read.{Read}
 use Rattle.std.proofs.Common.{List, [], ap, arith, get_or, length, map, refl, subst, suc, sym, take, zero, ℕ, ◌++◌, ◌+◌, ◌<◌, ◌∙◌, ◌≡◌, ◌≤◌, ◌∷◌}
 use Rattle.std.proofs.lemmas.List.{length-append, map-append, take_all}
 use Rattle.std.specs.List.{AllByRecursion}
-use Rattle.store_opening.specs.Fitting.{Member, members_from}
+use Rattle.store_opening.specs.Fitting.{members_from}
 use Rattle.store_opening.specs.Joined.{read_states, state_of}
 use Rattle.store_opening.specs.Standing.{AreStanding, IsStanding, member_of, members_of}
 use Rattle.store_opening.specs.declared.standing.Stands.{Stands}

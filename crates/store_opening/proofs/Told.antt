@@ -1,6 +1,6 @@
 -- Which repository is told not to fit.
 use Rattle.class_defs.specs.SchemaRules.{schema_rules}
-use Rattle.class_defs.specs.Stored.{Objects, Stored}
+use Rattle.class_defs.specs.Stored.{Objects}
 use Rattle.class_defs.specs.declared.store.Root.{Root}
 use Rattle.class_defs.specs.declared.store.Schemas.{Schemas}
 use Rattle.log_codec.specs.declared.state.State.{State}

@@ -6,7 +6,7 @@ use Rattle.cluster_threads.specs.declared.Ran.{Ran}
 use Rattle.cluster_threads.specs.declared.Start.{Start}
 use Rattle.disk_trait.specs.Disks.{Disks}
 use Rattle.repo_trace.specs.declared.trace.Trace.{Trace}
-use Rattle.std.proofs.Common.{Err, IfErr, IfOk, List, Ok, Result, [], ap, inl, inr, length, refl, subst, sym, ℕ, ◌∙◌, ◌≡◌}
+use Rattle.std.proofs.Common.{Err, IfErr, IfOk, List, Ok, Result, [], ap, inl, inr, length, subst, sym, ℕ, ◌∙◌, ◌≡◌}
 use Rattle.std.proofs.lemmas.Option.{same_Some}
 use Rattle.std.proofs.lemmas.Slice.Zip.{AllZip-long}
 use Rattle.std.specs.Prelude.{IsOk, Some, false, true}

@@ -8,7 +8,7 @@ use Rattle.script_check.specs.Upgrading.{extended, upgrades_of}
 use Rattle.script_parse.specs.declared.script.Script.{Script}
 use Rattle.std.proofs.Common.{◌≡◌, ◌∙◌, Err, IfOk, List, Ok, Result, Some, ap, subst, sym, ℕ}
 use Rattle.std.specs.Prelude.{Bool, IsOk, false, true}
-use Rattle.thor_top.specs.Stages.{AreTracesOf, Awaits, IsAwaited, IsAwaitedBy, IsToldWith, TracesOf, WasMade}
+use Rattle.thor_top.specs.Stages.{AreTracesOf, IsAwaited, IsAwaitedBy, IsToldWith, TracesOf, WasMade}
 use Rattle.thor_top.specs.declared.expected.Expected.{Expected}
 use Rattle.thor_value.specs.declared.memory.NoMemory.{NoMemory}
 use Rattle.top_judging.proofs.StageLaws.{has_script}

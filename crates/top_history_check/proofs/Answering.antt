@@ -20,7 +20,7 @@ use Rattle.serial_model.specs.declared.outcomes.ItemOutcome.{ItemOutcome}
 use Rattle.serial_model.specs.declared.outcomes.ItemOutcome.TheVariants.{Done, Upgraded, Faulted, Refused, Unknown}
 use Rattle.top_history_check.specs.Answered.{AreNext, AreTold, IsTold, Tells}
 use Rattle.top_history_check.specs.Lines.{ArePerformed, item_of, nth}
-use Rattle.top_history_check.specs.Places.{Finds, IsAt, IsOnly, found, key}
+use Rattle.top_history_check.specs.Places.{Finds, IsAt, found, key}
 
 all_at : {X : Type 0} (P : X → Type 0) (xs : List X) (n : ℕ) (x : X) → slice_get xs n ≡ Some x → AllByRecursion P xs → P x
 all_at P [] n x h all = let bad : None ≡ Some x = h in cc

@@ -1,5 +1,5 @@
 -- The places of a history's entries, entry by entry.
-use Rattle.std.proofs.Common.{◌≡◌, ◌<◌, ◌≤◌, ◌+◌, ◌*◌, ℕ, zero, suc, Bool, true, false, cond, not, List, [], ◌∷◌, ◌++◌, length, take, get_or, Option, None, Some, refl, ap, sym, ◌∙◌, subst, arith, ◌==◌, ◌&&◌, inl, inr, ◌⊎◌}
+use Rattle.std.proofs.Common.{◌≡◌, ◌<◌, ◌≤◌, ◌+◌, ◌*◌, ℕ, zero, suc, Bool, true, false, cond, List, [], ◌∷◌, ◌++◌, length, take, get_or, Option, None, Some, refl, ap, sym, ◌∙◌, subst, arith, ◌==◌, ◌&&◌, ◌⊎◌}
 use Rattle.std.proofs.lemmas.Bool.Decides.{nat_tests}
 use Rattle.std.proofs.lemmas.Cmp.{nat_cmp_total}
 use Rattle.std.proofs.lemmas.List.Elements.{filter-append}
@@ -11,7 +11,7 @@ use Rattle.thor_value.specs.FiniteMap.{Map, empty, get, insert}
 use Rattle.thor_value.specs.declared.values.Who.{Who}
 use Rattle.serial_model.specs.Outcomes.{entries_of, same_who}
 use Rattle.serial_model.specs.declared.entries.Did.{Did}
-use Rattle.top_history_check.specs.Places.{Finds, IsAt, IsOnly, key}
+use Rattle.top_history_check.specs.Places.{Finds, IsAt, key}
 
 pub nothing : Finds empty []
 nothing who low = refl

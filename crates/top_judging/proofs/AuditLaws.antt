@@ -12,7 +12,7 @@ use Rattle.top_reply.specs.declared.reply.Reply.{Reply}
 use Rattle.top_reply.specs.declared.reply.Reply.TheVariants as reply
 use Rattle.top_statement.specs.Audits.{audited_of, report_part, script_part}
 use Rattle.top_statement.specs.Opening.{IsAccepted, first_schemas}
-use Rattle.top_statement.specs.Top.{IsWithinLimits, Told, WasRead}
+use Rattle.top_statement.specs.Top.{Told, WasRead}
 use Rattle.top_words.specs.declared.command.Plan.{Plan}
 
 module _ (plan : Plan) where

@@ -4,7 +4,7 @@ use Rattle.repo_opening.specs.declared.unopened.Unopened.TheVariants as why
 use Rattle.repo_opening.specs.declared.unopened.Unopened.{Unopened}
 use Rattle.script_bank.specs.Bank.{script_text}
 use Rattle.script_parse.specs.declared.script.Script.{Script}
-use Rattle.std.proofs.Common.{Err, IfErr, IfOk, List, Ok, Option, Result, ap, inl, inr, refl, subst, sym, ℕ, ◌∙◌, ◌≡◌}
+use Rattle.std.proofs.Common.{Err, IfOk, List, Ok, Option, Result, ap, inl, inr, subst, sym, ℕ, ◌∙◌, ◌≡◌}
 use Rattle.store_opening.specs.declared.found.Store.TheVariants.{Fresh}
 use Rattle.store_opening.specs.declared.found.Store.{Store}
 use Rattle.thor_value.specs.declared.memory.NoMemory.{NoMemory}

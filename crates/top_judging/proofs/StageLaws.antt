@@ -15,7 +15,7 @@ use Rattle.store_opening.specs.Reading.{AreSpelledOn, IsOpened, IsOpenedIn, IsSt
 use Rattle.store_opening.specs.declared.found.Store.TheVariants.{Fresh, Open}
 use Rattle.store_opening.specs.declared.found.Store.{Store}
 use Rattle.thor_value.specs.declared.memory.NoMemory.{NoMemory}
-use Rattle.top_judging.specs.Audits.{RepliesAccepted, RepliesAudit, RepliesAudited, RepliesParts, RepliesReport, RepliesSource}
+use Rattle.top_judging.specs.Audits.{RepliesAccepted, RepliesAudit, RepliesAudited, RepliesReport, RepliesSource}
 use Rattle.top_judging.specs.Origins.{IsScriptFor, RepliesUnreadFor}
 use Rattle.top_judging.specs.Stages.{FitsStore, HasSchemas, IsOpenedAs, IsRead, IsReadFrom, MisfitsStore, RepliesOver, RepliesRefused, RepliesRule, RepliesText, RepliesUnjudged, RepliesUnread, RepliesUnsettled, RepliesWhy}
 use Rattle.repo_opening.specs.declared.unopened.Unopened.TheVariants as why

@@ -7,8 +7,8 @@ use Rattle.std.specs.List.{AllByRecursion}
 use Rattle.std.specs.List.Sorted.{IsStrictlySortedBy}
 use Rattle.std.specs.Map.{keys_of, lookup, remove_entry}
 use Rattle.std.specs.Option.{option_and_then}
-use Rattle.std.specs.Ordering.{eq_by_cmp, is_eq}
-use Rattle.std.specs.declared.cmp.Ordering.TheVariants.{Equal, Less}
+use Rattle.std.specs.Ordering.{eq_by_cmp}
+use Rattle.std.specs.declared.cmp.Ordering.TheVariants.{Less}
 use Rattle.thor_value.proofs.FiniteMap.{IsSorted-insert, IsSorted-remove, get-insert, get-remove, same_map}
 use Rattle.thor_value.proofs.NameOrders.{ts_exact, ts_total}
 use Rattle.thor_value.specs.FiniteMap.{IsSorted, Map, get, insert, remove}

@@ -1,6 +1,5 @@
 use Rattle.cluster_core.proofs.Failing.{failed_twice, fell_twice}
 use Rattle.cluster_core.proofs.opening.format_all.Goals as goal
-use Rattle.cluster_core.specs.Failing.{faults_on}
 use Rattle.cluster_port.specs.Sited.{BeginsNew}
 use Rattle.std.proofs.Common.{subst, sym, ℕ}
 

@@ -1,5 +1,5 @@
 use Rattle.cluster_core.proofs.Seating.{on_always}
-use Rattle.std.proofs.Common.{IsErrOf, inl, inr, refl, rules, subst, sym}
+use Rattle.std.proofs.Common.{IsErrOf, inl, inr, refl, rules}
 use Rattle.repo_opening.specs.declared.unopened.Unopened.TheVariants.{Failed}
 use Rattle.cluster_core.proofs.Failing.{is_ok_at}
 use Rattle.std.specs.Prelude.{IsOk}

@@ -1,6 +1,6 @@
-use Rattle.std.proofs.Common.{◌≡◌, Bool, Option, Some, None, refl, ap, ◌∙◌, ℕ}
+use Rattle.std.proofs.Common.{◌≡◌, Option, Some, None, refl, ◌∙◌, ℕ}
 use Rattle.std.specs.Prelude.{find}
-use Rattle.method_eval.specs.Names.{Names, drop_repo, next, next_by, next_stand_in, reset, spend, waits_in}
+use Rattle.method_eval.specs.Names.{Names, next_by, next_stand_in, waits_in}
 use Rattle.method_eval.specs.declared.held.Held.{Held}
 use Rattle.law_eval.specs.Telling.{HasNoStandIns}
 use Rattle.law_eval.proofs.names.granted_names_have_no_stand_ins.Goals as goal

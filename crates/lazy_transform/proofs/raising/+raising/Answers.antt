@@ -6,7 +6,7 @@ use Rattle.std.specs.Option.{option_copied}
 use Rattle.thor_value.specs.FiniteMap.{Map, get}
 use Rattle.thor_value.specs.Names.{oref_cmp}
 use Rattle.class_defs.specs.Upgrades as upgrades
-use Rattle.class_defs.specs.Upgrades.{field_of_object, object_behind}
+use Rattle.class_defs.specs.Upgrades.{object_behind}
 use Rattle.class_defs.specs.declared.store.Object.{Object}
 use Rattle.class_defs.specs.declared.classes.Class.{Class}
 use Rattle.lazy_transform.proofs.Alike.{transformed_alike}

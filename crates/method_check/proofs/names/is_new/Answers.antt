@@ -1,4 +1,4 @@
-use Rattle.std.proofs.Common.{sym, ◌∙◌}
+use Rattle.std.proofs.Common.{◌∙◌}
 use Rattle.method_check.proofs.SeenNames.{has_more, tells_new}
 use Rattle.method_check.proofs.names.is_new.Goals as goal
 

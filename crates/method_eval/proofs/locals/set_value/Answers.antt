@@ -1,6 +1,5 @@
-use Rattle.std.proofs.Common.{◌≡◌, ap, sym, ◌∙◌}
+use Rattle.std.proofs.Common.{◌≡◌, ◌∙◌}
 use Rattle.std.proofs.lemmas.List.{set-set}
-use Rattle.class_defs.specs.Statements.{with_value}
 use Rattle.method_eval.proofs.locals.set_value.Goals as goal
 
 pub returns : goal.returns

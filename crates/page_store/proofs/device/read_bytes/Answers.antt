@@ -1,4 +1,4 @@
-use Rattle.std.proofs.Common.{arith, rules, ◌≡◌, ◌∙◌, ap, length, take, drop, sym, ℕ, List}
+use Rattle.std.proofs.Common.{arith, rules, ◌≡◌, ◌∙◌, ap, length, take, drop, ℕ}
 use Rattle.std.proofs.lemmas.List.{take_all, drop_all, append-nil, length-take-le, length-drop}
 use Rattle.page_format.specs.Formats.{page_size_in}
 use Rattle.page_store.specs.Sides.{place_in, side_bytes_in}

@@ -1,6 +1,4 @@
-use Rattle.std.proofs.Common.{◌≡◌, Option, Some, None, ℕ, List, arith, subst, sym, ap, IsTrue}
-use Rattle.std.specs.Option.{option_map}
-use Rattle.page_store.specs.Objects.{IsObjectAt}
+use Rattle.std.proofs.Common.{◌≡◌, Some, None, ℕ, arith}
 use Rattle.page_store.proofs.ObjectBytes.{all_next, some_at}
 use Rattle.page_store.proofs.objects.has_objects.Goals as goal
 use Rattle.page_store.proofs.objects.has_objects.Goals.{in-Some+in_ok-is_object_at+else-not-branch, in_default}

@@ -1,4 +1,4 @@
-use Rattle.std.proofs.Common.{◌≡◌, IfOk, List, ap, inl, refl, subst, sym, ℕ}
+use Rattle.std.proofs.Common.{◌≡◌, IfOk, inl, refl, subst, sym, ℕ}
 use Rattle.commit_log.proofs.Holding.{holds_says}
 use Rattle.commit_log.specs.Holds.{Holds}
 use Rattle.commit_log.specs.Recovered.{in_format}

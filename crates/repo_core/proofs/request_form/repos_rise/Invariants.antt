@@ -1,4 +1,4 @@
-use Rattle.std.proofs.Common.{◌≡◌, None, drop}
+use Rattle.std.proofs.Common.{◌≡◌, drop}
 use Rattle.std.specs.Ordering.{nat_cmp}
 use Rattle.log_codec.specs.Grammar.{rise, rise_from}
 use Rattle.repo_core.proofs.request_form.repos_rise.Given as goal

@@ -1,4 +1,4 @@
-use Rattle.std.proofs.Common.{◌≡◌, ◌∷◌, ◌+◌, ◌≤◌, fold, length, arith, rules, subst, sym}
+use Rattle.std.proofs.Common.{◌≡◌, ◌∷◌, ◌+◌, ◌≤◌, fold, length, arith, rules, subst}
 use Rattle.std.specs.Vec.Iter.{into_iter_items}
 use Rattle.script_text.specs.declared.reader.Reader.TheVariants.{Start}
 use Rattle.script_text.specs.Sections.{step, depth_of}

@@ -1,13 +1,12 @@
 use Rattle.class_defs.specs.declared.store.Schemas.{Schemas}
-use Rattle.std.proofs.Common.{IsErrOf, List, ap, rules, subst, sym, ◌∙◌, ◌≡◌, ◌∷◌}
+use Rattle.std.proofs.Common.{IsErrOf, ap, rules, subst, sym, ◌∙◌, ◌≡◌, ◌∷◌}
 use Rattle.store_opening.proofs.Fitting.{failed_first, passed_first, spelled_first, unspelled_first}
 use Rattle.store_opening.proofs.Misfits.{on_ok_at}
 use Rattle.store_opening.proofs.Numbering.{first_member}
-use Rattle.store_opening.specs.Fitting.{ArePassed, AreSchemasOf, Member, members_from}
+use Rattle.store_opening.specs.Fitting.{ArePassed, AreSchemasOf, members_from}
 use Rattle.store_opening.specs.Joined.{read_states, state_of}
 use Rattle.store_opening.specs.Standing.{member_of, members_of}
 use Rattle.store_opening.specs.declared.misfit.Misfit.TheVariants.{Of}
-use Rattle.store_opening.specs.declared.standing.Stands.{Stands}
 use Rattle.store_opening.proofs.fit.check_separate.Goals as goal
 
 pub returns-in_err-schemas-clause-misfit : goal.returns-in_err-schemas-clause-misfit

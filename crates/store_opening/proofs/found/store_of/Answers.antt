@@ -1,5 +1,5 @@
 use Rattle.repo_opening.specs.declared.repository.Read.{Read}
-use Rattle.repo_opening.specs.declared.unopened.Unopened.TheVariants.{Damaged, Failed}
+use Rattle.repo_opening.specs.declared.unopened.Unopened.TheVariants.{Damaged}
 use Rattle.std.proofs.Common.{IsErrOf, List, rules, subst, sym}
 use Rattle.store_opening.proofs.Misfits.{misfit, on_ok_at, some_of}
 use Rattle.store_opening.specs.Joined.{read_states}

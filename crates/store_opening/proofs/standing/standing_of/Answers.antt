@@ -1,4 +1,3 @@
-use Rattle.repo_opening.specs.declared.repository.Read.{Read}
 use Rattle.std.proofs.Common.{refl, ◌∙◌}
 use Rattle.store_opening.proofs.Joining.{in_loop}
 use Rattle.store_opening.proofs.Numbering.{count_more, each_more, members_more, standing_all}

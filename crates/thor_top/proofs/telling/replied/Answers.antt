@@ -1,4 +1,4 @@
-use Rattle.std.proofs.Common.{Err, Result, subst, sym, ◌≡◌}
+use Rattle.std.proofs.Common.{Result, subst, sym, ◌≡◌}
 use Rattle.std.specs.Result.{IsErrAnd}
 use Rattle.repo_opening.specs.declared.unopened.Unopened.TheVariants.{Failed}
 use Rattle.thor_top.proofs.FailLaws.{told_no_disk}

@@ -1,4 +1,4 @@
-use Rattle.std.proofs.Common.{IfOk, Ok, Result, subst, sym, ◌∙◌, ◌≡◌}
+use Rattle.std.proofs.Common.{sym, ◌∙◌, ◌≡◌}
 use Rattle.store_opening.specs.Reading.{ReadAll}
 use Rattle.top_judging.proofs.DiskLaws.{no_disk, unjudged_disk}
 use Rattle.top_judging.specs.Stages.{RepliesUnjudged}

@@ -2,7 +2,6 @@ use Rattle.std.specs.Prelude.{IfOk}
 use Rattle.client_state.specs.declared.link.Link.{Link}
 use Rattle.client_state.specs.Settling.{NewsAsSent}
 use Rattle.client_state.proofs.Writing.{nothing_unsent}
-use Rattle.client_state.specs.declared.duties.Duties.{Duties}
 use Rattle.client_state.specs.declared.held.Held.{Held}
 use Rattle.front_end.proofs.Calling.{on_any}
 use Rattle.front_end.proofs.Stepping.{hands_none, hands_same, hands_then}

@@ -1,6 +1,6 @@
 use Rattle.spec_history.specs.History.{is_undecided, known_in, put}
 use Rattle.log_entries.specs.declared.entry.Entry.TheVariants.{Life}
-use Rattle.std.proofs.Common.{ap, refl, rules, ◌≡◌}
+use Rattle.std.proofs.Common.{refl, rules, ◌≡◌}
 use Rattle.std.proofs.lemmas.Map.Made.{filter_same_pairs}
 use Rattle.std.specs.List.{filter}
 use Rattle.model_reading.specs.Opening.{base_of}

@@ -1,4 +1,4 @@
-use Rattle.std.proofs.Common.{ap, sym, ◌∙◌, Option, None, Some}
+use Rattle.std.proofs.Common.{ap, sym, ◌∙◌, Option, None}
 use Rattle.std.specs.Option.{unwrap_or}
 use Rattle.page_format.specs.Pages.{Contents}
 use Rattle.page_store.proofs.store.PageStore.held.Goals as goal

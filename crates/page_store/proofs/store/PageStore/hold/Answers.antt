@@ -1,10 +1,9 @@
-use Rattle.std.proofs.Common.{◌≡◌, ◌∙◌, ap, sym, subst, refl, Some, nat_eq, ℕ, List}
+use Rattle.std.proofs.Common.{◌≡◌, ◌∙◌, ap, sym, ℕ}
 use Rattle.lru.specs.LruCache.{lru_cache}
-use Rattle.disk_trait.specs.Disks.{Disks, WhereTold}
 use Rattle.page_format.specs.Pages.{Contents}
 use Rattle.page_format.specs.Sides.{side_in_use}
 use Rattle.page_store.specs.Sides.{Shows}
-use Rattle.page_store.specs.Store.{Agrees, page_in}
+use Rattle.page_store.specs.Store.{page_in}
 use Rattle.page_store.proofs.Stores.{Held, some_of, promote_is, keeps_now, agrees_now, there_now, shows_now, held_now}
 use Rattle.page_store.proofs.store.PageStore.hold.Goals as goal
 

@@ -1,4 +1,4 @@
-use Rattle.std.proofs.Common.{◌≡◌, ◌∙◌, ap, sym, subst, refl, Some, ℕ, List}
+use Rattle.std.proofs.Common.{◌≡◌, ◌∙◌, sym, subst, refl, ℕ, List}
 use Rattle.disk_trait.specs.Disks.{Torn, written}
 use Rattle.disk_trait.proofs.Runs.{leaves_weaker}
 use Rattle.page_format.specs.Pages.{page_size}

@@ -1,4 +1,4 @@
-use Rattle.std.proofs.Common.{◌≡◌, ◌∙◌, ap, sym, Some, Option, ℕ}
+use Rattle.std.proofs.Common.{◌≡◌, ◌∙◌, ap, Some, ℕ}
 use Rattle.page_format.specs.Pages.{Contents}
 use Rattle.page_store.specs.Store.{refreshed}
 use Rattle.page_store.proofs.Stores.{staged_found, keeps_settled, agrees_after, refreshed_is, same_page}

@@ -1,13 +1,11 @@
 use Rattle.repo_core.proofs.Begun.{roots_begun}
 use Rattle.repo_core.proofs.Unbegun.{err_failed, ok_fell}
-use Rattle.repo_core.specs.Restarting.{Begins, IsNew}
-use Rattle.repo_core.specs.Shown.{Shown, faults_of}
+use Rattle.repo_core.specs.Shown.{faults_of}
 use Rattle.repo_durable.proofs.Returning.{if_ok_on}
 use Rattle.repo_durable.specs.Kept.{disks_of, held_of}
 use Rattle.repo_durable.specs.declared.fault.OpenCause.TheVariants.{Failed}
-use Rattle.std.proofs.Common.{List, Option, Some, ℕ, ◌≡◌}
+use Rattle.std.proofs.Common.{ℕ, ◌≡◌}
 use Rattle.repo_format.proofs.Roots.{ok_of_two}
-use Rattle.repo_format.specs.Pages.{HasRoots}
 use Rattle.repo_core.proofs.repo.Repo.format.Goals as goal
 
 pub returns-clause-begins : goal.returns-clause-begins

@@ -1,4 +1,3 @@
-use Rattle.disk_trait.specs.Disks.{Disks}
 use Rattle.disk_trait.specs.Fused.{fused_disks}
 use Rattle.repo_core.specs.Shown.{Shown}
 use Rattle.repo_durable.proofs.Saying.{images_of}

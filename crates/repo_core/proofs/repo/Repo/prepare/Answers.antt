@@ -14,7 +14,6 @@ use Rattle.repo_core.specs.Behind.{HasMoved}
 use Rattle.std.proofs.Common.{OnOk, subst}
 use Rattle.repo_trace.specs.Recorded.{Recorded, with_entry}
 use Rattle.repo_core.proofs.Objects.{either_way, objects_then}
-use Rattle.std.proofs.Common.{refl}
 use Rattle.std.proofs.Common.{[]}
 use Rattle.repo_core.proofs.repo.Repo.prepare.Goals as goal
 

@@ -8,7 +8,7 @@ use Rattle.repo_core.proofs.Moves.{told_then}
 use Rattle.repo_core.specs.Refusing.{GoesDown}
 use Rattle.repo_core.specs.Shown.{Shown, shown}
 use Rattle.repo_durable.specs.Kept.{disks_of, is_up}
-use Rattle.std.proofs.Common.{IsErrOf, Ok, OnOk, Some, ap, false, rules, subst, refl, sym, true, ◌∙◌, ◌≡◌}
+use Rattle.std.proofs.Common.{IsErrOf, OnOk, Some, ap, false, rules, subst, refl, sym, true, ◌∙◌, ◌≡◌}
 use Rattle.std.specs.Prelude.{OnErr}
 use Rattle.repo_volatile.specs.Volatile.{Memory, entered}
 use Rattle.repo_core.proofs.Failing.{counts_between, err_shown}

@@ -1,5 +1,4 @@
 use Rattle.disk_trait.proofs.Several.{goes_then}
-use Rattle.disk_trait.specs.AllDisks.{GoesOn}
 use Rattle.disk_trait.specs.Fused.{fused_disks}
 use Rattle.repo_state.specs.Said.{said}
 use Rattle.log_codec.specs.declared.state.State.{State}
