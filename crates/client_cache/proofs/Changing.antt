@@ -1,8 +1,7 @@
 -- The copies of a page behind changes, slot by slot.
-use Rattle.std.proofs.Common.{◌≡◌, ℕ, ◌+◌, ◌<◌, ◌≤◌, true, false, cond, nat_eq, nat_lt, List, Option, Some, None, is_some, refl, ap, sym, subst, ◌∙◌, inl, inr}
+use Rattle.std.proofs.Common.{◌≡◌, ℕ, ◌+◌, ◌<◌, ◌≤◌, true, false, cond, nat_eq, nat_lt, List, Option, Some, None, is_some, refl, ap, sym, ◌∙◌, inl, inr}
 use native.Mathlib.Omega.{arith}
 use Rattle.std.proofs.lemmas.Bool.{cases_lt, eqb-false, eqb-true, le-ltb, lt-ltb, ltb-false}
-use Rattle.thor_value.specs.declared.values.Obj.{Obj}
 use Rattle.client_cache.specs.Changes.{behind, change_in, kept_behind}
 use Rattle.client_cache.specs.Slots.{kept_in}
 use Rattle.client_cache.specs.declared.changes.Change.{Change}
