@@ -1,5 +1,5 @@
 use Rattle.client_cache.proofs.Named.{all_named}
-use Rattle.client_cache.proofs.placing.copies_on.Goals as goal
+use Rattle.client_cache.proofs.placing.changes_on.Goals as goal
 
 pub returns-then-not-have_names-clause-none : goal.returns-then-not-have_names-clause-none
 returns-then-not-have_names-clause-none c = λ none objects b.
