@@ -5,6 +5,7 @@ mod Holding
 pub mod Keeping
 pub mod Moving
 pub mod Owing
+pub mod Parting
 pub mod Pending
 mod Schemas
 pub mod Sessions

@@ -1,5 +1,6 @@
 pub mod Calling
 pub mod Causes
+pub mod Drawing
 pub mod Evaluating
 pub mod Handing
 pub mod Learning
@@ -16,3 +17,4 @@ pub mod Showing
 pub mod Stepping
 pub mod Taking
 pub mod Writing
+pub mod Written

@@ -2,7 +2,7 @@
 use Rattle.client_items.specs.Meanings.{answer_in, kind_of}
 use Rattle.client_state.specs.Calling.{is_session_of, upto_in}
 use Rattle.client_state.specs.Participants.{first_in, others_in}
-use Rattle.client_state.specs.Writing.{is_of}
+use Rattle.client_state.specs.Writing.{FirstOf, is_of}
 use Rattle.client_state.specs.declared.link.Link.{Link}
 use Rattle.client_state.specs.declared.link.Link.TheVariants.{Apart, Joined, Unsettled}
 use Rattle.client_state.specs.declared.phase.Phase.{Phase}
@@ -78,6 +78,15 @@ pub record IsDrawnAt (t : Ts) (transaction : Transaction) : Type 0 where
   pub coordinator : first_in transaction.participants ≡ t.repo
   pub first : is_of t.repo (slice_get transaction.shares.items 0) ≡ true
   pub shares : GoToParticipants transaction
+
+-- The share at a place, where there is one, is the first of its repository.
+abbrev pub IsFirstOfItsOwn : ℕ → List Share → Option Share → Type 0
+IsFirstOfItsOwn place shares None = Unit {0}
+IsFirstOfItsOwn place shares (Some s) = FirstOf s.repo place shares
+
+-- No two of some shares are of one repository.
+abbrev pub AreApart : List Share → Type 0
+AreApart shares = (n : ℕ) → IsFirstOfItsOwn n shares (slice_get shares n)
 
 -- the request of a transform, which brings the object to what it becomes by what it has read
 abbrev pub transform_of : ℕ → ℕ → ℕ → Ts → Oref → Obj → List Oref → Request

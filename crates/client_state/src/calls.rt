@@ -9,6 +9,7 @@ ghost use Rattle.client_state.specs.Pending.{IsWrittenIn};
 ghost use Rattle.client_state.specs.Receiving.{IsNotGone};
 ghost use Rattle.client_state.specs.Showing.{CameIf, CameShown, DrewIf};
 ghost use Rattle.client_state.specs.Writing.{CameStays, DrewStays};
+ghost use Rattle.client_state.specs.Written.{WrittenRefused};
 ghost use Rattle.client_state.specs.declared.link.Link.TheVariants.{Joined};
 ghost use Rattle.client_state.specs.declared.link.Waits.TheVariants.{Idle};
 ghost use Rattle.session_outbox.specs.declared.answers.At.{At};
@@ -175,6 +176,7 @@ impl Held {
         ensures links { self.new.links.items ≡ links_refused refusal repo self.old.links.items }
         ensures copies { CopiesRefused refusal repo self.old.links.items self.old.cache.cache self.new.cache.cache }
         ensures written { (at : At) → IsWrittenIn at self.old → IsWrittenIn at self.new }
+        ensures wrote { WrittenRefused refusal repo self.old.links.items self.old.cache.cache self.new.cache.cache }
         ensures client { self.new.client ≡ self.old.client }
         ensures rest { IsTrue (not result) → self.new ≡ self.old }
         ensures gone { IsTrue (not result) → IsNotGone refusal }

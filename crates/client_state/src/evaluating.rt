@@ -101,6 +101,7 @@ impl Held {
     ) -> Result<Wanted, NoMemory>
         ensures same { HoldsSame self.old self.new }
         ensures bounds { KeepsBounds self.old self.new }
+        ensures stage { transform.new.stage ≡ transform.old.stage }
     {
         for _ in 0..u64::MAX {
             let epoch = transform.parts.epoch;
@@ -126,6 +127,7 @@ impl Held {
     fn look_at(&mut self, transform: &mut Transform, part: Oref) -> Result<bool, NoMemory>
         ensures same { HoldsSame self.old self.new }
         ensures bounds { KeepsBounds self.old self.new }
+        ensures stage { transform.new.stage ≡ transform.old.stage }
     {
         match self.copy_of(part)? {
             Some(obj) => {

@@ -7,6 +7,7 @@ ghost use Rattle.client_state.specs.Moving.{HoldsLess, InSession, IsApart, Keeps
 ghost use Rattle.client_state.specs.Pending.{IsWrittenIn};
 ghost use Rattle.client_state.specs.Taking.{BringsPage};
 ghost use Rattle.client_state.specs.Writing.{WritesStay};
+ghost use Rattle.client_state.specs.Written.{PartsSome, WrittenLost};
 ghost use Rattle.client_state.specs.declared.link.Link.{Link};
 ghost use Rattle.client_state.specs.declared.link.Link.TheVariants.{Apart};
 ghost use Rattle.client_cache.specs.Copies.{changed, kept, seen};
@@ -233,6 +234,7 @@ impl Held {
     /// verdict that is still to be learnt there stays so.
     pub fn leave(&mut self, repo: u8)
         ensures leaves { LeavesSome self.old self.new }
+        ensures parts { PartsSome self.old self.new }
         ensures none { (x : Oref) → x.repo ≡ repo → kept self.new.cache.cache x ≡ None }
         ensures fewer { AreAmong (kept self.old.cache.cache) (kept self.new.cache.cache) }
         ensures client { self.new.client ≡ self.old.client }
@@ -263,6 +265,7 @@ impl Held {
         ensures floor { self.new.floor ≡ self.old.floor }
         ensures copies { CopiesLost session repo self.old.links.items self.old.cache.cache self.new.cache.cache }
         ensures written { (at : At) → IsWrittenIn at self.old → IsWrittenIn at self.new }
+        ensures wrote { WrittenLost session repo self.old.links.items self.old.cache.cache self.new.cache.cache }
         ensures client { self.new.client ≡ self.old.client }
         ensures bounds { KeepsBounds self.old self.new }
     {

@@ -1,5 +1,6 @@
 //! How far a try has come.
 
+ghost use Rattle.client_state.specs.Drawing.{StaysDrawn, drawn_by, drawn_in};
 ghost use Rattle.client_state.specs.Owing.{asking_in, calls_in, calls_of_abort};
 ghost use Rattle.client_state.specs.Pending.{NonePending, abort_in, asked_at, noted, pending_in, prepared_at, runs_in};
 ghost use Rattle.client_cache.specs.Copies.{Contents};
@@ -7,7 +8,7 @@ ghost use Rattle.client_state.specs.Reading.{ReadsNone, phase_reads};
 ghost use Rattle.client_state.specs.Sending.{DrawsPhase};
 ghost use Rattle.client_state.specs.Writing.{PhaseWrites, has_sent_to, unsent};
 ghost use Rattle.client_state.specs.declared.phase.Phase.TheVariants as phase;
-ghost use Rattle.std.specs.Prelude.{Contains, IfSome, IsTrue, None, OnOk, not, true, ℕ, ◌≡◌, ◌≤◌};
+ghost use Rattle.std.specs.Prelude.{Contains, IfSome, IsTrue, None, OnOk, Some, not, true, ℕ, ◌≡◌, ◌≤◌, ◌⊎◌};
 
 use crate::duties::Abort;
 use crate::link::Link;
@@ -113,6 +114,7 @@ impl Phase {
     pub fn transforming(self, transform: Transform) -> Phase
         ensures shares { unsent result ≡ unsent self }
         ensures pending { pending_in result ≡ pending_in self }
+        ensures stage { (drawn_in result ≡ drawn_by transform.stage) ⊎ (drawn_in result ≡ drawn_in self) }
     {
         match self {
             Phase::Evaluating { run, .. } => Phase::Transforming { run, transform },
@@ -128,6 +130,7 @@ impl Phase {
         ensures draws { DrawsPhase ts links.now self result }
         ensures pending { pending_in result ≡ pending_in self }
         ensures writes { (c : Contents) → PhaseWrites self c → PhaseWrites result c }
+        ensures timestamp { (drawn_in result ≡ Some ts) ⊎ (drawn_in result ≡ drawn_in self) }
     {
         match self {
             Phase::Evaluated { mut transaction } => {
@@ -142,6 +145,7 @@ impl Phase {
     pub fn await_page(&mut self, oref: Oref)
         ensures shares { unsent self.new ≡ unsent self.old }
         ensures pending { pending_in self.new ≡ pending_in self.old }
+        ensures drawn { StaysDrawn (drawn_in self.old) (drawn_in self.new) }
     {
         match self {
             Phase::Evaluating { awaited, .. } => {
@@ -161,6 +165,7 @@ impl Phase {
     pub fn draw_transform(&mut self, ts: Ts, becomes: Becomes)
         ensures shares { unsent self.new ≡ unsent self.old }
         ensures pending { pending_in self.new ≡ pending_in self.old }
+        ensures timestamp { (drawn_in self.new ≡ Some ts) ⊎ (drawn_in self.new ≡ drawn_in self.old) }
     {
         if let Phase::Transforming { transform, .. } = self {
             transform.draw(ts, becomes);
@@ -173,6 +178,7 @@ impl Phase {
         ensures pending { OnOk result (pending_in self.new ≡ noted repo (pending_in self.old)) }
         ensures kept { prepared_at (pending_in self.new) ≡ prepared_at (pending_in self.old) }
         ensures asked { asked_at (pending_in self.new) ≡ asked_at (pending_in self.old) }
+        ensures drawn { drawn_in self.new ≡ drawn_in self.old }
     {
         match self {
             Phase::Preparing { prepared, .. } => prepared.push(repo),

@@ -4,7 +4,7 @@ ghost use Rattle.client_items.specs.declared.meaning.Meaning.TheVariants as mean
 ghost use Rattle.client_state.specs.Owing.{count_of};
 ghost use Rattle.client_state.specs.Participants.{first_in, others_in, sent_of};
 ghost use Rattle.client_state.specs.Reading.{share_reads, shares_have_read};
-ghost use Rattle.client_state.specs.Sending.{CarriesSessions, IsDrawnAt, carried, carried_at};
+ghost use Rattle.client_state.specs.Sending.{AreApart, CarriesSessions, IsDrawnAt, IsFirstOfItsOwn, carried, carried_at};
 ghost use Rattle.client_state.specs.Writing.{FirstOf, NoneOf, is_of, new_share, read_more_at, shares_write, with_read, with_write, written_at};
 ghost use Rattle.paused_eval.specs.Copies.{last_of};
 ghost use Rattle.std.specs.List.{list_all, list_any};
@@ -242,6 +242,13 @@ impl Transaction {
         self.goes_to_participants()
     }
 
+    /// Whether no two of the shares that are left are of one repository.
+    pub fn has_shares_apart(&self) -> bool
+        ensures { IsTrue result → AreApart self.now.shares.items }
+    {
+        are_apart(self.shares.as_slice())
+    }
+
     /// Whether each share that is left goes to a participant.
     fn goes_to_participants(&self) -> bool
         ensures { result ≡ list_all (λ s. list_any (nat_eq s.repo) self.now.participants) self.now.shares.items }
@@ -409,6 +416,39 @@ fn is_share_of(shares: &[Share], place: usize, repo: u8) -> bool
 {
     match shares.get(place) {
         Some(share) => share.repo == repo,
+        None => false,
+    }
+}
+
+/// Whether no two of some shares are of one repository.
+#[tactic(auto, using(crate::proofs::Parting::one_more_first, crate::proofs::Parting::first_each))]
+fn are_apart(shares: &[Share]) -> bool
+    ensures { IsTrue result → AreApart shares.now }
+{
+    for place in 0..shares.len() {
+        if !is_first_of_its_own(shares, place) {
+            return false;
+        }
+    }
+    true
+}
+
+/// Whether the share at a place, where there is one, is the first of its repository.
+fn is_first_of_its_own(shares: &[Share], place: usize) -> bool
+    ensures { IsTrue result → IsFirstOfItsOwn place shares.now (slice_get shares.now place) }
+{
+    match shares.get(place) {
+        Some(share) => is_found_at(shares, place, share.repo),
+        None => true,
+    }
+}
+
+/// Whether the first share of a repository stands at a place.
+fn is_found_at(shares: &[Share], place: usize, repo: u8) -> bool
+    ensures { IsTrue result → FirstOf repo place shares.now }
+{
+    match found_place(shares, repo) {
+        Some(found) => found == place,
         None => false,
     }
 }

@@ -1,8 +1,9 @@
 //! A transform: a transaction of its own that brings one due object to the client's epoch.
 
+ghost use Rattle.client_state.specs.Drawing.{drawn_by};
 ghost use Rattle.client_state.specs.Reading.{has_looked_at};
 ghost use Rattle.client_state.specs.Sending.{transform_of};
-ghost use Rattle.std.specs.Prelude.{IfOk, [], ◌∷◌, ◌≡◌};
+ghost use Rattle.std.specs.Prelude.{IfErr, IfOk, None, Some, [], ◌∷◌, ◌≡◌};
 
 use class_defs::Schemas;
 use lazy_transform::bring;
@@ -47,7 +48,9 @@ pub struct Becomes {
 
 impl Transform {
     /// Nothing but the object was looked at.
-    pub fn begun(alloc: Global, oref: Oref, obj: Obj, owners: Orefs, epoch: u32) -> Transform {
+    pub fn begun(alloc: Global, oref: Oref, obj: Obj, owners: Orefs, epoch: u32) -> Transform
+        ensures { drawn_by result.stage ≡ None }
+    {
         Transform {
             oref,
             obj,
@@ -62,23 +65,32 @@ impl Transform {
     }
 
     /// The page of a part is asked for.
-    pub fn await_page(&mut self, part: Oref) {
+    pub fn await_page(&mut self, part: Oref)
+        ensures { drawn_by self.new.stage ≡ None }
+    {
         self.set_stage(Stage::Collecting {
             awaited: Some(part),
         });
     }
 
     /// It is drawn.
-    pub fn draw(&mut self, ts: Ts, becomes: Becomes) {
+    pub fn draw(&mut self, ts: Ts, becomes: Becomes)
+        ensures { drawn_by self.new.stage ≡ Some ts }
+    {
         self.set_stage(Stage::Drawn { ts, becomes });
     }
 
-    fn set_stage(&mut self, stage: Stage) {
+    fn set_stage(&mut self, stage: Stage)
+        ensures { self.new ≡ record self.old { stage = stage } }
+    {
         drop(mem::replace(&mut self.stage, stage));
     }
 
     /// Its timestamp and what the object becomes, where it is drawn; else it is handed back.
-    pub fn into_drawn(self) -> Result<(Ts, Becomes), Transform> {
+    pub fn into_drawn(self) -> Result<(Ts, Becomes), Transform>
+        ensures timestamp { IfOk result (λ drawn. drawn_by self.stage ≡ Some drawn.0) }
+        ensures undrawn { IfErr result (λ transform. drawn_by transform.stage ≡ None) }
+    {
         let Transform {
             oref,
             obj,
