@@ -1,2 +1,5 @@
+pub mod Coordinators
 pub mod Preparing
+pub mod Stamps
+pub mod Taken
 pub mod Telling

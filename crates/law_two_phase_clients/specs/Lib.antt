@@ -1,2 +1,5 @@
+pub mod Coordinating
+pub mod Forgetting
 pub mod Handing
+pub mod Stamping
 pub mod Trying
