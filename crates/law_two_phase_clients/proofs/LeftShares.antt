@@ -4,6 +4,7 @@ use Rattle.client_cache.specs.Copies.{Contents, changed}
 use Rattle.client_cache.specs.Pages.{same_name}
 use Rattle.client_items.specs.declared.news.News.{News}
 use Rattle.client_port.specs.Views.{View}
+use Rattle.client_port.specs.Works.{IsOutage}
 use Rattle.client_state.proofs.Stopping.{at_here, at_other}
 use Rattle.client_state.specs.Calling.{is_session_of, links_refused}
 use Rattle.client_state.specs.Drawing.{DrawsSo, PreparesOut}
@@ -13,10 +14,11 @@ use Rattle.client_state.specs.Moving.{Aborted, Asked, AskedInVain, AskedOwn, Com
 use Rattle.client_state.specs.Participants.{sent_of}
 use Rattle.client_state.specs.Pending.{IsAsking, IsPreparing, NonePending, Pending, PendsSo, SendsPending, StaysPending}
 use Rattle.client_state.specs.Sending.{AreApart, IsFirstOfItsOwn}
-use Rattle.client_state.specs.Stepping.{AsksAgain, AsksInVain, AsksWhereStopped, CommitsInVain, HoldsUnknown, PreparesFirst, PreparesNext, PreparesSo, Present, RefusesItem, RefusesTransform, SendsMore, TriesSo, one_more}
+use Rattle.client_state.specs.Stepping.{AsksAgain, AsksInVain, AsksWhereStopped, CommitsInVain, HoldsUnknown, PreparesFirst, PreparesNext, PreparesSo, Present, RefusesItem, RefusesTransform, SendsMore, StepsSo, TriesSo, one_more}
 use Rattle.client_state.specs.Taking.{WrittenWithout, took}
 use Rattle.client_state.specs.Writing.{FirstOf, WritesStay, is_of, shares_write}
 use Rattle.client_state.specs.Written.{WhileUndecided, WritesSo, WrittenRefused, WrittenTaken, is_sent_to, is_undecided}
+use Rattle.client_state.specs.declared.duties.Duties.{Duties}
 use Rattle.client_state.specs.declared.held.Held.{Held}
 use Rattle.client_state.specs.declared.link.Link.TheVariants.{Apart, Joined, Unsettled}
 use Rattle.client_state.specs.declared.link.Link.{Link}
@@ -26,7 +28,7 @@ use Rattle.client_state.specs.declared.requests.Sending.{Sending}
 use Rattle.client_state.specs.declared.transaction.Sent.{Sent}
 use Rattle.client_state.specs.declared.transaction.Share.{Share}
 use Rattle.client_state.specs.declared.transaction.Transaction.{Transaction}
-use Rattle.law_two_phase_clients.specs.Leaving.{AreLeft, IsLeft, LeftWritten, NamesLieThere, TakesThere}
+use Rattle.law_two_phase_clients.specs.Leaving.{AreLeft, EndsRefused, IsLeft, LeftWritten, NamesLieThere, TakesThere}
 use Rattle.paused_eval.specs.Copies.{last_of}
 use Rattle.repo_refusals.specs.declared.refusal.Refusal.TheVariants as refused
 use Rattle.repo_refusals.specs.declared.refusal.Refusal.{Refusal}
@@ -127,10 +129,6 @@ stops_stays repo before after h n r there = elim (cases_eq r repo) [
 abbrev StaysThere : ℕ → ℕ → List Link → Contents → Contents → Type 0
 StaysThere session r after old new = is_session_of session (slice_get after r) ≡ true → (x : Oref) → x.repo ≡ r → changed new x ≡ changed old x
 
-no_session : (n : ℕ) (o : Option Link) → o ≡ None ⊎ (o ≡ Some Apart) → is_session_of n o ≡ true → ⊥
-no_session n o (inl e) h = let no : false ≡ true = sym (ap (is_session_of n) e) ∙ h in cc
-no_session n o (inr e) h = let no : false ≡ true = sym (ap (is_session_of n) e) ∙ h in cc
-
 gone_there : (s n : ℕ) (o : Option Link) → is_session_of s o ≡ true → is_session_of n (option_map (without_session s) o) ≡ true → ⊥
 gone_there s n None is h = cc
 gone_there s n (Some l) is h = let no : false ≡ true = sym (ap (λ (b : Bool). is_session n (cond b Apart l)) is) ∙ h in cc
@@ -174,6 +172,13 @@ taken_by true (messages.Invalid names place) at r old new unsent there wrote x h
 ]
 taken_by false (messages.Invalid names place) at r old new unsent there wrote x here = wrote x
 taken_by b (messages.Upgrade number text place) at r old new unsent there wrote x here = wrote x
+
+outage_kept : (k : Refusal) (repo : ℕ) (links : List Link) (old new : Contents) → IsOutage k → WrittenRefused k repo links old new → WritesStay old new
+outage_kept (refused.Reason r) repo links old new out wrote = absurd out
+outage_kept (refused.Down e) repo links old new out wrote = wrote
+outage_kept (refused.Stopped e) repo links old new out wrote = wrote
+outage_kept (refused.Damaged e place) repo links old new out wrote = wrote
+outage_kept refused.NoMemory repo links old new out wrote = wrote
 
 -- ---- what is left stays
 
@@ -248,12 +253,12 @@ module _ (item : Present) (links after : List Link) (c d : Contents) (s : Sendin
   prepares_left (PreparesNext at rs left sends holds now) drawn now_drawn out was = subst (λ (p : Pending). LeftWritten p after d) (sym now) (record {
     apart = rest_apart share left.shares.items apart;
     each = λ n x there.
-      let l : IsLeft (IsPreparing at s.request.tx rs sends.transaction) links c x = old.each (suc n) x (ap (λ (ss : List Share). slice_get ss (suc n)) sends.sends.taken ∙ there) in
-      let u : (nat_eq at.repo x.repo ≡ false) × (list_any (λ m. nat_eq m x.repo) rs ≡ false) = or_false (nat_eq at.repo x.repo) (list_any (λ m. nat_eq m x.repo) rs) l.unsent in
-      record {
-        unsent = ap (λ (b : Bool). b || list_any (λ m. nat_eq m x.repo) (rs ++ s.at.repo ∷ [])) u.0 ∙ sent_more x.repo s.at.repo rs u.1 (ap (λ (r : ℕ). nat_eq r x.repo) at_is ∙ other_repo share left.shares.items apart n x there);
-        wrote = λ session y here. stays y ∙ l.wrote (ap (λ (ls : List Link). is_session_of x.session (slice_get ls x.repo)) (sym same) ∙ session) y here;
-      };
+        let l : IsLeft (IsPreparing at s.request.tx rs sends.transaction) links c x = old.each (suc n) x (ap (λ (ss : List Share). slice_get ss (suc n)) sends.sends.taken ∙ there) in
+        let u : (nat_eq at.repo x.repo ≡ false) × (list_any (λ m. nat_eq m x.repo) rs ≡ false) = or_false (nat_eq at.repo x.repo) (list_any (λ m. nat_eq m x.repo) rs) l.unsent in
+        record {
+          unsent = ap (λ (b : Bool). b || list_any (λ m. nat_eq m x.repo) (rs ++ s.at.repo ∷ [])) u.0 ∙ sent_more x.repo s.at.repo rs u.1 (ap (λ (r : ℕ). nat_eq r x.repo) at_is ∙ other_repo share left.shares.items apart n x there);
+          wrote = λ session y here. stays y ∙ l.wrote (ap (λ (ls : List Link). is_session_of x.session (slice_get ls x.repo)) (sym same) ∙ session) y here;
+        };
   })
     where
       share : Share
@@ -320,22 +325,45 @@ module _ (item : Present) (old new : View) (before after : Held) (a z : Pending)
   vain_left r sent n (AsksAgain asks more still) = asking_left sent (one_more n) asks
   vain_left r sent n (HoldsUnknown none most unknown kept) = none_left none
 
-  by_call : (n : Moves old new before after) → PendsSo old new before after n a z → (tries : TriesSo item old new before after n a z came) (drawn now : Option Ts) → DrawsSo item old new before after n a z came tries drawn now → WhileUndecided z (WritesSo old new before after n a) → TakesThere old new before after n → LeftWritten z after.links.items after.cache.cache
-  by_call (Unsent sends) h tries drawn now draws wrote there = sends_left sends h wrote
-  by_call (Received at m does in_it takes same) h tries drawn now draws wrote there = taken_left at m there (at_repo_stays (took m) (took_stays m) before.links.items after.links.items at.repo takes.links) wrote h
-  by_call (ReceivedNone at does in_it stays same fewer) h tries drawn now draws wrote there = kept_left (none_stays at stays) wrote h
-  by_call (ReceiveRefused at k does in_it loses same) h tries drawn now draws wrote there = lost_left k at.repo (refused_stays k at.repo before.links.items after.links.items loses.links) (λ s w. refused_there k s.session at.repo s.repo before.links.items after.links.items before.cache.cache after.cache.cache loses.links w) wrote h
-  by_call (ReceiveStopped at k does in_it outage stops same fewer) h tries drawn now draws wrote there = kept_left (stops_stays at.repo before after stops) (λ und. outage_kept k at.repo outage (wrote und)) h
-  by_call (Prepared s place does of less) h tries drawn now draws wrote there = prepared_left s less tries.0 drawn now draws (wrote)
-  by_call (PrepareRefused s k does of idle learns same) h tries drawn now draws wrote there = refused_left h
-  by_call (Committed s place does of session written held idle keeps) h tries drawn now draws wrote there = none_left h
-  by_call (Transformed s place oref made does of session writes here held idle keeps) h tries drawn now draws wrote there = none_left h
-  by_call (CommitRefused s k does of idle learns same) h tries drawn now draws wrote there = commits_left s k tries.0
-  by_call (Decided at t v does idle ends) h tries drawn now draws wrote there = none_left h.1
-  by_call (Aborted at t v does less) h tries drawn now draws wrote there = kept_left (same_stays before.links.items after.links.items less.1) wrote h
-  by_call (DecideRefused at t true k does loses same) h tries drawn now draws wrote there = asking_left (sent_of t at tries.0) 0 tries.2
-  by_call (DecideRefused at t false k does loses same) h tries drawn now draws wrote there = lost_left k at.repo (refused_stays k at.repo before.links.items after.links.items loses.links) (λ s w. refused_there k s.session at.repo s.repo before.links.items after.links.items before.cache.cache after.cache.cache loses.links w) wrote h
-  by_call (Finished r t commit result does less) h tries drawn now draws wrote there = kept_left (same_stays before.links.items after.links.items less.1) wrote h
-  by_call (Forgot r t result does less) h tries drawn now draws wrote there = kept_left (same_stays before.links.items after.links.items less.1) wrote h
-  by_call (AskedOwn r t v does ends) h tries drawn now draws wrote there = none_left h.1
-  by_call (AskedInVain r t result does leaves same fewer) h tries drawn now draws wrote there = vain_left r tries.0 tries.1 tries.3
+  und_of : (s : Sending) → PreparesSo item before.links.items before.cache.cache s a z → is_undecided z ≡ true
+  und_of s (PreparesFirst rest sends holds now) = ap is_undecided now
+  und_of s (PreparesNext at rs rest sends holds now) = ap is_undecided now
+
+  by_call : (n : Moves old new before after) → PendsSo old new before after n a z → (tries : TriesSo item old new before after n a z came) (drawn now : Option Ts) → DrawsSo item old new before after n a z came tries drawn now → WhileUndecided z (WritesSo old new before after n a) → TakesThere old new before after n → EndsRefused old new before after n z → LeftWritten z after.links.items after.cache.cache
+  by_call (Unsent sends) h tries drawn now draws wrote there ends = sends_left sends h wrote
+  by_call (Received at m does in_it takes same) h tries drawn now draws wrote there ends = taken_left at m there (at_repo_stays (took m) (took_stays m) before.links.items after.links.items at.repo takes.links) wrote h
+  by_call (ReceivedNone at does in_it stays same fewer) h tries drawn now draws wrote there ends = kept_left (none_stays at stays) wrote h
+  by_call (ReceiveRefused at k does in_it loses same) h tries drawn now draws wrote there ends = lost_left k at.repo (refused_stays k at.repo before.links.items after.links.items loses.links) (λ s w. refused_there k s.session at.repo s.repo before.links.items after.links.items before.cache.cache after.cache.cache loses.links w) wrote h
+  by_call (ReceiveStopped at k does in_it outage stops same fewer) h tries drawn now draws wrote there ends = kept_left (stops_stays at.repo before after stops) (λ und. outage_kept k at.repo before.links.items before.cache.cache after.cache.cache outage (wrote und)) h
+  by_call (Prepared s place does of less) h tries drawn now draws wrote there ends = prepares_left item before.links.items after.links.items before.cache.cache after.cache.cache s a z less.1 (wrote (und_of s tries.0)) tries.0 drawn now draws left
+  by_call (PrepareRefused s k does of idle learns same) h tries drawn now draws wrote there ends = none_left ends
+  by_call (Committed s place does of session written held idle keeps) h tries drawn now draws wrote there ends = none_left h
+  by_call (Transformed s place oref made does of session writes here held idle keeps) h tries drawn now draws wrote there ends = none_left h
+  by_call (CommitRefused s k does of idle learns same) h tries drawn now draws wrote there ends = commits_left s k tries.0
+  by_call (Decided at t v does idle ends) h tries drawn now draws wrote there ends = none_left h.1
+  by_call (Aborted at t v does less) h tries drawn now draws wrote there ends = kept_left (same_stays before.links.items after.links.items less.1) wrote h
+  by_call (DecideRefused at t true k does loses same) h tries drawn now draws wrote there ends = asking_left (sent_of t at tries.0) 0 tries.2
+  by_call (DecideRefused at t false k does loses same) h tries drawn now draws wrote there ends = lost_left k at.repo (refused_stays k at.repo before.links.items after.links.items loses.links) (λ s w. refused_there k s.session at.repo s.repo before.links.items after.links.items before.cache.cache after.cache.cache loses.links w) wrote h
+  by_call (Finished r t commit result does less) h tries drawn now draws wrote there ends = kept_left (same_stays before.links.items after.links.items less.1) wrote h
+  by_call (Forgot r t result does less) h tries drawn now draws wrote there ends = kept_left (same_stays before.links.items after.links.items less.1) wrote h
+  by_call (AskedOwn r t v does ends) h tries drawn now draws wrote there ends = none_left h.1
+  by_call (AskedInVain r t result does leaves same fewer) h tries drawn now draws wrote there ends = vain_left r tries.0 tries.1 tries.3
+
+pub stays : (item : Present) (old new : View) (before after : Held) (a z : Pending) (d e : Duties) (came : News) (step : StepsSo item old new before after a z d e came) (drawn now : Option Ts) → DrawsSo item old new before after step.moves a z came step.tries drawn now → WhileUndecided z (WritesSo old new before after step.moves a)
+    → TakesThere old new before after step.moves → EndsRefused old new before after step.moves z → LeftWritten a before.links.items before.cache.cache → LeftWritten z after.links.items after.cache.cache
+stays item old new before after a z d e came step drawn now draws wrote there ends left = by_call item old new before after a z came left step.moves step.pends step.tries drawn now draws wrote there ends
+
+pub sends : (item : Present) (links : List Link) (c : Contents) (a : Pending) (s : Sending) (at : At) (rs : List ℕ) (left : Transaction) → SendsMore item links a s at rs left → LeftWritten a links c → is_session_of s.at.session (slice_get links s.at.repo) ≡ true → (x : Oref) → x.repo ≡ s.at.repo → changed c x ≡ last_of s.request.writes x
+sends item links c a s at rs left more was session x here = l.wrote (subst (λ (k : At). is_session_of k.session (slice_get links k.repo) ≡ true) at_is session) x (here ∙ ap (λ (k : At). k.repo) at_is) ∙ ap (λ (k : Sending). last_of k.request.writes x) (sym more.sends.sent)
+  where
+    share : Share
+    share = more.sends.share
+
+    at_is : s.at ≡ record { repo = share.repo; session = share.session }
+    at_is = ap (λ (k : Sending). k.at) more.sends.sent
+
+    old : AreLeft (IsPreparing at s.request.tx rs more.transaction) links c more.transaction.shares.items
+    old = subst (λ (p : Pending). LeftWritten p links c) more.was was
+
+    l : IsLeft (IsPreparing at s.request.tx rs more.transaction) links c share
+    l = old.each 0 share (ap (λ (ss : List Share). slice_get ss 0) more.sends.taken)

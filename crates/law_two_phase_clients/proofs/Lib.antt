@@ -1,4 +1,5 @@
 pub mod Coordinators
+pub mod LeftShares
 pub mod Preparing
 pub mod Stamps
 pub mod Taken

@@ -59,3 +59,23 @@ TakesThere old new before after (Finished r t commit result does less) = Unit {0
 TakesThere old new before after (Forgot r t result does less) = Unit {0}
 TakesThere old new before after (AskedOwn r t v does ends) = Unit {0}
 TakesThere old new before after (AskedInVain r t result does leaves same fewer) = Unit {0}
+
+-- Where a participant was to prepare and has refused, nothing is undecided any more.
+abbrev pub EndsRefused : (old new : View) (before after : Held) → Moves old new before after → Pending → Type 0
+EndsRefused old new before after (Unsent sends) z = Unit {0}
+EndsRefused old new before after (Received at m does there takes same) z = Unit {0}
+EndsRefused old new before after (ReceivedNone at does there waits same fewer) z = Unit {0}
+EndsRefused old new before after (ReceiveRefused at k does there loses same) z = Unit {0}
+EndsRefused old new before after (ReceiveStopped at k does there outage stops same fewer) z = Unit {0}
+EndsRefused old new before after (Prepared s place does of less) z = Unit {0}
+EndsRefused old new before after (PrepareRefused s k does of idle learns same) z = z ≡ NonePending
+EndsRefused old new before after (Committed s place does of session wrote held idle keeps) z = Unit {0}
+EndsRefused old new before after (Transformed s place oref made does of session writes here held idle keeps) z = Unit {0}
+EndsRefused old new before after (CommitRefused s k does of idle learns same) z = Unit {0}
+EndsRefused old new before after (Decided at t v does idle ends) z = Unit {0}
+EndsRefused old new before after (Aborted at t v does less) z = Unit {0}
+EndsRefused old new before after (DecideRefused at t commit k does loses same) z = Unit {0}
+EndsRefused old new before after (Finished r t commit result does less) z = Unit {0}
+EndsRefused old new before after (Forgot r t result does less) z = Unit {0}
+EndsRefused old new before after (AskedOwn r t v does ends) z = Unit {0}
+EndsRefused old new before after (AskedInVain r t result does leaves same fewer) z = Unit {0}
