@@ -55,10 +55,11 @@ impl<P: Parts> Repo<P> {
     }
 
     /// A law: one that is up isn't torn.
-    #[tactic(auto, using(crate::proofs::Objects::shown_whole))]
     pub fn up_is_whole(&self)
         ensures { WholeIfUp self.now }
-    {}
+    {
+        let _ = self.is_up();
+    }
 
     /// The entries of its history since it was opened.
     pub fn history(&self) -> &[Entry]
