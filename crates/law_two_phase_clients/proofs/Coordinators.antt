@@ -46,7 +46,7 @@ KeepsNoMore f = (l : Link) (sent : Sent) (index : ℕ) → f l ≡ Unsettled sen
 
 mapped : (f : Link → Link) → KeepsNoMore f → (o : Option Link) (sent : Sent) (index : ℕ) → option_map f o ≡ Some (Unsettled sent index) → o ≡ Some (Unsettled sent index)
 mapped f keeps None sent index h = cc
-mapped f keeps (Some l) sent index h = ap Some (keeps l sent index (sym (same_Some (f l) (Unsettled sent index) h)))
+mapped f keeps (Some l) sent index h = ap Some (keeps l sent index (same_Some (f l) (Unsettled sent index) h))
 
 at_repo_keeps : (f : Link → Link) → KeepsNoMore f → (links after : List Link) (r : ℕ) → after ≡ at_repo links r f → LinksAt links → LinksAt after
 at_repo_keeps f keeps links after r is kept n sent index there = elim (cases_eq n r) [
