@@ -5,4 +5,3 @@ pub mod Ordering
 pub mod Places
 mod Restoring
 mod Touching
-pub mod Walking

@@ -3,7 +3,7 @@ use Rattle.cached_sets.proofs.Restoring.{remove_none, restored_new, restored_old
 use Rattle.cached_sets.specs.Invalid.{Invalid, Invalids, replace}
 use Rattle.cached_sets.specs.Undoing.{put_back, undo, unmark}
 use Rattle.cached_sets.specs.declared.marked.Marked.{Marked}
-use Rattle.std.proofs.Common.{◌≡◌, List, [], ◌++◌, ◌∷◌, ap, refl, ◌∙◌}
+use Rattle.std.proofs.Common.{◌≡◌, List, [], ◌++◌, ◌∷◌, ap, refl}
 use Rattle.std.specs.BTreeMap.{is_at}
 use Rattle.std.specs.Ordering.{nat_cmp}
 use Rattle.std.specs.Prelude.{None, Option, Some, ℕ}
@@ -31,7 +31,3 @@ unmark_undoes N t m n e f =
 pub undo_last : (N : Invalids) (ts : List Marked) (t : Marked) → undo N (ts ++ t ∷ []) ≡ undo (unmark N t) ts
 undo_last N [] t = refl
 undo_last N (u ∷ us) t = ap (λ (M : Invalids). unmark M u) (undo_last N us t)
-
--- the sets behind one more mark, and the list of marks with it
-pub undo_more : (N : Invalids) (ts : List Marked) (t : Marked) (m n : Invalid) → get N t.session ≡ Some m → put_back n t.oref t.before ≡ m → undo (replace N t.session n) (ts ++ t ∷ []) ≡ undo N ts
-undo_more N ts t m n e f = undo_last (replace N t.session n) ts t ∙ ap (λ (M : Invalids). undo M ts) (unmark_undoes N t m n e f)

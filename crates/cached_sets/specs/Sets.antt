@@ -2,6 +2,7 @@
 -- them.
 use Rattle.cached_sets.specs.Invalid.{Invalids, change, first_stale, from, mark, next_of, set_of}
 use Rattle.cached_sets.specs.Noted.{Noted, noted_from, with_place}
+use Rattle.cached_sets.specs.declared.marked.Marked.{Marked}
 use Rattle.link_table.specs.Pairs as pairs
 use Rattle.link_table.specs.Pairs.{is_linked, lefts}
 use Rattle.std.specs.List.{filter, flat_map, fold}
@@ -41,6 +42,14 @@ holders cached writer x = filter (λ s. not (nat_eq s writer)) (lefts cached x.p
 -- each of those, with each of the names
 abbrev pub touches : List (ℕ × ℕ) → ℕ → List Oref → List (ℕ × Oref)
 touches cached writer names = flat_map (λ x. map (λ s. (s, x)) (holders cached writer x)) names
+
+-- those among some sessions that aren't the writer, each with x
+abbrev pub others : ℕ → Oref → List ℕ → List (ℕ × Oref)
+others writer x ss = map (λ s. (s, x)) (filter (λ s. not (nat_eq s writer)) ss)
+
+-- the session and the object of a mark
+abbrev pub told_of : Marked → ℕ × Oref
+told_of t = (t.session, t.oref)
 
 -- with all those marked at the place k
 abbrev pub marked : Invalids → List (ℕ × Oref) → ℕ → Invalids

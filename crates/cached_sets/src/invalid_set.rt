@@ -5,7 +5,7 @@ ghost use Rattle.cached_sets.specs.Cost.{stale_steps};
 ghost use Rattle.cached_sets.specs.Undoing.{put_back};
 ghost use Rattle.cached_sets.specs.Bounds.{bound_behind};
 ghost use Rattle.std.specs.Option.{option_and_then};
-ghost use Rattle.std.specs.Prelude.{None, OnErr, OnOk, OnSome, length, ◌+◌, ◌<◌, ◌≡◌, ◌≤◌};
+ghost use Rattle.std.specs.Prelude.{IfOk, None, OnErr, OnOk, OnSome, length, ◌+◌, ◌<◌, ◌≡◌, ◌≤◌};
 ghost use Rattle.thor_value.specs.FiniteMap.{empty, get, insert, len};
 ghost use Rattle.validation_queue.specs.Names.{Rises};
 
@@ -64,15 +64,15 @@ impl InvalidSet {
         self.places.get(&oref).copied()
     }
 
-    /// Puts an object in, or changes its place. After `NoMemory` the set is as it was, and the object
-    /// wasn't there.
-    pub fn put(&mut self, oref: Oref, place: u64) -> Result<(), NoMemory>
+    /// Puts an object in, or changes its place, and answers the place that it had. After `NoMemory` the set is as it was,
+    /// and the object wasn't there.
+    pub fn put(&mut self, oref: Oref, place: u64) -> Result<Option<u64>, NoMemory>
         ensures ok { OnOk result (self.new ≡ insert self.old oref place) }
         ensures err { OnErr result (self.new ≡ self.old) }
-        ensures undone { put_back self.new oref (get self.old oref) ≡ self.old }
+        ensures undone { IfOk result (λ before. put_back self.new oref before ≡ self.old) }
     {
-        self.places.insert(oref, place)?;
-        Ok(())
+        let before = self.places.insert(oref, place)?;
+        Ok(before)
     }
 
     /// Gives an object back the place that it had, or takes it out.

@@ -2,9 +2,9 @@
 
 ghost use Rattle.cached_sets.specs.Cost.{stale_steps};
 ghost use Rattle.cached_sets.specs.Invalid.{Invalids, change, first_stale, from, mark, next_of, set_of};
-ghost use Rattle.cached_sets.specs.Sets.{opened};
-ghost use Rattle.cached_sets.specs.Undoing.{undo};
-ghost use Rattle.std.specs.Prelude.{IfOk, IsTrue, None, OnErr, OnOk, OnSome, length, not, ◌+◌, ◌<◌, ◌≡◌, ◌≤◌};
+ghost use Rattle.cached_sets.specs.Sets.{opened, told_of};
+ghost use Rattle.cached_sets.specs.Undoing.{undo, unmark};
+ghost use Rattle.std.specs.Prelude.{IfOk, IsTrue, None, OnErr, OnOk, OnSome, [], length, map, not, ◌++◌, ◌+◌, ◌<◌, ◌∷◌, ◌≡◌, ◌≤◌};
 ghost use Rattle.thor_value.specs.FiniteMap.{empty, has, remove};
 ghost use Rattle.validation_queue.specs.Names.{Rises};
 
@@ -62,8 +62,8 @@ impl InvalidSets {
         Ok(true)
     }
 
-    /// Puts an object into the set of a session, where it has one, and tells `done` of it first. After
-    /// `NoMemory` the sets are as they were; `done` takes them back to where they began.
+    /// Puts an object into the set of a session, where it has one, and tells `done` of it. After `NoMemory` the sets are as they
+    /// were; `done` takes them back to where they began.
     pub fn mark(
         &mut self,
         session: u32,
@@ -72,19 +72,32 @@ impl InvalidSets {
         done: &mut Vec<Marked>,
     ) -> Result<(), NoMemory>
         ensures ok { OnOk result (self.new ≡ mark self.old session oref place) }
+        ensures told { OnOk result (map told_of done.new.items ≡ map told_of done.old.items ++ (session, oref) ∷ []) }
         ensures undone { (N : Invalids) → undo self.old done.old.items ≡ N → undo self.new done.new.items ≡ N }
         ensures one { length done.new.items ≤ length done.old.items + 1 }
     {
-        let Some(set) = self.sets.get_mut(&session) else {
-            return Ok(());
-        };
-        let before = set.place(oref);
-        done.push(Marked {
+        done.reserve(1)?;
+        let before = self.put(session, oref, place)?;
+        done.push_reserved(Marked {
             session,
             oref,
             before,
-        })?;
-        set.put(oref, place)
+        });
+        Ok(())
+    }
+
+    /// Puts an object into the set of a session, where it has one, and answers the place that it had there. After
+    /// `NoMemory` the sets are as they were.
+    fn put(&mut self, session: u32, oref: Oref, place: u64) -> Result<Option<u64>, NoMemory>
+        ensures ok { OnOk result (self.new ≡ mark self.old session oref place) }
+        ensures err { OnErr result (self.new ≡ self.old) }
+        ensures undone { IfOk result (λ before. unmark self.new (record { session = session; oref = oref; before = before }) ≡ self.old) }
+    {
+        let Some(set) = self.sets.get_mut(&session) else {
+            return Ok(None);
+        };
+        let before = set.put(oref, place)?;
+        Ok(before)
     }
 
     /// Takes marks back, the last one first, and counts a step for each.

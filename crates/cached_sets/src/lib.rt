@@ -10,5 +10,6 @@ mod place_queue;
 mod set_laws;
 mod sets;
 
+pub use marked::Marked;
 pub use set_laws::{places_say_what_was_told, sets_say_what_was_called, sets_stay_ordered};
 pub use sets::Sets;

@@ -1,6 +1,6 @@
 use thor_value::Oref;
 
-/// One mark that was put into an invalid set, by which it can be taken back.
+/// A session that may have an object which another one has written: a mark in its invalid set, by which it can be taken back.
 #[derive(Clone, Copy)]
 pub struct Marked {
     /// The session.

@@ -3,13 +3,13 @@
 ghost use Rattle.cached_sets.specs.Cost.{stale_steps, touch_steps};
 ghost use Rattle.cached_sets.specs.Meaning.{has_page};
 ghost use Rattle.cached_sets.specs.Noted.{is_silent, places_from, places_of};
-ghost use Rattle.cached_sets.specs.Sets.{acknowledge, cache, drop_session, invalid_after, marked, no_sets, note, stale, touch, touches};
+ghost use Rattle.cached_sets.specs.Sets.{acknowledge, cache, drop_session, invalid_after, marked, no_sets, note, others, stale, told_of, touch, touches};
 ghost use Rattle.cached_sets.specs.Invalid.{Invalids, set_of};
 ghost use Rattle.cached_sets.specs.Undoing.{undo};
 ghost use Rattle.link_table.specs.Pairs.{first, lefts, next, rights};
 ghost use Rattle.std.specs.List.{IsDistinct, last_or};
 ghost use Rattle.std.specs.Map.{keys_of};
-ghost use Rattle.std.specs.Prelude.{IfOk, List, None, Ok, OnErr, OnOk, OnSome, [], length, nat_eq, ℕ, ◌*◌, ◌++◌, ◌+◌, ◌<◌, ◌∷◌, ◌≡◌, ◌≤◌};
+ghost use Rattle.std.specs.Prelude.{IfOk, List, None, Ok, OnErr, OnOk, OnSome, [], length, map, nat_eq, ℕ, ◌*◌, ◌++◌, ◌+◌, ◌<◌, ◌∷◌, ◌≡◌, ◌≤◌};
 ghost use Rattle.validation_queue.specs.Names.{Rises};
 
 use crate::invalid_sets::InvalidSets;
@@ -20,6 +20,9 @@ use std::alloc::Global;
 use std::marker::{Brand, Model};
 use std::sync::ledger::{Blank, Ledger};
 use thor_value::{NoMemory, Oref, Orefs, StepCount, Writes};
+
+/// How many marks of a commit have room at once.
+const ROOM: usize = 16;
 
 /// For each session the pages that its client may have, and its invalid set: the objects on those
 /// pages that other sessions have written since, each with the place of its last such write (Adya and
@@ -128,7 +131,60 @@ impl Sets {
         ensures cost { OnOk result (steps.new ≡ steps.old + touch_steps self.old.cached (keys_of writes.now)) }
         ensures err_cost { OnErr result (steps.new ≤ steps.old + 2 * touch_steps self.old.cached (keys_of writes.now)) }
     {
-        let mut done = Vec::new(self.alloc);
+        drop(self.mark_writes(writer, writes, place, steps)?);
+        Ok(())
+    }
+
+    /// `touch`, which answers the marks: for each written object one of each other session that has its page, in the
+    /// order in which those took it in.
+    pub fn touch_marking(
+        &mut self,
+        writer: u32,
+        writes: &Writes,
+        place: u64,
+    ) -> Result<Vec<Marked>, NoMemory>
+        ensures ok { OnOk result (self.new ≡ touch self.old writer (keys_of writes.now) place) }
+        ensures marks { IfOk result (λ marks. map told_of marks.items ≡ touches self.old.cached writer (keys_of writes.now)) }
+        ensures err { OnErr result (self.new ≡ self.old) }
+    {
+        self.mark_uncounted::<Brand>(writer, writes, place, Blank::new(1))
+    }
+
+    fn mark_uncounted<L: Ledger>(
+        &mut self,
+        writer: u32,
+        writes: &Writes,
+        place: u64,
+        ledger: Blank,
+    ) -> Result<Vec<Marked>, NoMemory>
+        requires name { ledger.name ≡ L.name }
+        requires parts { ledger.parts ≡ L.parts }
+        requires some { 0 < ledger.parts }
+        ensures ok { OnOk result (self.new ≡ touch self.old writer (keys_of writes.now) place) }
+        ensures marks { IfOk result (λ marks. map told_of marks.items ≡ touches self.old.cached writer (keys_of writes.now)) }
+        ensures err { OnErr result (self.new ≡ self.old) }
+    {
+        let mut steps: StepCount<L> = StepCount::new(ledger);
+        self.mark_writes(writer, writes, place, &mut steps)
+    }
+
+    /// Marks the written objects, and counts as `touch_counted` does.
+    #[tactic(auto, using(crate::proofs::Touching::none_more))]
+    fn mark_writes<L: Ledger>(
+        &mut self,
+        writer: u32,
+        writes: &Writes,
+        place: u64,
+        steps: &mut StepCount<L>,
+    ) -> Result<Vec<Marked>, NoMemory>
+        ensures ok { OnOk result (self.new ≡ touch self.old writer (keys_of writes.now) place) }
+        ensures marks { IfOk result (λ marks. map told_of marks.items ≡ touches self.old.cached writer (keys_of writes.now)) }
+        ensures err { OnErr result (self.new ≡ self.old) }
+        ensures cost { OnOk result (steps.new ≡ steps.old + touch_steps self.old.cached (keys_of writes.now)) }
+        ensures err_cost { OnErr result (steps.new ≤ steps.old + 2 * touch_steps self.old.cached (keys_of writes.now)) }
+    {
+        let mut done = Vec::with_capacity(self.alloc, ROOM)?;
+        let mut sessions = Vec::new(self.alloc);
         for write in writes.as_slice() {
             steps.tick();
             let touched = mark_holders(
@@ -137,6 +193,7 @@ impl Sets {
                 writer,
                 write.0,
                 place,
+                &mut sessions,
                 &mut done,
                 steps,
             );
@@ -145,7 +202,14 @@ impl Sets {
                 return Err(NoMemory);
             }
         }
-        Ok(())
+        Ok(done)
+    }
+
+    /// No session stands twice among those whose clients may have a page.
+    pub fn holders_are_apart(&self)
+        ensures { (page : ℕ) → IsDistinct nat_eq (lefts self.now.cached page) }
+    {
+        self.pages.lefts_are_apart();
     }
 
     /// The next session behind one, in the order in which they took the page in, whose client may have a
@@ -296,9 +360,41 @@ impl Sets {
 }
 
 /// Marks an object in the set of each session that has its page, but for the writer's. It counts a
-/// step for each session that has the page; `done` gets at most one mark for each.
+/// step for each session that has the page; `done` gets one mark for each but the writer. `sessions` gets those that have it.
 fn mark_holders<L: Ledger>(
     pages: &Links,
+    invalid: &mut InvalidSets,
+    writer: u32,
+    oref: Oref,
+    place: u64,
+    sessions: &mut Vec<u32>,
+    done: &mut Vec<Marked>,
+    steps: &mut StepCount<L>,
+) -> Result<(), NoMemory>
+    ensures ok { OnOk result (invalid.new ≡ marked invalid.old (others writer oref (lefts pages.now oref.page)) place) }
+    ensures told { OnOk result (map told_of done.new.items ≡ map told_of done.old.items ++ others writer oref (lefts pages.now oref.page)) }
+    ensures undone { (N : Invalids) → undo invalid.old done.old.items ≡ N → undo invalid.new done.new.items ≡ N }
+    ensures cost { OnOk result (steps.new ≡ steps.old + length (lefts pages.now oref.page)) }
+    ensures bound { steps.new ≤ steps.old + length (lefts pages.now oref.page) }
+    ensures marks { length done.new.items + steps.old ≤ length done.old.items + steps.new }
+{
+    sessions.clear();
+    pages.put_lefts(oref.page, sessions)?;
+    mark_each(
+        sessions.as_slice(),
+        invalid,
+        writer,
+        oref,
+        place,
+        done,
+        steps,
+    )
+}
+
+/// Marks an object in the set of each of some sessions, but for the writer's. It counts a step for each of them.
+#[tactic(auto, using(crate::proofs::Touching::none_more))]
+fn mark_each<L: Ledger>(
+    sessions: &[u32],
     invalid: &mut InvalidSets,
     writer: u32,
     oref: Oref,
@@ -306,19 +402,37 @@ fn mark_holders<L: Ledger>(
     done: &mut Vec<Marked>,
     steps: &mut StepCount<L>,
 ) -> Result<(), NoMemory>
-    ensures ok { OnOk result (invalid.new ≡ marked invalid.old (touches pages.now writer (oref ∷ [])) place) }
+    ensures ok { OnOk result (invalid.new ≡ marked invalid.old (others writer oref sessions.now) place) }
+    ensures told { OnOk result (map told_of done.new.items ≡ map told_of done.old.items ++ others writer oref sessions.now) }
     ensures undone { (N : Invalids) → undo invalid.old done.old.items ≡ N → undo invalid.new done.new.items ≡ N }
-    ensures cost { OnOk result (steps.new ≡ steps.old + length (lefts pages.now oref.page)) }
-    ensures bound { steps.new ≤ steps.old + length (lefts pages.now oref.page) }
+    ensures cost { OnOk result (steps.new ≡ steps.old + length sessions.now) }
+    ensures bound { steps.new ≤ steps.old + length sessions.now }
     ensures marks { length done.new.items + steps.old ≤ length done.old.items + steps.new }
 {
-    let mut after = None;
-    while let Some(session) = pages.next_left(oref.page, after) {
+    for session in sessions {
         steps.tick();
-        if session != writer {
-            invalid.mark(session, oref, place, done)?;
-        }
-        after = Some(session);
+        mark_other(invalid, writer, *session, oref, place, done)?;
     }
     Ok(())
+}
+
+/// Marks an object in the set of a session, but for the writer's.
+#[tactic(auto, using(crate::proofs::Touching::alone, crate::proofs::Touching::none_of_own, crate::proofs::Touching::none_more))]
+fn mark_other(
+    invalid: &mut InvalidSets,
+    writer: u32,
+    session: u32,
+    oref: Oref,
+    place: u64,
+    done: &mut Vec<Marked>,
+) -> Result<(), NoMemory>
+    ensures ok { OnOk result (invalid.new ≡ marked invalid.old (others writer oref (session ∷ [])) place) }
+    ensures told { OnOk result (map told_of done.new.items ≡ map told_of done.old.items ++ others writer oref (session ∷ [])) }
+    ensures undone { (N : Invalids) → undo invalid.old done.old.items ≡ N → undo invalid.new done.new.items ≡ N }
+    ensures one { length done.new.items ≤ length done.old.items + 1 }
+{
+    if session == writer {
+        return Ok(());
+    }
+    invalid.mark(session, oref, place, done)
 }

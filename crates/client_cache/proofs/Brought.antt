@@ -1,5 +1,5 @@
 -- The slots of a page, read one after the other.
-use Rattle.std.proofs.Common.{◌≡◌, ◌<◌, ◌≤◌, ◌+◌, ℕ, true, false, cond, nat_eq, nat_lt, List, [], ◌++◌, Option, Some, None, Result, Ok, Err, refl, sym, ap, subst, ◌∙◌, length, append-nil}
+use Rattle.std.proofs.Common.{◌≡◌, ◌<◌, ◌≤◌, ◌+◌, ℕ, zero, suc, true, false, cond, nat_eq, nat_lt, List, [], ◌∷◌, ◌++◌, Option, Some, None, Result, Ok, Err, refl, sym, ap, subst, ◌∙◌, length, append-nil}
 use native.Mathlib.Omega.{arith}
 use Rattle.std.specs.List.{AllByRecursion}
 use Rattle.std.specs.Option.{option_map}
@@ -14,7 +14,8 @@ use Rattle.thor_value.specs.FiniteMap.{get}
 use Rattle.thor_value.specs.Formats.{AreApart, IsAtFront}
 use Rattle.thor_value.specs.declared.values.Obj.{Obj}
 use Rattle.client_cache.specs.Placing.{Brings, HasName, IsObject, IsObjectPage, IsPageOf}
-use Rattle.client_cache.specs.Slots.{kept_in}
+use Rattle.client_cache.specs.Changes.{AreOf, behind, change_in, copy_in, kept_behind}
+use Rattle.client_cache.specs.declared.changes.Change.{Change}
 use Rattle.client_cache.specs.declared.page_copies.Slot.{Slot}
 use Rattle.thor_value.specs.declared.memory.NoMemory.{NoMemory as OutOfMemory}
 use Rattle.std.specs.Prelude.{IfOk, IfSome}
@@ -66,24 +67,12 @@ none_brought c f none = record {
 below_or_at : (s k : ℕ) → s < k + 1 → (s ≡ k → ⊥) → s < k
 below_or_at s k below off = omega (arith, below, off)
 
--- one more slot has nothing
-pub one_empty : (c : page.Contents) (f : ℕ → Option Obj) (k : ℕ) → BroughtTo c f k → get c.objects k ≡ None → BroughtTo c f (k + 1)
-one_empty c f k b none = record {
-  slots = λ s below. (elim (nat_eq k s) as (λ t. nat_eq k s ≡ t → get c.objects s ≡ option_map obj_bytes (f s)) [
-    | true ↦ λ t. let e : k ≡ s = eqb-true k s t in subst (λ (n : ℕ). get c.objects n ≡ option_map obj_bytes (f n)) e (none ∙ ap (option_map obj_bytes) (sym (b.rest k (omega arith))))
-    | false ↦ λ t. b.slots s (below_or_at s k below (λ e. eqb-false k s t (sym e)))
-  ]) refl;
-  rest = λ s past. b.rest s (omega (arith, past));
-  fits = b.fits;
-}
-
--- one more slot has an object
-pub one_more : (c : page.Contents) (f g : ℕ → Option Obj) (k : ℕ) (o : Obj) (bytes : List ℕ) → BroughtTo c f k → k < 12 → Some bytes ≡ get c.objects k → IsObject bytes o
-    → ((s : ℕ) → g s ≡ cond {A = Option Obj} (nat_eq k s) (Some o) (f s)) → BroughtTo c g (k + 1)
-one_more c f g k o bytes b named here is kept = record {
+-- one more slot has what its bytes spell
+pub one_more : (c : page.Contents) (f g : ℕ → Option Obj) (k : ℕ) → BroughtTo c f k → k < 12 → AreOf (get c.objects k) (g k)
+    → ((s : ℕ) → g s ≡ cond {A = Option Obj} (nat_eq k s) (g k) (f s)) → BroughtTo c g (k + 1)
+one_more c f g k b named are kept = record {
   slots = λ s below. (elim (nat_eq k s) as (λ t. nat_eq k s ≡ t → get c.objects s ≡ option_map obj_bytes (g s)) [
-    | true ↦ λ t. let e : k ≡ s = eqb-true k s t in let now : g s ≡ Some o = rw t at (kept s) in
-        subst (λ (n : ℕ). get c.objects n ≡ Some (obj_bytes o)) e (sym here ∙ ap Some is.spelled) ∙ ap (option_map obj_bytes) (sym now)
+    | true ↦ λ t. let e : k ≡ s = eqb-true k s t in subst (λ (n : ℕ). get c.objects n ≡ option_map obj_bytes (g n)) e are.spelled
     | false ↦ λ t. let now : g s ≡ f s = rw t at (kept s) in b.slots s (below_or_at s k below (λ e. eqb-false k s t (sym e))) ∙ ap (option_map obj_bytes) (sym now)
   ]) refl;
   rest = λ s past. (elim (nat_eq k s) as (λ t. nat_eq k s ≡ t → g s ≡ None) [
@@ -91,7 +80,7 @@ one_more c f g k o bytes b named here is kept = record {
     | false ↦ λ t. let now : g s ≡ f s = rw t at (kept s) in now ∙ b.rest s (omega (arith, past))
   ]) refl;
   fits = λ s x e. (elim (nat_eq k s) as (λ t. nat_eq k s ≡ t → (s < 12) × ObjFits x) [
-    | true ↦ λ t. let at : k ≡ s = eqb-true k s t in let now : g s ≡ Some o = rw t at (kept s) in (subst (λ (n : ℕ). n < 12) at named, subst ObjFits (same_Some o x (sym now ∙ e)) is.fits)
+    | true ↦ λ t. let at : k ≡ s = eqb-true k s t in (subst (λ (n : ℕ). n < 12) at named, are.fits x (ap g at ∙ e))
     | false ↦ λ t. let now : g s ≡ f s = rw t at (kept s) in b.fits s x (sym now ∙ e)
   ]) refl;
 }
@@ -111,12 +100,47 @@ all_brought c f k named b past = record {
     nothing s far (Some o) e = let below = (b.fits s o e).0 in absurd (omega (arith, below, far))
 
 -- a slot with bytes that are no object
-pub not_brought : (c : page.Contents) (k : ℕ) (bytes : List ℕ) → Some bytes ≡ get c.objects k → ((o : Obj) → IsObject bytes o → ⊥) → (objects : ℕ → Option Obj) → Brings c objects → ⊥
-not_brought c k bytes here none objects b = by (objects k) refl
-  where
-    by : (o : Option Obj) → objects k ≡ o → ⊥
-    by (Some o) e = none o (record { fits = (b.fits k o e).1; spelled = same_Some bytes (obj_bytes o) (here ∙ b.slots k ∙ ap (option_map obj_bytes) e) })
-    by None e = let h : Some bytes ≡ option_map obj_bytes None = here ∙ b.slots k ∙ ap (option_map obj_bytes) e in cc
+pub not_brought : (c : page.Contents) (k : ℕ) (bytes : Option (List ℕ)) → bytes ≡ get c.objects k → ((o : Option Obj) → AreOf bytes o → ⊥) → (objects : ℕ → Option Obj) → Brings c objects → ⊥
+not_brought c k bytes here none objects b = none (objects k) (record { spelled = here ∙ b.slots k; fits = λ o e. (b.fits k o e).1 })
+
+-- the bytes of an object, and no object where there are none
+pub no_bytes : AreOf None None
+no_bytes = record { spelled = refl; fits = λ o e. cc }
+
+pub are_one : (bytes : List ℕ) (o : Obj) → IsObject bytes o → AreOf (Some bytes) (Some o)
+are_one bytes o is = record { spelled = ap Some is.spelled; fits = λ p e. subst ObjFits (same_Some o p e) is.fits }
+
+-- bytes that are no object
+pub not_one : (bytes : List ℕ) → ((o : Obj) → IsObject bytes o → ⊥) → (object : Option Obj) → AreOf (Some bytes) object → ⊥
+not_one bytes none (Some o) are = none o (record { fits = are.fits o refl; spelled = same_Some bytes (obj_bytes o) are.spelled })
+not_one bytes none None are = let h = are.spelled in cc
+
+-- ---- changes, one after the other
+
+-- one more change
+pub at_last : (cs : List Change) (c : Change) → change_in (cs ++ (c ∷ [])) (length cs) ≡ c
+at_last [] c = refl
+at_last (x ∷ cs) c = at_last cs c
+
+pub at_others : (cs : List Change) (c : Change) (s : ℕ) → (s ≡ length cs → ⊥) → change_in (cs ++ (c ∷ [])) s ≡ change_in cs s
+at_others [] c zero apart = absurd (apart refl)
+at_others [] c (suc s) apart = refl
+at_others (x ∷ cs) c zero apart = refl
+at_others (x ∷ cs) c (suc s) apart = at_others cs c s (λ e. apart (ap suc e))
+
+module _ (held : Option (List Slot)) where
+  -- the change of one more slot
+  pub one_change : (p : page.Contents) (cs : List Change) (c : Change) (k : ℕ) (bytes : Option (List ℕ)) (copy : Option Obj) → length cs ≡ k → k < 12 → bytes ≡ get p.objects k → copy ≡ copy_in held k → AreOf bytes (behind c copy)
+      → BroughtTo p (kept_behind cs held) k → BroughtTo p (kept_behind (cs ++ (c ∷ [])) held) (k + 1)
+  one_change p cs c k bytes copy long named there held_there are b =
+      let g : ℕ → Option Obj = kept_behind (cs ++ (c ∷ [])) held in
+      let last : change_in (cs ++ (c ∷ [])) k ≡ c = ap (change_in (cs ++ (c ∷ []))) (sym long) ∙ at_last cs c in
+      let here : behind c copy ≡ g k = ap (behind c) held_there ∙ sym (ap (λ (x : Change). behind x (copy_in held k)) last) in
+      one_more p (kept_behind cs held) g k b named (subst (λ (o : Option Obj). AreOf (get p.objects k) o) here (subst (λ (d : Option (List ℕ)). AreOf d (behind c copy)) there are))
+      (λ s. (elim (nat_eq k s) as (λ t. nat_eq k s ≡ t → g s ≡ cond {A = Option Obj} t (g k) (kept_behind cs held s)) [
+        | true ↦ λ t. ap g (sym (eqb-true k s t))
+        | false ↦ λ t. ap (λ (x : Change). behind x (copy_in held s)) (at_others cs c s (λ e. eqb-false k s t (sym (e ∙ long))))
+      ]) refl)
 
 -- a page brings one object to a slot at most
 pub same_brought : AreApart ObjFits obj_bytes → (c : page.Contents) (f g : ℕ → Option Obj) → Brings c f → Brings c g → (s : ℕ) → f s ≡ g s
@@ -131,19 +155,19 @@ same_brought apart c f g bf bg s = by (f s) (g s) refl refl
         ef ∙ ap Some (apart o p [] [] (bf.fits s o ef).1 (bg.fits s p eg).1 (ap (λ (t : List ℕ). t ++ []) (same_Some (obj_bytes o) (obj_bytes p) h))).0 ∙ sym eg
 
 -- bytes of a page bring just the objects that were read from it
-pub told_kept : (r : Result (Option (List Slot)) OutOfMemory) (p : page.Contents) (bytes : List ℕ) (number : ℕ) → AreApart ObjFits obj_bytes → ((c : page.Contents) → page.PageFits c → bytes ≡ page.page_bytes c → p ≡ c)
-    → IfOk r (λ found. IfSome found (λ slots. Brings p (kept_in slots))) → IfOk r (λ found. IfSome found (λ slots. (objects : ℕ → Option Obj) → IsPageOf bytes number objects → (s : ℕ) → kept_in slots s ≡ objects s))
-told_kept (Ok (Some slots)) p bytes number apart only b = λ objects is s. same_brought apart p (kept_in slots) objects b (subst (λ (c : page.Contents). Brings c objects) (sym (only is.contents is.fits is.spelled)) is.brings) s
-told_kept (Ok None) p bytes number apart only b = tt
-told_kept (Err e) p bytes number apart only b = tt
+pub told_kept : {X : Type 0} (told : X → ℕ → Option Obj) (r : Result (Option X) OutOfMemory) (p : page.Contents) (bytes : List ℕ) (number : ℕ) → AreApart ObjFits obj_bytes → ((c : page.Contents) → page.PageFits c → bytes ≡ page.page_bytes c → p ≡ c)
+    → IfOk r (λ found. IfSome found (λ x. Brings p (told x))) → IfOk r (λ found. IfSome found (λ x. (objects : ℕ → Option Obj) → IsPageOf bytes number objects → (s : ℕ) → told x s ≡ objects s))
+told_kept told (Ok (Some x)) p bytes number apart only b = λ objects is s. same_brought apart p (told x) objects b (subst (λ (c : page.Contents). Brings c objects) (sym (only is.contents is.fits is.spelled)) is.brings) s
+told_kept told (Ok None) p bytes number apart only b = tt
+told_kept told (Err e) p bytes number apart only b = tt
 
 -- where nothing was read from it the bytes are no page of objects
-pub told_none : (r : Result (Option (List Slot)) OutOfMemory) (p : page.Contents) (bytes : List ℕ) (number : ℕ) → ((c : page.Contents) → page.PageFits c → bytes ≡ page.page_bytes c → p ≡ c)
+pub told_none : {X : Type 0} (r : Result (Option X) OutOfMemory) (p : page.Contents) (bytes : List ℕ) (number : ℕ) → ((c : page.Contents) → page.PageFits c → bytes ≡ page.page_bytes c → p ≡ c)
     → IfOk r (λ found. found ≡ None → (objects : ℕ → Option Obj) → Brings p objects → ⊥) → IfOk r (λ found. found ≡ None → IsObjectPage bytes number → ⊥)
 told_none (Ok found) p bytes number only none = λ e is. none e is.0 (subst (λ (c : page.Contents). Brings c is.0) (sym (only is.1.contents is.1.fits is.1.spelled)) is.1.brings)
 told_none (Err e) p bytes number only none = tt
 
--- the same of the copies that were found
-pub found_kept : (found : Option (List Slot)) (copies : List Slot) (bytes : List ℕ) (number : ℕ) → found ≡ Some copies → IfSome found (λ slots. (objects : ℕ → Option Obj) → IsPageOf bytes number objects → (s : ℕ) → kept_in slots s ≡ objects s)
-    → (objects : ℕ → Option Obj) → IsPageOf bytes number objects → (s : ℕ) → kept_in copies s ≡ objects s
-found_kept found copies bytes number is h = subst (λ (f : Option (List Slot)). IfSome f (λ slots. (objects : ℕ → Option Obj) → IsPageOf bytes number objects → (s : ℕ) → kept_in slots s ≡ objects s)) is h
+-- the same of the changes that were found
+pub found_kept : {X : Type 0} (told : X → ℕ → Option Obj) (found : Option X) (changes : X) (bytes : List ℕ) (number : ℕ) → found ≡ Some changes → IfSome found (λ x. (objects : ℕ → Option Obj) → IsPageOf bytes number objects → (s : ℕ) → told x s ≡ objects s)
+    → (objects : ℕ → Option Obj) → IsPageOf bytes number objects → (s : ℕ) → told changes s ≡ objects s
+found_kept {X = X} told found changes bytes number is h = subst (λ (f : Option X). IfSome f (λ x. (objects : ℕ → Option Obj) → IsPageOf bytes number objects → (s : ℕ) → told x s ≡ objects s)) is h

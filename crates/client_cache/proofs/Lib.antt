@@ -1,5 +1,6 @@
 mod Bare
 mod Brought
+mod Changing
 mod Elsewhere
 mod Leaving
 mod NameLists

@@ -1,5 +1,5 @@
 -- The slots of a page that have bytes, and whether objects are named by them.
-use Rattle.std.proofs.Common.{◌≡◌, ℕ, zero, suc, ◌+◌, ◌<◌, ◌≤◌, List, [], ◌∷◌, length, take, Option, Some, None, Bool, true, false, slice_get, refl, sym, subst, ◌∙◌, arith, if◌then◌else◌}
+use Rattle.std.proofs.Common.{◌≡◌, ℕ, zero, suc, ◌+◌, ◌-◌, ◌<◌, ◌≤◌, List, [], ◌∷◌, length, Option, Some, None, Bool, true, false, slice_get, refl, sym, subst, ◌∙◌, arith, if◌then◌else◌}
 use Rattle.std.specs.BTreeMap.{is_at}
 use Rattle.std.specs.Cmp.{eq_by_cmp_equiv}
 use Rattle.std.specs.List.{AllByRecursion}
@@ -8,7 +8,7 @@ use Rattle.std.specs.Ordering.{nat_cmp}
 use Rattle.std.proofs.lemmas.Cmp.{nat_cmp_total}
 use Rattle.std.proofs.lemmas.Map.Lookups.{exact_unsigned}
 use Rattle.std.proofs.lemmas.Map.Views.{tells_apart}
-use Rattle.page_format.specs.Pages.{Contents}
+use Rattle.page_format.specs.Pages.{Contents, Rises}
 use Rattle.thor_value.specs.declared.values.Obj.{Obj}
 use Rattle.client_cache.specs.Placing.{Brings, HasName}
 
@@ -22,22 +22,31 @@ all_at [] k q all is = cc
 all_at (p ∷ pairs) zero q all is = let same : p ≡ q = cc in subst HasName same all.0
 all_at (p ∷ pairs) (suc k) q all is = all_at pairs k q all.1 is
 
-all_more : (pairs : Pairs) (k : ℕ) (q : ℕ × List ℕ) → AllByRecursion HasName (take k pairs) → slice_get pairs k ≡ Some q → HasName q → AllByRecursion HasName (take (suc k) pairs)
-all_more [] k q all is here = cc
-all_more (p ∷ pairs) zero q all is here = let same : p ≡ q = cc in (subst HasName (sym same) here, tt)
-all_more (p ∷ pairs) (suc k) q all is here = (all.0, all_more pairs k q all.1 is here)
+-- where slots rise and the last is a name, all are
+pub all_below : (low : ℕ) (pairs : Pairs) (k : ℕ) (q : ℕ × List ℕ) → Rises low pairs → slice_get pairs k ≡ Some q → length pairs ≤ k + 1 → q.0 < 12 → AllByRecursion HasName pairs
+all_below low [] k q rises is last here = cc
+all_below low (p ∷ []) zero q rises is last here = let same : p ≡ q = cc in (subst HasName (sym same) here, tt)
+all_below low (p ∷ []) (suc k) q rises is last here = cc
+all_below low (p ∷ r ∷ pairs) zero q rises is last here = absurd (omega (arith, last))
+all_below low (p ∷ r ∷ pairs) (suc k) q rises is last here =
+    let more = all_below (suc p.0) (r ∷ pairs) k q rises.1 is (omega (arith, last)) here in
+    (omega (arith, rises.1.0, more.0), more)
+
+-- the last one tells whether all are named
+pub last_tells : (pairs : Pairs) (count : ℕ) (slot : ℕ) (bytes : List ℕ) → Rises 0 pairs → count ≡ length pairs → Some (slot, bytes) ≡ slice_get pairs (count - 1) → (slot < 12 → AllByRecursion HasName pairs) × (AllByRecursion HasName pairs → slot < 12)
+last_tells pairs count slot bytes rises long is = (
+  λ here. all_below 0 pairs (count - 1) (slot, bytes) rises (sym is) (omega (arith, long)) here,
+  λ all. all_at pairs (count - 1) (slot, bytes) all (sym is),
+)
 
 none_within : (pairs : Pairs) (k : ℕ) → k < length pairs → slice_get pairs k ≡ None → ⊥
 none_within [] k within is = omega (arith, within)
 none_within (p ∷ pairs) zero within is = cc
 none_within (p ∷ pairs) (suc k) within is = none_within pairs k (omega (arith, within)) is
 
-pub all_next : (pairs : Pairs) (k : ℕ) (o : Option (ℕ × List ℕ)) → AllByRecursion HasName (take k pairs) → k < length pairs → o ≡ slice_get pairs k → ((q : ℕ × List ℕ) → o ≡ Some q → HasName q) → AllByRecursion HasName (take (k + 1) pairs)
-all_next pairs k (Some q) all within is here = let e : suc k ≡ k + 1 = omega arith in subst (λ (n : ℕ). AllByRecursion HasName (take n pairs)) e (all_more pairs k q all (sym is) (here q refl))
-all_next pairs k None all within is here = absurd (none_within pairs k within (sym is))
-
-pub some_at : (p : ℕ × List ℕ) → HasName p → (q : ℕ × List ℕ) → Some p ≡ Some q → HasName q
-some_at p here q is = let same : p ≡ q = cc in subst HasName same here
+-- where there are some there is a last one
+pub last_there : (pairs : Pairs) (count : ℕ) → count ≡ length pairs → (count ≡ 0 → ⊥) → None ≡ slice_get pairs (count - 1) → ⊥
+last_there pairs count long some is = none_within pairs (count - 1) (omega (arith, long, some)) (sym is)
 
 all_by : (pairs : Pairs) → ((k : ℕ) (q : ℕ × List ℕ) → slice_get pairs k ≡ Some q → HasName q) → AllByRecursion HasName pairs
 all_by [] h = tt

@@ -1,3 +1,4 @@
+pub mod Changes
 pub mod Copies
 pub mod Looks
 pub mod Pages

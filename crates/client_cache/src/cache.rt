@@ -1,23 +1,24 @@
 ghost use Rattle.std.specs.BTreeMap.{is_at};
 ghost use Rattle.std.specs.BTreeSet.{insert_key};
 ghost use Rattle.std.specs.List.{filter, list_any};
-ghost use Rattle.std.specs.Map.{keys_of};
+ghost use Rattle.std.specs.Map.{keys_of, lookup};
 ghost use Rattle.std.specs.Prelude.{◌≡◌, ◌<◌, ◌↔◌, ℕ, [], false, true, cond, is_some, not, nat_eq, option_map, Option, Some, None, IfOk, IsTrue, OnOk, OnErr, slice_get, take};
 ghost use Rattle.thor_value.specs.Names.{oref_cmp};
 ghost use Rattle.thor_value.specs.declared.names.Oref.{Oref};
 ghost use Rattle.thor_value.specs.declared.values.Obj.{Obj};
+ghost use Rattle.client_cache.specs.Changes.{kept_behind};
 ghost use Rattle.client_cache.specs.Copies.{changed, elsewhere, forward, holds, kept, nothing, pages, seen};
 ghost use Rattle.client_cache.specs.Looks.{Tells};
 ghost use Rattle.client_cache.specs.Pages.{on, page_of, same_name, same_page};
 ghost use Rattle.client_cache.specs.Placing.{IsObjectPage, IsPageOf};
-ghost use Rattle.client_cache.specs.Slots.{dated, kept_in, written_in};
+ghost use Rattle.client_cache.specs.Slots.{dated};
 
+use crate::changes::Changes;
 use crate::held_pages::HeldPages;
 use crate::look::Looked;
 use crate::name_set::NameSet;
 use crate::page_copies::Slots;
 use crate::page_name::PageName;
-use crate::placing::copies_of;
 use page_format::PageImage;
 use std::alloc::Global;
 use std::collections::BTreeSet;
@@ -130,19 +131,18 @@ impl Cache {
         ensures other { IfOk result (λ placed. IsTrue (not placed) → self.new ≡ self.old) }
         ensures err { OnErr result (self.new ≡ self.old) }
     {
-        match copies_of(self.pages.allocator(), bytes, page)? {
-            Some(copies) => {
-                self.place_copies(PageName { repo, page }, copies)?;
+        match self.pages.changes_of(PageName { repo, page }, bytes)? {
+            Some(changes) => {
+                self.place_changes(PageName { repo, page }, changes)?;
                 Ok(true)
             }
             None => Ok(false),
         }
     }
 
-    // Puts copies in the place of those of a page. After `NoMemory` nothing has changed.
-    fn place_copies(&mut self, page: PageName, copies: Slots) -> Result<(), NoMemory>
-        requires { (s : ℕ) → written_in copies s ≡ None }
-        ensures kept { OnOk result ((x : Oref) → kept self.new x ≡ cond (same_page page (page_of x)) (kept_in copies x.slot) (kept self.old x)) }
+    // Makes of the copies of a page what it makes of them. After `NoMemory` nothing has changed.
+    fn place_changes(&mut self, page: PageName, changes: Changes) -> Result<(), NoMemory>
+        ensures kept { OnOk result ((x : Oref) → kept self.new x ≡ cond (same_page page (page_of x)) (kept_behind changes (lookup (same_page page) self.old.held) x.slot) (kept self.old x)) }
         ensures changed { OnOk result ((x : Oref) → changed self.new x ≡ changed self.old x) }
         ensures pages { OnOk result (pages self.new ≡ forward page (pages self.old)) }
         ensures written { self.new.written ≡ self.old.written }
@@ -150,7 +150,7 @@ impl Cache {
         ensures limit { self.new.limit ≡ self.old.limit }
         ensures err { OnErr result (self.new ≡ self.old) }
     {
-        self.pages.place(page, copies)?;
+        self.pages.place(page, changes)?;
         leave_page(&mut self.made, page);
         Ok(())
     }

@@ -1,16 +1,22 @@
 ghost use Rattle.std.specs.Map.{keys_of, lookup, remove_entry};
 ghost use Rattle.std.specs.List.{list_all, list_any};
 ghost use Rattle.std.specs.Option.{option_copied, option_map_or};
-ghost use Rattle.std.specs.Prelude.{◌≡◌, ◌<◌, ℕ, MatchOption, take, [], ◌∷◌, false, true, cond, option_map, Some, None, IfOk, IfSome, IsTrue, OnOk, OnErr};
+ghost use Rattle.std.specs.Prelude.{◌≡◌, ◌<◌, ℕ, Option, MatchOption, take, [], ◌∷◌, false, true, cond, option_map, Some, None, IfOk, IfSome, IsTrue, OnOk, OnErr};
 ghost use Rattle.thor_value.specs.declared.names.Oref.{Oref};
+ghost use Rattle.thor_value.specs.declared.values.Obj.{Obj};
 ghost use Rattle.client_cache.specs.declared.page_name.PageName.{PageName};
+ghost use Rattle.client_cache.specs.Changes.{kept_behind};
 ghost use Rattle.client_cache.specs.Copies.{elsewhere, forward, holds, copy_by};
+ghost use Rattle.client_cache.specs.Placing.{IsObjectPage, IsPageOf};
 ghost use Rattle.client_cache.specs.Pages.{page_of, same_name, same_page};
 ghost use Rattle.client_cache.specs.Slots.{dated, is_bare, kept_in, seen_in, written_in};
 
+use crate::changes::Changes;
 use crate::page_copies::Slots;
 use crate::page_name::PageName;
+use crate::placing::changes_of;
 use lru::LruCache;
+use page_format::PageImage;
 use std::alloc::Global;
 use std::marker::Model;
 use std::num::NonZeroUsize;
@@ -208,22 +214,41 @@ impl HeldPages {
         slots.date(oref.slot, ver)
     }
 
-    /// Puts the copies of a page in the place of those that were there; what the try has made of them stays.
-    /// The page becomes the most recently used one. After `NoMemory` nothing has changed.
-    pub fn place(&mut self, page: PageName, copies: Slots) -> Result<(), NoMemory>
-        requires { (s : ℕ) → written_in copies s ≡ None }
-        ensures kept { OnOk result ((x : Oref) → copy_by kept_in self.new x ≡ cond (same_page page (page_of x)) (kept_in copies x.slot) (copy_by kept_in self.old x)) }
+    /// What the bytes of a page make of the copies that are held of it; nothing where they aren't that page.
+    pub fn changes_of(&self, page: PageName, bytes: &PageImage) -> Result<Option<Changes>, NoMemory>
+        ensures page { IfOk result (λ found. IfSome found (λ changes. IsPageOf bytes.now page.page (kept_behind changes (lookup (same_page page) self.now)))) }
+        ensures none { IfOk result (λ found. found ≡ None → IsObjectPage bytes.now page.page → ⊥) }
+        ensures kept { IfOk result (λ found. IfSome found (λ changes. (objects : ℕ → Option Obj) → IsPageOf bytes.now page.page objects → (s : ℕ) → kept_behind changes (lookup (same_page page) self.now) s ≡ objects s)) }
+    {
+        changes_of(self.allocator(), self.get(page), bytes, page.page)
+    }
+
+    /// Makes of the copies of a page what it makes of them, where none are held of what is nothing; what the try has
+    /// made of them stays. The page becomes the most recently used one. After `NoMemory` nothing has changed.
+    pub fn place(&mut self, page: PageName, changes: Changes) -> Result<(), NoMemory>
+        ensures kept { OnOk result ((x : Oref) → copy_by kept_in self.new x ≡ cond (same_page page (page_of x)) (kept_behind changes (lookup (same_page page) self.old) x.slot) (copy_by kept_in self.old x)) }
         ensures written { OnOk result ((x : Oref) → copy_by written_in self.new x ≡ copy_by written_in self.old x) }
         ensures order { OnOk result (keys_of self.new ≡ forward page (keys_of self.old)) }
         ensures err { OnErr result (self.new ≡ self.old) }
     {
         if !self.holds(page) {
-            copies.within();
-            return self.hold(page, copies);
+            return self.place_first(page, changes);
         }
         self.bring_forward(page);
-        self.replace(page, copies);
+        self.change(page, changes);
         Ok(())
+    }
+
+    // The same for a page that isn't held.
+    fn place_first(&mut self, page: PageName, changes: Changes) -> Result<(), NoMemory>
+        requires { holds self.old page ≡ false }
+        ensures kept { OnOk result ((x : Oref) → copy_by kept_in self.new x ≡ cond (same_page page (page_of x)) (kept_behind changes None x.slot) (copy_by kept_in self.old x)) }
+        ensures written { OnOk result ((x : Oref) → copy_by written_in self.new x ≡ copy_by written_in self.old x) }
+        ensures order { OnOk result (keys_of self.new ≡ forward page (keys_of self.old)) }
+        ensures err { OnErr result (self.new ≡ self.old) }
+    {
+        let slots = slots_of(self.allocator(), changes)?;
+        self.hold(page, slots)
     }
 
     /// Whether a page is held.
@@ -234,16 +259,16 @@ impl HeldPages {
     }
 
     // The same for a page that is held, and stays where it is among them.
-    fn replace(&mut self, page: PageName, copies: Slots)
+    fn change(&mut self, page: PageName, changes: Changes)
         requires { holds self.old page ≡ true }
-        ensures kept { (x : Oref) → copy_by kept_in self.new x ≡ cond (same_page page (page_of x)) (kept_in copies x.slot) (copy_by kept_in self.old x) }
+        ensures kept { (x : Oref) → copy_by kept_in self.new x ≡ cond (same_page page (page_of x)) (kept_behind changes (lookup (same_page page) self.old) x.slot) (copy_by kept_in self.old x) }
         ensures written { (x : Oref) → copy_by written_in self.new x ≡ copy_by written_in self.old x }
         ensures order { keys_of self.new ≡ keys_of self.old }
     {
         let Some(slots) = self.pages.peek_mut(&page) else {
             return;
         };
-        slots.replace(copies);
+        slots.change(changes);
     }
 
     /// Drops pages that were used least recently, until at most so many are left.
@@ -308,4 +333,15 @@ impl HeldPages {
         }
         None
     }
+}
+
+// The slots of a page of which no copies are held.
+fn slots_of(alloc: Global, changes: Changes) -> Result<Slots, NoMemory>
+    ensures kept { IfOk result (λ slots. (s : ℕ) → kept_in slots s ≡ kept_behind changes None s) }
+    ensures written { IfOk result (λ slots. (s : ℕ) → written_in slots s ≡ None) }
+{
+    let mut slots = Slots::empty(alloc)?;
+    slots.change(changes);
+    slots.within();
+    Ok(slots)
 }

@@ -2,12 +2,14 @@
 #![tactic(auto)]
 
 mod cache;
+mod changes;
 mod held_pages;
 mod look;
 mod name_set;
 mod page_copies;
 mod page_name;
 mod placing;
+mod spelled;
 
 pub use cache::Cache;
 pub use look::Looked;

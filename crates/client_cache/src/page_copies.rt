@@ -1,8 +1,10 @@
 ghost use Rattle.std.specs.Prelude.{◌≡◌, ◌<◌, ◌≤◌, ℕ, nat_eq, cond, Some, None, length, IfOk, IfSome, is_some, option_map};
 ghost use Rattle.std.specs.Option.{option_copied};
 ghost use Rattle.std.specs.List.{list_all};
+ghost use Rattle.client_cache.specs.Changes.{behind, kept_behind};
 ghost use Rattle.client_cache.specs.Slots.{dated, dated_in, is_bare, kept_in, no_copies, seen_in, settled, written_in};
 
+use crate::changes::{Change, Changes};
 use std::alloc::Global;
 use std::marker::Model;
 use thor_value::{NoMemory, Obj, SLOTS, TryCopy};
@@ -95,6 +97,13 @@ impl Slots {
         }
     }
 
+    /// The copy in a slot. What the try has made of it doesn't count.
+    pub fn kept(&self, slot: u8) -> Option<&Obj>
+        ensures { option_copied result ≡ kept_in self.now slot }
+    {
+        self.slots.get(usize::from(slot))?.kept.as_ref()
+    }
+
     /// Whether there is a copy in a slot. What the try has made of it doesn't count.
     pub fn has_copy(&self, slot: u8) -> bool
         ensures { result ≡ is_some (kept_in self.now slot) }
@@ -116,7 +125,7 @@ impl Slots {
     }
 
     /// Puts a copy into a slot, in the place of the one before. What the try has made of it stays.
-    pub fn keep(&mut self, slot: u8, obj: Obj)
+    fn keep(&mut self, slot: u8, obj: Obj)
         requires { slot < 12 }
         ensures kept { (s : ℕ) → kept_in self.new s ≡ cond (nat_eq slot s) (Some obj) (kept_in self.old s) }
         ensures written { (s : ℕ) → written_in self.new s ≡ written_in self.old s }
@@ -191,28 +200,29 @@ impl Slots {
         }
     }
 
-    /// Takes the copy out of a slot.
-    fn take(&mut self, slot: u8) -> Option<Obj>
-        ensures copy { result ≡ kept_in self.old slot }
-        ensures kept { (s : ℕ) → kept_in self.new s ≡ cond (nat_eq slot s) None (kept_in self.old s) }
+    /// Makes of the copies what a page makes of them. What the try has made of them stays.
+    pub fn change(&mut self, mut changes: Changes)
+        ensures kept { (s : ℕ) → kept_in self.new s ≡ kept_behind changes (Some self.old) s }
         ensures written { (s : ℕ) → written_in self.new s ≡ written_in self.old s }
     {
-        let slot = self.slots.get_mut(usize::from(slot))?;
-        slot.kept.take()
-    }
-
-    /// Takes over the copies of other slots in the place of these. What the try has made of these stays.
-    pub fn replace(&mut self, mut copies: Slots)
-        ensures kept { (s : ℕ) → kept_in self.new s ≡ kept_in copies s }
-        ensures written { (s : ℕ) → written_in self.new s ≡ written_in self.old s }
-    {
-        copies.within();
+        changes.within();
         self.within();
         for slot in 0..SLOTS {
-            match copies.take(slot) {
-                Some(obj) => self.keep(slot, obj),
-                None => self.forget(slot),
-            }
+            let change = changes.take(slot);
+            self.change_one(slot, change);
+        }
+    }
+
+    /// Makes of the copy in a slot what a page makes of it.
+    fn change_one(&mut self, slot: u8, change: Change)
+        requires { slot < 12 }
+        ensures kept { (s : ℕ) → kept_in self.new s ≡ cond (nat_eq slot s) (behind change (kept_in self.old slot)) (kept_in self.old s) }
+        ensures written { (s : ℕ) → written_in self.new s ≡ written_in self.old s }
+    {
+        match change {
+            Change::Same => {}
+            Change::Gone => self.forget(slot),
+            Change::Other(obj) => self.keep(slot, obj),
         }
     }
 

@@ -1,29 +1,33 @@
-//! The copies that a page brings, where its bytes are a page of objects.
+//! What a page makes of the copies that are held of it, where its bytes are a page of objects. An object that is held as
+//! the page has it isn't read anew.
 
-ghost use Rattle.std.specs.Prelude.{◌≡◌, ◌↔◌, ℕ, Option, Some, None, IfOk, IfSome, IsTrue};
+ghost use Rattle.std.specs.Prelude.{◌≡◌, ◌↔◌, ◌<◌, ℕ, Option, Some, None, IfOk, IfSome, IsTrue};
 ghost use Rattle.std.specs.List.{AllByRecursion};
+ghost use Rattle.std.specs.Option.{option_copied};
 ghost use Rattle.page_format.specs.Pages as page;
 ghost use Rattle.thor_value.specs.declared.values.Obj.{Obj};
+ghost use Rattle.client_cache.specs.Changes.{AreOf, behind, copy_in, kept_behind};
 ghost use Rattle.client_cache.specs.Placing.{Brings, HasName, IsObject, IsObjectPage, IsPageOf};
-ghost use Rattle.client_cache.specs.Slots.{kept_in, written_in};
 
+use crate::changes::{Change, Changes};
 use crate::page_copies::Slots;
+use crate::spelled::spells;
 use object_codec::{ObjFault, objects_are_apart, read_obj};
 use page_format::{Page, PageImage, pages_are_apart};
 use std::alloc::Global;
 use thor_value::{NoMemory, Obj, SLOTS};
 
-/// The copies that the bytes of a page bring; nothing where they aren't the page of this number, or one of its slots
-/// isn't one that objects are named by or hasn't one object.
-pub(crate) fn copies_of(
+/// What the bytes of a page make of the copies that are held of it; nothing where they aren't the page of this number, or
+/// one of its slots isn't one that objects are named by or hasn't one object.
+pub(crate) fn changes_of(
     alloc: Global,
+    held: Option<&Slots>,
     bytes: &PageImage,
     number: u32,
-) -> Result<Option<Slots>, NoMemory>
-    ensures page { IfOk result (λ found. IfSome found (λ slots. IsPageOf bytes.now number (kept_in slots))) }
+) -> Result<Option<Changes>, NoMemory>
+    ensures page { IfOk result (λ found. IfSome found (λ changes. IsPageOf bytes.now number (kept_behind changes (option_copied held.entry)))) }
     ensures none { IfOk result (λ found. found ≡ None → IsObjectPage bytes.now number → ⊥) }
-    ensures kept { IfOk result (λ found. IfSome found (λ slots. (objects : ℕ → Option Obj) → IsPageOf bytes.now number objects → (s : ℕ) → kept_in slots s ≡ objects s)) }
-    ensures written { IfOk result (λ found. IfSome found (λ slots. (s : ℕ) → written_in slots s ≡ None)) }
+    ensures kept { IfOk result (λ found. IfSome found (λ changes. (objects : ℕ → Option Obj) → IsPageOf bytes.now number objects → (s : ℕ) → kept_behind changes (option_copied held.entry) s ≡ objects s)) }
 {
     objects_are_apart();
     pages_are_apart();
@@ -31,55 +35,98 @@ pub(crate) fn copies_of(
     if page.number() != number {
         return Ok(None);
     }
-    copies_on(alloc, page)
+    changes_on(alloc, held, page)
 }
 
-/// The copies that a page brings; nothing where one of its slots isn't one that objects are named by or hasn't one
-/// object.
-fn copies_on(alloc: Global, page: &Page) -> Result<Option<Slots>, NoMemory>
-    ensures brings { IfOk result (λ found. IfSome found (λ slots. Brings page.now (kept_in slots))) }
+/// What a page makes of the copies that are held of it; nothing where one of its slots isn't one that objects are named by
+/// or hasn't one object.
+fn changes_on(alloc: Global, held: Option<&Slots>, page: &Page) -> Result<Option<Changes>, NoMemory>
+    ensures brings { IfOk result (λ found. IfSome found (λ changes. Brings page.now (kept_behind changes (option_copied held.entry)))) }
     ensures none { IfOk result (λ found. found ≡ None → (objects : ℕ → Option Obj) → Brings page.now objects → ⊥) }
-    ensures written { IfOk result (λ found. IfSome found (λ slots. (s : ℕ) → written_in slots s ≡ None)) }
 {
     if !have_names(page) {
         return Ok(None);
     }
-    copies_in_named(alloc, page)
+    changes_in_named(alloc, held, page)
 }
 
-/// Whether each slot that has bytes is one that objects are named by.
+/// Whether each slot that has bytes is one that objects are named by. Slots rise, so the last tells it of all.
 fn have_names(page: &Page) -> bool
     ensures { IsTrue result ↔ AllByRecursion HasName page.now.objects.pairs }
 {
-    for rank in 0..page.len() {
-        if let Some((slot, _)) = page.nth(rank) {
-            if slot >= SLOTS {
-                return false;
-            }
-        }
+    page.within();
+    let count = page.len();
+    if count == 0 {
+        return true;
     }
-    true
+    match page.nth(count - 1) {
+        Some((slot, _)) => slot < SLOTS,
+        None => false,
+    }
 }
 
-/// The copies that a page brings whose slots are those that objects are named by; nothing where one of them hasn't
-/// one object.
-fn copies_in_named(alloc: Global, page: &Page) -> Result<Option<Slots>, NoMemory>
+/// What a page whose slots are those that objects are named by makes of the copies that are held of it; nothing where one
+/// of them hasn't one object.
+fn changes_in_named(
+    alloc: Global,
+    held: Option<&Slots>,
+    page: &Page,
+) -> Result<Option<Changes>, NoMemory>
     requires { AllByRecursion HasName page.now.objects.pairs }
-    ensures brings { IfOk result (λ found. IfSome found (λ slots. Brings page.now (kept_in slots))) }
+    ensures brings { IfOk result (λ found. IfSome found (λ changes. Brings page.now (kept_behind changes (option_copied held.entry)))) }
     ensures none { IfOk result (λ found. found ≡ None → (objects : ℕ → Option Obj) → Brings page.now objects → ⊥) }
-    ensures written { IfOk result (λ found. IfSome found (λ slots. (s : ℕ) → written_in slots s ≡ None)) }
 {
-    let mut slots = Slots::empty(alloc)?;
+    let mut changes = Vec::with_capacity(alloc, usize::from(SLOTS))?;
     for slot in 0..SLOTS {
-        let Some(bytes) = page.get(slot) else {
-            continue;
-        };
-        let Some(obj) = object_of(alloc, bytes)? else {
-            return Ok(None);
-        };
-        slots.keep(slot, obj);
+        match change_of(alloc, copy_in(held, slot), page.get(slot))? {
+            Some(change) => changes.push(change)?,
+            None => return Ok(None),
+        }
     }
-    Ok(Some(slots))
+    Ok(Some(Changes::of_all(changes)))
+}
+
+/// The copy in a slot of a page, where that is held.
+fn copy_in(held: Option<&Slots>, slot: u8) -> Option<&Obj>
+    ensures { option_copied result ≡ copy_in (option_copied held.entry) slot }
+{
+    match held {
+        Some(slots) => slots.kept(slot),
+        None => None,
+    }
+}
+
+/// What the bytes of a slot make of the copy there; nothing where they aren't one object.
+#[tactic(auto, using(crate::proofs::Brought::are_one, crate::proofs::Brought::no_bytes, crate::proofs::Brought::not_one))]
+fn change_of(
+    alloc: Global,
+    copy: Option<&Obj>,
+    bytes: Option<&[u8]>,
+) -> Result<Option<Change>, NoMemory>
+    ensures found { IfOk result (λ found. IfSome found (λ change. AreOf (option_copied bytes.entry) (behind change (option_copied copy.entry)))) }
+    ensures none { IfOk result (λ found. found ≡ None → (o : Option Obj) → AreOf (option_copied bytes.entry) o → ⊥) }
+{
+    let Some(bytes) = bytes else {
+        return Ok(Some(Change::Gone));
+    };
+    if is_spelled(copy, bytes) {
+        return Ok(Some(Change::Same));
+    }
+    match object_of(alloc, bytes)? {
+        Some(obj) => Ok(Some(Change::Other(obj))),
+        None => Ok(None),
+    }
+}
+
+/// Whether the bytes are this object, where there is one.
+#[tactic(auto, using(crate::proofs::Brought::are_one))]
+fn is_spelled(copy: Option<&Obj>, bytes: &[u8]) -> bool
+    ensures { IsTrue result → AreOf (Some bytes.now) (option_copied copy.entry) }
+{
+    match copy {
+        Some(obj) => spells(bytes, obj),
+        None => false,
+    }
 }
 
 /// The object that the bytes are, from the first to the last; nothing where they aren't one.

@@ -1,4 +1,5 @@
 mod Around
+mod Chains
 mod Kept
 mod Linking
 mod Lists

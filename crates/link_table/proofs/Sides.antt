@@ -31,7 +31,7 @@ sides_of side test (e ∷ es) = by (test e.1) (sides_of side test es)
     by true more = ap (λ xs. side e.1 ∷ xs) more
     by false more = more
 
-shown_in : (f : ℕ → Option (ℕ × ℕ)) (c : Chain) (p : ℕ × ℕ) (E : Entries) → Shown f E → Shown f (listing c p E)
+pub shown_in : (f : ℕ → Option (ℕ × ℕ)) (c : Chain) (p : ℕ × ℕ) (E : Entries) → Shown f E → Shown f (listing c p E)
 shown_in f c p [] h = tt
 shown_in f c p (e ∷ es) h = by (stands_with c p e.1) (shown_in f c p es h.1)
   where

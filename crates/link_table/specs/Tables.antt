@@ -110,6 +110,10 @@ abbrev pub left_after : State → ℕ → Option ℕ → Option ℕ
 left_after S r None = first_key (S.rights r)
 left_after S r (Some l) = behind_at S Right (l, r)
 
+-- the left of the node of a key, and the key behind it in the list of its right
+abbrev pub left_at : (ℕ → Option Node) → Option ℕ → Option (ℕ × Option ℕ)
+left_at nodes o = option_and_then (λ k. option_map (λ n. (n.left, n.of_right.after)) (nodes k)) o
+
 abbrev pub entry_at : Entries → ℕ → Option (ℕ × ℕ)
 entry_at E k = lookup (nat_eq k) E
 

@@ -125,6 +125,29 @@ impl Links {
         self.table.next_left(right, after)
     }
 
+    /// Puts the lefts of a right behind some numbers, in the order in which they were linked with it. After `NoMemory` some of
+    /// them may stand there. It takes time for each of them, and none for other pairs.
+    pub fn put_lefts(&self, right: u32, out: &mut Vec<u32>) -> Result<(), NoMemory>
+        ensures { OnOk result (out.new.items ≡ out.old.items ++ lefts self.now right) }
+    {
+        let mut key = self.table.first_left(right);
+        for _ in 0..u64::MAX {
+            let Some((left, behind)) = self.table.left_at(key) else {
+                return Ok(());
+            };
+            out.push(left)?;
+            key = behind;
+        }
+        Err(NoMemory)
+    }
+
+    /// No left of a right is linked with it twice.
+    pub fn lefts_are_apart(&self)
+        ensures { (right : ℕ) → IsDistinct nat_eq (lefts self.now right) }
+    {
+        let _all = self.table.all;
+    }
+
     /// The pair that was linked first of those that are there.
     pub fn first(&self) -> Option<(u32, u32)>
         ensures { result ≡ first self.now }

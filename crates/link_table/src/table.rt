@@ -2,12 +2,12 @@
 
 ghost use Rattle.link_table.specs.States.{HasRoom, state_of};
 ghost use Rattle.link_table.specs.Nodes.{taken_out};
-ghost use Rattle.link_table.specs.Tables.{Keeps, Puts, Same, Takes, at_end, behind_at, left_after, left_over, pair_at, right_after};
+ghost use Rattle.link_table.specs.Tables.{Keeps, Puts, Same, Takes, at_end, behind_at, left_after, left_at, left_over, pair_at, right_after};
 ghost use Rattle.link_table.specs.declared.node.Node.{Node};
 ghost use Rattle.slab.specs.Slab.{get, slab_len};
 ghost use Rattle.std.specs.HashMap as hash;
 ghost use Rattle.std.specs.Option.{option_map};
-ghost use Rattle.std.specs.Prelude.{IsSome, OnOk, Some, [], cond, nat_eq, ℕ, ◌≡◌};
+ghost use Rattle.std.specs.Prelude.{IsSome, None, OnOk, Some, [], cond, nat_eq, ℕ, ◌≡◌};
 
 use crate::ends::{Ends, first_of, joined, last_of, left_over};
 use crate::node::{Chain, Neighbors, Node, set_after, set_before};
@@ -94,6 +94,21 @@ impl Table {
         };
         let pair = self.pair(key)?;
         Some(pair.0)
+    }
+
+    /// The key of the first left of a right.
+    pub fn first_left(&self, right: u32) -> Option<usize>
+        ensures { result ≡ left_after (state_of self.now) right None }
+    {
+        first_of(self.rights.get(&right).copied())
+    }
+
+    /// The left of the node of a key, and the key behind it in the list of its right.
+    pub fn left_at(&self, key: Option<usize>) -> Option<(u32, Option<usize>)>
+        ensures { result ≡ left_at (state_of self.now).nodes key }
+    {
+        let node = self.node(key?)?;
+        Some((node.left, node.of_right.after))
     }
 
     /// The key behind that of a pair in one of its lists.

@@ -12,7 +12,7 @@ use crate::body::Body;
 use crate::fault::BodyFault;
 use crate::parts::read_bit;
 use crate::spelled::Spelled;
-use crate::wholes::{read_whole, short_text};
+use crate::wholes::{empty_text, read_whole, short_text};
 use log_entries::{Entry, Request};
 use std::alloc::Global;
 use thor_value::{NoMemory, Text, Ts};
@@ -139,9 +139,29 @@ pub fn spell_entry(alloc: Global, entry: &Entry) -> Result<Text, NoMemory>
     ensures read { IfOk result (λ put. value_of body_format put ≡ Some (AnEntry entry.now)) }
     ensures short { IfOk result (λ put. length put < 2 ^ 32) }
 {
-    let mut put = Text::new(alloc);
+    let mut put = empty_text(alloc, entry_room(entry))?;
     put_entry(entry, &mut put)?;
     short_text(put)
+}
+
+/// About how many bytes the spelling of an entry takes.
+fn entry_room(entry: &Entry) -> usize {
+    match entry {
+        Entry::One { request } | Entry::Prepared { request } | Entry::Upgraded { request } => {
+            request_room(request)
+        }
+        _ => 16,
+    }
+}
+
+/// About how many bytes the spelling of a request takes.
+fn request_room(request: &Request) -> usize {
+    let names = request.ros.len().saturating_add(request.fresh.len());
+    let objects = request.writes.len().saturating_mul(48);
+    names
+        .saturating_mul(8)
+        .saturating_add(objects)
+        .saturating_add(80)
 }
 
 /// Spells the body of a record that says that a page's side is in use.

@@ -1,6 +1,6 @@
 //! Whole bodies: bytes that are read from the first to the last, and spelled into a text of their own.
 
-ghost use Rattle.std.specs.Prelude.{◌≡◌, ◌<◌, ◌^◌, length, IfOk};
+ghost use Rattle.std.specs.Prelude.{◌≡◌, ◌<◌, ◌^◌, [], length, IfOk};
 ghost use Rattle.log_codec.specs.Format.{Gives, value_of};
 
 use crate::fault::BodyFault;
@@ -18,6 +18,13 @@ pub(crate) fn read_whole<T: Spelled>(alloc: Global, bytes: &[u8]) -> Result<T, B
     } else {
         Err(BodyFault::NotOne)
     }
+}
+
+/// The empty text, with room for so many bytes.
+pub(crate) fn empty_text(alloc: Global, room: usize) -> Result<Text, NoMemory>
+    ensures { IfOk result (λ text. text ≡ []) }
+{
+    Ok(Text::from_vec(Vec::with_capacity(alloc, room)?))
 }
 
 /// A text whose length a `u32` can tell; want of memory for a longer one.

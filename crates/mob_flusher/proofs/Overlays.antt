@@ -27,11 +27,11 @@ get_other : (page : Contents) (slot other : ℕ) (bytes : List ℕ) → (other �
 get_other page slot other bytes apart = get-insert nat_cmp_total page.objects slot bytes other ∙ ap (λ (b : Bool). cond b (Some bytes) (get page.objects other)) (apart_by (nat_cmp other slot) other slot refl apart)
 
 -- what the slot has that an object was put over, and what another has
-overlaid_here : (page : Contents) (slot : ℕ) (o : Option Obj) → get (overlaid page slot o).objects slot ≡ option_map_or (λ object. Some (obj_bytes object)) o (get page.objects slot)
+pub overlaid_here : (page : Contents) (slot : ℕ) (o : Option Obj) → get (overlaid page slot o).objects slot ≡ option_map_or (λ object. Some (obj_bytes object)) o (get page.objects slot)
 overlaid_here page slot None = refl
 overlaid_here page slot (Some object) = get_here page slot (obj_bytes object)
 
-overlaid_other : (page : Contents) (slot other : ℕ) (o : Option Obj) → (other ≡ slot → ⊥) → get (overlaid page slot o).objects other ≡ get page.objects other
+pub overlaid_other : (page : Contents) (slot other : ℕ) (o : Option Obj) → (other ≡ slot → ⊥) → get (overlaid page slot o).objects other ≡ get page.objects other
 overlaid_other page slot other None apart = refl
 overlaid_other page slot other (Some object) apart = get_other page slot other (obj_bytes object) apart
 

@@ -1,5 +1,5 @@
 -- The map behind writes.
-use Rattle.std.proofs.Common.{◌≡◌, ℕ, Bool, true, false, cond, List, [], ◌∷◌, Option, Some, None, Result, Ok, Err, OnOk, refl, ap, sym, subst, ◌∙◌}
+use Rattle.std.proofs.Common.{◌≡◌, ℕ, Bool, true, false, cond, List, [], ◌∷◌, Option, Some, None, refl, ap, sym, subst, ◌∙◌}
 use Rattle.thor_value.specs.declared.names.Oref.{Oref}
 use Rattle.thor_value.specs.declared.values.Obj.{Obj}
 use Rattle.mob_buffer.specs.Buffer.{Buffer, Objects, object_of, same_name, with_all, with_object}
@@ -32,9 +32,5 @@ behind_by disk kept writes x None is = λ answer has.
     let same : object_of (with_all kept.mob.objects writes) x ≡ object_of kept.mob.objects x = object_all kept.mob.objects writes x ∙ ap (λ (o : Option Obj). or_else o (object_of kept.mob.objects x)) is in
     subst (λ (o : Option Obj). HasOver o disk kept.pages.sides x answer) (sym same) has
 
-has_writes : (kept : Kept) (writes : List (Oref × Obj)) (mob : Buffer) → mob ≡ record kept.mob { objects = with_all kept.mob.objects writes } → HasWrites kept writes (record { pages = kept.pages; mob = mob })
+pub has_writes : (kept : Kept) (writes : List (Oref × Obj)) (mob : Buffer) → mob ≡ record kept.mob { objects = with_all kept.mob.objects writes } → HasWrites kept writes (record { pages = kept.pages; mob = mob })
 has_writes kept writes mob is disk x = subst (λ (b : Buffer). HasBehind (last_written writes x) disk kept (record { pages = kept.pages; mob = b }) x) (sym is) (behind_by disk kept writes x (last_written writes x) refl)
-
-pub written_map : {T E : Type 0} (r : Result T E) (kept : Kept) (writes : List (Oref × Obj)) (mob : Buffer) → OnOk r (mob ≡ record kept.mob { objects = with_all kept.mob.objects writes }) → OnOk r (HasWrites kept writes (record { pages = kept.pages; mob = mob }))
-written_map (Ok done) kept writes mob is = has_writes kept writes mob is
-written_map (Err refused) kept writes mob is = tt

@@ -53,7 +53,12 @@ fn put_over(image: &mut Page, room: &mut Text, mob: &Mob, oref: Oref) -> Result<
 }
 
 /// Puts an object into a slot. It is spelled in the room.
-fn put_object(image: &mut Page, room: &mut Text, slot: u8, object: &Obj) -> Result<(), NoMemory>
+pub(crate) fn put_object(
+    image: &mut Page,
+    room: &mut Text,
+    slot: u8,
+    object: &Obj,
+) -> Result<(), NoMemory>
     requires objects { HasObjects image.old }
     requires slot { slot < 12 }
     requires object { ObjFits object.now }

@@ -2,6 +2,7 @@
 #![tactic(auto)]
 
 mod image;
+mod kept_images;
 mod store;
 
 pub use store::{Flushed, ObjectStore};

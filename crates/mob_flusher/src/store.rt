@@ -4,17 +4,19 @@ ghost use Rattle.std.specs.Ordering.{nat_cmp};
 ghost use Rattle.disk_trait.specs.Disks.{Disks, OnDisk, Leaves, WhereTold, IsSettled, NoNewImage, Rose};
 ghost use Rattle.page_store.specs.Objects.{HasObjects};
 ghost use Rattle.page_store.specs.Sides.{KeepsSides};
-ghost use Rattle.page_store.specs.Store.{Agrees, IsDamage};
+ghost use Rattle.page_store.specs.Store.{Agrees, IsDamage, held_page};
 ghost use Rattle.page_store.specs.declared.fault.StoreFault.TheVariants.{Damaged, Failed, NoMemory as OutOfMemory};
-ghost use Rattle.page_format.specs.Pages.{page_size};
+ghost use Rattle.page_format.specs.Pages.{Contents, page_size};
 ghost use Rattle.page_store.specs.Sides.{place_of};
 ghost use Rattle.mob_buffer.specs.Buffer.{AreOf, AreOneRepo, bytes_of, with_all, without_page};
 ghost use Rattle.mob_buffer.specs.declared.fault.MobFull.TheVariants.{Full};
 ghost use Rattle.mob_flusher.specs.Map.{DiskHas, Has, HasWrites, SameMap, with_installed, with_writes};
+ghost use Rattle.mob_flusher.specs.KeptImages.{AreKept, IsHeldStill, IsImageOver, IsKeptOr, ShowHeld, image_in};
 ghost use Rattle.mob_flusher.specs.Images.{IsFlushed, IsHeldImage, ShowsImage};
 ghost use Rattle.mob_flusher.specs.declared.store.Flushed.TheVariants.{Installed, Nothing};
 
 use crate::image::{image_of, object_in};
+use crate::kept_images::KeptImages;
 use disk_trait::Parts;
 use mob_buffer::{Mob, MobFull};
 use page_format::Page;
@@ -38,6 +40,8 @@ pub struct ObjectStore {
     alloc: Global,
     pages: PageStore,
     mob: Mob,
+    /// Of pages that are held what they have with the buffer's objects in their slots.
+    images: KeptImages,
 }
 
 impl Model for ObjectStore {
@@ -45,7 +49,11 @@ impl Model for ObjectStore {
 
     ghost Value = { Kept };
 
+    ghost use Rattle.mob_flusher.specs.KeptImages.{ShowHeld};
+
     ghost view = { λ s. record { pages = s.pages; mob = s.mob } };
+
+    ghost invariant = { λ s. ShowHeld s.images (record { pages = s.pages; mob = s.mob }) };
 }
 
 impl ObjectStore {
@@ -53,7 +61,12 @@ impl ObjectStore {
     pub fn new(alloc: Global, pages: PageStore, mob: Mob) -> ObjectStore
         ensures { result ≡ record { pages = pages; mob = mob } }
     {
-        ObjectStore { alloc, pages, mob }
+        ObjectStore {
+            alloc,
+            pages,
+            mob,
+            images: KeptImages::new(alloc),
+        }
     }
 
     /// The object of a name, from the buffer, and else from its page.
@@ -74,6 +87,7 @@ impl ObjectStore {
         if let Some(object) = self.mob.get(oref) {
             return Ok(Some(object.copy()?));
         }
+        forget_unheld(&mut self.images, &self.pages, oref.page);
         stored(self.alloc, &mut self.pages, parts, oref)
     }
 
@@ -88,7 +102,9 @@ impl ObjectStore {
         ensures full { (limit : ℕ) → IsErrOf result (Full limit) → (limit ≡ self.old.mob.limit) × (self.old.mob.limit < bytes_of (with_all self.old.mob.objects writes.now)) }
         ensures err { OnErr result (self.new ≡ self.old) }
     {
-        self.mob.add_all(writes)
+        self.mob.add_all(writes)?;
+        self.images.put_all(writes);
+        Ok(())
     }
 
     /// Puts writes into the map as `apply` does, whatever the buffer's limit is.
@@ -98,7 +114,9 @@ impl ObjectStore {
         ensures map { OnOk result (HasWrites self.old writes.now self.new) }
         ensures err { OnErr result (self.new ≡ self.old) }
     {
-        self.mob.load_all(writes)
+        self.mob.load_all(writes)?;
+        self.images.put_all(writes);
+        Ok(())
     }
 
     /// A page with all objects that the buffer has of it.
@@ -119,21 +137,10 @@ impl ObjectStore {
         ensures wanting { IsErrOf result OutOfMemory → (P.disks parts.new).faults 2 ≡ (P.disks parts.old).faults 2 }
         ensures harmed { (place : ℕ) → IsErrOf result (Damaged place) → (P.disks parts.new).faults 2 ≡ (P.disks parts.old).faults 2 }
     {
+        forget_unheld(&mut self.images, &self.pages, page);
         self.pages.hold(parts, page)?;
-        let image = self.held_image(page)?;
+        let image = held_image(self.alloc, &self.pages, &self.mob, &mut self.images, page)?;
         Ok(image)
-    }
-
-    /// A page that is held, with all objects that the buffer has of it.
-    fn held_image(&self, page: u32) -> Result<Page, NoMemory>
-        ensures image { IfOk result (IsHeldImage self.now page) }
-        ensures objects { IfOk result HasObjects }
-    {
-        let repo = repo_of(&self.mob);
-        match self.pages.held(page) {
-            Some(base) => image_of(self.alloc, base, &self.mob, repo),
-            None => Err(NoMemory),
-        }
     }
 
     /// Writes the page of the oldest object in the buffer, with all its objects in the buffer, to the side
@@ -165,6 +172,7 @@ impl ObjectStore {
         let Some(oldest) = self.mob.oldest() else {
             return Ok(Flushed::Nothing);
         };
+        self.images.clear();
         let side = install_image(self.alloc, &mut self.pages, &self.mob, parts, oldest)?;
         Ok(Flushed::Installed {
             page: oldest.page,
@@ -181,6 +189,7 @@ impl ObjectStore {
         ensures agrees { (disk : List ℕ) → Agrees self.old.pages disk → Agrees self.new.pages disk }
         ensures same_map { (disk : List ℕ) (repo : ℕ) → Agrees self.old.pages disk → IsFlushed self.old repo page side → SameMap disk self.old disk self.new repo }
     {
+        self.images.clear();
         self.pages.settle(page, side);
         self.mob.remove_page(page);
     }
@@ -193,6 +202,7 @@ impl ObjectStore {
         ensures agrees { OnOk result ((disk : List ℕ) → place_of page side + page_size ≤ length disk → Agrees self.old.pages disk → Agrees self.new.pages disk) }
         ensures err { OnErr result (self.new ≡ self.old) }
     {
+        self.images.clear();
         self.pages.installed(page, side)?;
         self.mob.remove_page(page);
         Ok(())
@@ -223,6 +233,72 @@ fn repo_of(mob: &Mob) -> u8
     }
 }
 
+/// A page that is held, with all objects that the buffer has of it. Its image is kept.
+fn held_image(
+    alloc: Global,
+    pages: &PageStore,
+    mob: &Mob,
+    images: &mut KeptImages,
+    page: u32,
+) -> Result<Page, NoMemory>
+    requires { ShowHeld images.old (record { pages = pages.now; mob = mob.now }) }
+    ensures image { IfOk result (IsHeldImage (record { pages = pages.now; mob = mob.now }) page) }
+    ensures objects { IfOk result HasObjects }
+    ensures show { ShowHeld images.new (record { pages = pages.now; mob = mob.now }) }
+{
+    match pages.held(page) {
+        Some(base) => image_over(alloc, base, mob, images),
+        None => Err(NoMemory),
+    }
+}
+
+/// A page with all objects that the buffer has of it: the image that is kept, or a new one, which is kept then.
+fn image_over(
+    alloc: Global,
+    base: &Page,
+    mob: &Mob,
+    images: &mut KeptImages,
+) -> Result<Page, NoMemory>
+    requires objects { HasObjects base.now }
+    requires shown { (image : Contents) → image_in images.old base.now.number ≡ Some image → IsImageOver mob.now.objects base.now image }
+    ensures image { IfOk result (IsImageOver mob.now.objects base.now) }
+    ensures objects { IfOk result HasObjects }
+    ensures kept { (page : ℕ) (now : Contents) → image_in images.new page ≡ Some now → IsKeptOr images.old mob.now.objects base.now page now }
+{
+    if let Some(image) = images.get(base.number()) {
+        return image.copy();
+    }
+    new_image(alloc, base, mob, images)
+}
+
+/// A page with all objects that the buffer has of it, made anew. It is kept.
+fn new_image(
+    alloc: Global,
+    base: &Page,
+    mob: &Mob,
+    images: &mut KeptImages,
+) -> Result<Page, NoMemory>
+    requires { HasObjects base.now }
+    ensures image { IfOk result (IsImageOver mob.now.objects base.now) }
+    ensures objects { IfOk result HasObjects }
+    ensures kept { (page : ℕ) (now : Contents) → image_in images.new page ≡ Some now → IsKeptOr images.old mob.now.objects base.now page now }
+{
+    let repo = repo_of(mob);
+    let image = image_of(alloc, base, mob, repo)?;
+    images.keep(image.copy()?)?;
+    Ok(image)
+}
+
+/// Keeps no image of a page that isn't held: what is held of it next is read anew.
+fn forget_unheld(images: &mut KeptImages, pages: &PageStore, page: u32)
+    ensures kept { AreKept images.new images.old }
+    ensures gone { held_page pages.now page ≡ None → (image : Contents) → image_in images.new page ≡ Some image → ⊥ }
+{
+    if !pages.holds(page) {
+        images.forget(page);
+    }
+}
+
 /// The object of a name in its page.
 fn stored<P: Parts>(
     alloc: Global,
@@ -235,6 +311,7 @@ fn stored<P: Parts>(
     ensures content { (P.disks parts.new).content 2 ≡ (P.disks parts.old).content 2 }
     ensures answer { IfOk result (λ answer. WhereTold (P.disks parts.old) 2 (λ disk. DiskHas disk pages.old.sides oref answer)) }
     ensures sides { pages.new.sides ≡ pages.old.sides }
+    ensures held { (p : ℕ) (found : Contents) → held_page pages.new p ≡ Some found → IsHeldStill pages.old oref.page p found }
     ensures agrees { WhereTold (P.disks parts.new) 2 (Agrees pages.new) }
     ensures damaged { (place : ℕ) → IsErrOf result (Damaged place) → IsDamage (P.disks parts.old) pages.old.sides oref.page place }
     ensures failed { IsErrOf result Failed → Rose ((P.disks parts.old).faults 2) ((P.disks parts.new).faults 2) }

@@ -193,6 +193,10 @@ pub some_of : (o : Option Contents) (b : Bool) → b ≡ is_some o → b ≡ tru
 some_of None b is true_is = absurd (false≢true (sym is ∙ true_is))
 some_of (Some found) b is true_is = (found, refl)
 
+pub not_held : (o : Option Contents) (b : Bool) → b ≡ is_some o → b ≡ false → (found : Contents) → o ≡ Some found → ⊥
+not_held None b is false_is found here = cc
+not_held (Some c) b is false_is found here = false≢true (sym false_is ∙ is)
+
 module _ (sides : List (ℕ × ℕ)) (staged : Option (Contents × ℕ)) (was now : Cache) (page : ℕ) (found : Contents) (cap_is : was.cap ≡ most_held) (put : now ≡ lru_cache (put_entries nat_eq was page (Some found)) was.cap) where
   pub entries_are : now.entries ≡ with_held was.entries page (Some found)
   entries_are = ap (λ (c : Cache). c.entries) put ∙ ap (λ (n : ℕ). put_entries nat_eq (lru_cache was.entries n) page (Some found)) cap_is
@@ -219,6 +223,9 @@ module _ (sides : List (ℕ × ℕ)) (staged : Option (Contents × ℕ)) (was no
 
   pub shows_now : (P : Contents → Type 0) → P found → (that : Contents) → page_in now.entries page ≡ Some that → P that
   shows_now P holds that here = shows_is was.entries now.entries page found P entries_are holds that here
+
+  pub again_now : page_in was.entries page ≡ Some found → (that : Contents) → page_in was.entries page ≡ Some that → page_in now.entries page ≡ Some that
+  again_now before that here = is_there was.entries now.entries page found entries_are ∙ sym before ∙ here
 
   pub held_now : (that : Contents) → page_in now.entries page ≡ Some that → now.entries ≡ with_held was.entries page (Some that)
   held_now that here = held_is was.entries now.entries page found entries_are that here

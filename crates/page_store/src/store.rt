@@ -104,6 +104,7 @@ impl PageStore {
         ensures there { OnOk result (IsSome (held_page self.new page)) }
         ensures page { OnOk result ((found : Contents) → held_page self.new page ≡ Some found → WhereTold (P.disks parts.old) 2 (λ disk. Shows disk (side_in_use self.old.sides page) page found)) }
         ensures held { OnOk result ((found : Contents) → held_page self.new page ≡ Some found → self.new.held ≡ with_held self.old.held page (Some found)) }
+        ensures again { OnOk result ((found : Contents) → held_page self.old page ≡ Some found → held_page self.new page ≡ Some found) }
         ensures sides { self.new.sides ≡ self.old.sides }
         ensures staged { self.new.staged ≡ self.old.staged }
         ensures err { OnErr result (self.new ≡ self.old) }

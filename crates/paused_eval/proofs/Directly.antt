@@ -10,6 +10,7 @@ use Rattle.thor_value.specs.declared.values.Fault.TheVariants as fault
 use Rattle.thor_value.specs.declared.values.Value.{Value}
 use Rattle.thor_value.specs.declared.values.Value.TheVariants as value
 use Rattle.class_defs.specs.Calls.{owners_at}
+use Rattle.class_defs.specs.Expressions.{combined}
 use Rattle.class_defs.specs.Objects.{class_found, scope_at, seen, touch}
 use Rattle.class_defs.specs.Run.{begun}
 use Rattle.class_defs.specs.Statements.{holds}
@@ -18,6 +19,7 @@ use Rattle.class_defs.specs.Types.{method_of, type_named, type_of}
 use Rattle.class_defs.specs.declared.classes.Method.{Method}
 use Rattle.class_defs.specs.declared.expressions.Expr.{Expr, out-Expr}
 use Rattle.class_defs.specs.declared.expressions.Expr.TheOpen.{Expr-F}
+use Rattle.class_defs.specs.declared.expressions.Operator.{Operator}
 use Rattle.class_defs.specs.declared.limits.TheConstants.{DEPTH_LIMIT, READ_LIMIT, STEP_LIMIT}
 use Rattle.class_defs.specs.declared.machine.Flow.{Flow}
 use Rattle.class_defs.specs.declared.machine.Flow.TheVariants.{Next, Returned}
@@ -53,7 +55,8 @@ use Rattle.paused_eval.proofs.Hands.{same_hands}
 use Rattle.paused_eval.proofs.Standing.{named, named_is, stops}
 use Rattle.paused_eval.specs.Begins.{first_part, waiting_frame}
 use Rattle.paused_eval.specs.Copies.{Keeps}
-use Rattle.paused_eval.specs.Direct.{Direct, Directly, Directs, IsLater, IsLeft, Outcome, Resumes, Waits, on, again, goes_on_after, block, call, collect, directly, done, effect, enter, enter_as, faulted, in_order, met, node, part, ready, returned, statement, statement_at, stepped, tests, turn, turn_by, unless, value_at, waiting}
+use Rattle.paused_eval.specs.Direct.{Direct, Directly, Directs, IsLater, IsLeft, Outcome, Resumes, Waits, on, again, goes_on_after, block, call, collect, combine, directly, done, effect, enter, enter_as, faulted, in_order, met, node, part, ready, returned, statement, statement_at, stepped, tests, turn, turn_by, unless, value_at, waiting}
+use Rattle.paused_eval.specs.Does.{Moves}
 use Rattle.paused_eval.specs.Standing.{Runs, Went, outcome_of}
 use Rattle.paused_eval.specs.declared.unwound.Unwound.{Unwound}
 use Rattle.paused_eval.specs.declared.unwound.Unwound.TheVariants.{Faulted, Later, NoMemory}
@@ -359,6 +362,13 @@ module _ (w : World) (Q : Left → Machine → Type 0) (Z : Fault → Machine �
     call_comes : (c : ℕ) (x : Oref) (name : List ℕ) (vs : List Value) (fs : List Frame) (m : Machine) → Q (left (doing.Enter n c x name vs) fs) m → After Returned (call w n inner c x name vs m).0 (call w n inner c x name vs m).1 fs
     call_comes c x name vs fs m q = depth_comes (nat_lt m.depth DEPTH_LIMIT) c x name vs fs m q (moves (doing.Enter n c x name vs) fs m tt tt q)
 
+    right_comes : (o : Operator) (e : Expr) (g : Flow) (fs : List Frame) (m : Machine) → Q (left (doing.Give g) (frame.Right n o e ∷ fs)) m
+        → After Returned (combine w n inner o (small.given g) e m).0 (combine w n inner o (small.given g) e m).1 fs
+    right_comes o e g fs m q =
+        parted Returned Returned (inner.value_of e m).0 (inner.value_of e m).1 (frame.Combine o (small.given g)) (λ b. done (combined o (small.given g) b)) fs
+        (values e (frame.Combine o (small.given g) ∷ fs) m ((moves (doing.Give g) (frame.Right n o e ∷ fs) m tt tt q).0 _ _ refl))
+        (λ b r h. (moves (doing.Give (Returned b)) (frame.Combine o (small.given g) ∷ fs) r tt tt h).0 _ _ refl)
+
     ready_comes : (t : ExprType) (r : Value) (name : List ℕ) (vs : List Value) (fs : List Frame) (m : Machine) → Comes (small.ready n t r name vs fs m) → After Returned (ready w n inner t r name vs m).0 (ready w n inner t r name vs m).1 fs
     ready_comes (type.Class c) (value.Ref x) name vs fs m h = call_comes c x name vs fs m (h.0 _ _ refl)
     ready_comes (type.Class c) value.Null name vs fs m h = h.1 _ _ refl
@@ -551,3 +561,42 @@ module _ (s : Schema) (f : Oref → Option Object) (tx : List Stmt) (names : Lis
       → Resumes r fs d gs → Runs s f tx names count (left (doing.Execute n x) fs) (named ns m) → Went s f tx names count d gs (named ns o)
   statement_goes room n x fs gs m o r d is next q =
       resumes r o fs gs d (by_code (λ (g : Flow). g) r o ((directly (over s f) room n).execute x m) fs is ((both (over s f) here failed runs_follow runs_fail room n).statements x fs m q)) next
+
+  -- a call was entered so
+  pub call_goes : (room n c : ℕ) (x : Oref) (name : List ℕ) (vs : List Value) (fs gs : List Frame) (m o : Machine) (r : Result Value Unwound) (d : Result Doing Halt)
+      → Directs r o (call (over s f) n (directly (over s f) room n) c x name vs m)
+      → Resumes (returned r) fs d gs → Runs s f tx names count (left (doing.Enter n c x name vs) fs) (named ns m) → Went s f tx names count d gs (named ns o)
+  call_goes room n c x name vs fs gs m o r d is next q =
+      let inner : Both (over s f) here failed runs_follow runs_fail room n = both (over s f) here failed runs_follow runs_fail room n in
+      resumes (returned r) o fs gs d
+      (as_flow r o fs (by_code Returned r o (call (over s f) n (directly (over s f) room n) c x name vs m) fs is
+      (call_comes (over s f) here failed runs_follow runs_fail n (directly (over s f) room n) inner.values inner.statements c x name vs fs m q))) next
+
+  -- what was left of a block was executed so, where nothing was returned
+  pub rest_goes : (room n : ℕ) (ss : List Stmt) (g : Flow) (fs gs : List Frame) (m o : Machine) (r : Result Flow Unwound) (d : Result Doing Halt)
+      → Directs r o (unless g (in_order (over s f) n (directly (over s f) room n) ss) m)
+      → Resumes r fs d gs → Runs s f tx names count (left (doing.Give g) (frame.Rest n ss ∷ fs)) (named ns m) → Went s f tx names count d gs (named ns o)
+  rest_goes room n ss g fs gs m o r d is next q =
+      let inner : Both (over s f) here failed runs_follow runs_fail room n = both (over s f) here failed runs_follow runs_fail room n in
+      resumes r o fs gs d (by_code (λ (h : Flow). h) r o (unless g (in_order (over s f) n (directly (over s f) room n) ss) m) fs is
+      (rest_comes (over s f) here failed runs_follow runs_fail n (directly (over s f) room n) inner.values inner.statements ss fs
+      (in_order_comes (over s f) here failed runs_follow runs_fail n (directly (over s f) room n) inner.values inner.statements ss fs) g m q)) next
+
+  -- a right operand was evaluated so
+  pub right_goes : (room n : ℕ) (e : Operator) (x : Expr) (g : Flow) (fs gs : List Frame) (m o : Machine) (r : Result Value Unwound) (d : Result Doing Halt)
+      → Directs r o (combine (over s f) n (directly (over s f) room n) e (small.given g) x m)
+      → Resumes (returned r) fs d gs → Runs s f tx names count (left (doing.Give g) (frame.Right n e x ∷ fs)) (named ns m) → Went s f tx names count d gs (named ns o)
+  right_goes room n e x g fs gs m o r d is next q =
+      let inner : Both (over s f) here failed runs_follow runs_fail room n = both (over s f) here failed runs_follow runs_fail room n in
+      resumes (returned r) o fs gs d
+      (as_flow r o fs (by_code Returned r o (combine (over s f) n (directly (over s f) room n) e (small.given g) x m) fs is
+      (right_comes (over s f) here failed runs_follow runs_fail n (directly (over s f) room n) inner.values inner.statements e x g fs m q))) next
+
+  -- a small step was taken
+  pub move_goes : (k : Doing) (fs gs : List Frame) (m o : Machine) (d : Result Doing Halt) → IsOpen k fs → IsNoCreation k → Moves d gs m o (move (over s f) k fs)
+      → Runs s f tx names count (left k fs) (named ns m) → Went s f tx names count d gs (named ns o)
+  move_goes k fs gs m o (Ok e) undone quiet is q = runs_follow k fs (left e gs) m o undone quiet q is
+  move_goes k fs gs m o (Err (Stopped (stop.Fault e))) undone quiet is q = runs_fail k fs m o e quiet q is
+  move_goes k fs gs m o (Err (Stopped (stop.Need x owners))) undone quiet is q = absurd is
+  move_goes k fs gs m o (Err (Stopped (stop.NeedName repo))) undone quiet is q = absurd is
+  move_goes k fs gs m o (Err halt.NoMemory) undone quiet is q = tt

@@ -197,7 +197,7 @@ fn negate<L: Ledger>(
 /// The right operand, behind the value of the left one.
 #[cycle(direct)]
 #[tactic(auto, using(crate::proofs::Directly::left_waiting))]
-fn combine<L: Ledger>(
+pub fn combine<L: Ledger>(
     program: &Program<'_>,
     epoch: u32,
     cache: &mut Cache,
@@ -371,7 +371,7 @@ fn ready<L: Ledger>(
 /// A call whose parts are evaluated.
 #[cycle(direct)]
 #[tactic(auto, using(crate::proofs::Directly::left_there, crate::proofs::Directly::same_world), unfolding(class_defs::specs::Calls::owners_at))]
-fn call<L: Ledger>(
+pub fn call<L: Ledger>(
     program: &Program<'_>,
     epoch: u32,
     cache: &mut Cache,

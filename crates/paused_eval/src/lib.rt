@@ -15,6 +15,7 @@ mod moves;
 mod objects;
 mod paused;
 mod popping;
+mod resting;
 mod running;
 mod small;
 mod starting;

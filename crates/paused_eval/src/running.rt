@@ -43,7 +43,7 @@ fn faulted(halt: Halt) -> Result<Came, NoMemory>
     }
 }
 
-/// Small steps up to an end, a fault, or what isn't at hand, and between them as much as plain recursion can do.
+/// As much as plain recursion can do, and small steps between, up to an end, a fault, or what isn't at hand.
 fn run<L: Ledger>(
     program: &Program<'_>,
     epoch: u32,
@@ -67,28 +67,28 @@ fn run<L: Ledger>(
 {
     let mut doing = begun;
     for _ in 0..SMALL_STEPS {
-        if is_ended(stack, &doing) {
-            return Ok((Came::Ended, doing));
-        }
-        doing = match small(program, epoch, cache, names, machine, bodies, stack, doing) {
-            Ok(Moved::To { doing: next }) => {
-                match ahead(program, epoch, cache, machine, bodies, stack, next) {
-                    Ok(then) => then,
+        doing = match ahead(program, epoch, cache, machine, bodies, stack, doing) {
+            Ok(then) => {
+                if is_ended(stack, &then) {
+                    return Ok((Came::Ended, then));
+                }
+                match small(program, epoch, cache, names, machine, bodies, stack, then) {
+                    Ok(Moved::To { doing: next }) => next,
+                    Ok(
+                        Moved::Waits {
+                            doing: same,
+                            oref,
+                            owners,
+                        },
+                    ) => return Ok((Came::Waits { oref, owners }, same)),
+                    Ok(Moved::WaitsForName { doing: same, repo }) => {
+                        return Ok((Came::WaitsForName { repo }, same));
+                    }
                     Err(halt) => {
                         let came = faulted(halt)?;
                         return Ok((came, Doing::Give { flow: Flow::Next }));
                     }
                 }
-            }
-            Ok(
-                Moved::Waits {
-                    doing: same,
-                    oref,
-                    owners,
-                },
-            ) => return Ok((Came::Waits { oref, owners }, same)),
-            Ok(Moved::WaitsForName { doing: same, repo }) => {
-                return Ok((Came::WaitsForName { repo }, same));
             }
             Err(halt) => {
                 let came = faulted(halt)?;

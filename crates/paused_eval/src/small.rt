@@ -221,7 +221,32 @@ fn assign(
     pass()
 }
 
+/// Gives the frame that was on the top what it waits for.
 #[tactic(auto, using(crate::proofs::Lifting::lifts))]
+pub fn resume<L: Ledger>(
+    program: &Program<'_>,
+    epoch: u32,
+    cache: &mut Cache,
+    machine: &mut Machine,
+    work: &mut StepCount<L>,
+    stack: &mut Stack<Frame>,
+    frame: Frame,
+    flow: Flow,
+) -> Result<Doing, Halt>
+    requires tied { Tied cache.old }
+    ensures does { Moves result stack.new (state machine.old cache.old) (state machine.new cache.new) (spec.pop (over program.now.schema.now (at_hand program.now.schema.now cache.old)) frame flow stack.old) }
+    ensures tied { Holds result (Tied cache.new) }
+    ensures kept { Holds result (Keeps cache.old cache.new) }
+    ensures work { Holds result (surplus work.new machine.new.steps ≡ surplus work.old machine.old.steps) }
+{
+    if let Some(field) = field_assigned(&frame) {
+        let name = *field;
+        drop(frame);
+        return assign(program, epoch, cache, machine, &name, flow);
+    }
+    pop(program, machine, work, stack, frame, flow)
+}
+
 fn given<L: Ledger>(
     program: &Program<'_>,
     epoch: u32,
@@ -239,14 +264,7 @@ fn given<L: Ledger>(
 {
     match stack.pop() {
         None => Ok(Doing::Give { flow }),
-        Some(frame) => {
-            if let Some(field) = field_assigned(&frame) {
-                let name = *field;
-                drop(frame);
-                return assign(program, epoch, cache, machine, &name, flow);
-            }
-            pop(program, machine, work, stack, frame, flow)
-        }
+        Some(frame) => resume(program, epoch, cache, machine, work, stack, frame, flow),
     }
 }
 

@@ -285,11 +285,57 @@ found_installed h found before image kept i keeps x answer own fits here =
     (object_both found.objects.mob.objects x ∙ (i.says.objects x ∙ sym (object_both (without_page h.objects.mob.objects i.page) x))) own fits
     (has_kept before image h.objects x answer fits keeps here)
 
+-- ---- what an image has
+
+-- the objects of a state over this repository's pages
+abbrev pub kept_by : Held → State → Kept
+kept_by h s = record { pages = record h.objects.pages { sides = s.installed }; mob = record h.objects.mob { objects = s.mob } }
+
+-- it says what is held
+image_same : (h : Held) (s : State) (before image : List ℕ) → Remembers s (said h) → KeepsSides h.objects.pages.sides before image → MapTakes h.repo [] before h.objects image (kept_by h s)
+image_same h s before image r keeps x answer own fits here =
+    has_same image h.objects (kept_by h s) x answer (object_both s.mob x ∙ (r.objects x ∙ sym (object_both h.objects.mob.objects x))) r.installed
+    (has_kept before image h.objects x answer fits keeps here)
+
+-- with the entry
+image_behind : (h : Held) (s : State) (e : Entry) (before image : List ℕ) → Keeps h → Remembers s (after (said h) (AnEntry e)) → KeepsSides h.objects.pages.sides before image → MapTakes h.repo (loaded h e) before h.objects image (kept_by h s)
+image_behind h s e before image kept r keeps x answer own fits here =
+    has_written image h.objects (kept_by h s) (loaded h e) x answer
+    (object_both s.mob x
+    ∙ (r.objects x
+    ∙ (object_entered (said h) e x
+    ∙ (ap (λ (ws : List (Oref × Obj)). written_last x (object_in h.objects.mob.objects x) ws) (said_writes h e kept)
+    ∙ ap (λ (o : Option Obj). written_last x o (loaded h e)) (sym (object_both h.objects.mob.objects x))))))
+    (r.installed ∙ entry_sides (said h) e)
+    (has_kept before image h.objects x answer fits keeps here)
+
+-- with the page that was being put in use
+image_installed : (h : Held) (s : State) (before image : List ℕ) → Keeps h → IsInstalling h s image → KeepsSides h.objects.pages.sides before image → MapTakes h.repo [] before h.objects image (kept_by h s)
+image_installed h s before image kept i keeps x answer own fits here =
+    installed_has h (record h { objects = kept_by h s }) i.repo i.page i.side image kept i.flushed i.agrees i.says.installed x answer
+    (object_both s.mob x ∙ (i.says.objects x ∙ sym (object_both (without_page h.objects.mob.objects i.page) x))) own fits
+    (has_kept before image h.objects x answer fits keeps here)
+
 counted : (s a : State) → Remembers s a → s.count ≡ a.count
 counted s a r = ap (λ (z : State). z.count) r.rest
 
 never_more : (n m : ℕ) → n ≡ m → n ≡ m + 1 → ⊥
 never_more n m a b = omega (arith, a, b)
+
+more_never : (n m : ℕ) → n ≡ m + 1 → n ≡ m → ⊥
+more_never n m a b = omega (arith, a, b)
+
+-- a state that counts no more than is held has what is held
+pub image_without : (h : Held) (pending : Option Entry) (s : State) (before image : List ℕ) → Keeps h → IsOneOf h pending s image → s.count ≡ h.count → KeepsSides h.objects.pages.sides before image → MapTakes h.repo [] before h.objects image (kept_by h s)
+image_without h None s before image kept (inl r) count keeps = image_same h s before image r keeps
+image_without h None s before image kept (inr i) count keeps = image_installed h s before image kept i keeps
+image_without h (Some e) s before image kept (inl r) count keeps = image_same h s before image r keeps
+image_without h (Some e) s before image kept (inr r) count keeps = absurd (more_never s.count h.count (counted s (after (said h) (AnEntry e)) r) count)
+
+-- one that counts one more has the entry's writes, too
+pub image_with : (h : Held) (e : Entry) (s : State) (before image : List ℕ) → Keeps h → IsOneOf h (Some e) s image → s.count ≡ h.count + 1 → KeepsSides h.objects.pages.sides before image → MapTakes h.repo (loaded h e) before h.objects image (kept_by h s)
+image_with h e s before image kept (inl r) count keeps = absurd (more_never s.count h.count count (counted s (said h) r))
+image_with h e s before image kept (inr r) count keeps = image_behind h s e before image kept r keeps
 
 count_of : (a b : Numbers) → a ≡ b → a.count ≡ b.count
 count_of a b is = ap (λ (n : Numbers). n.count) is

@@ -1,8 +1,10 @@
 -- The names that are gathered for each session.
 use Rattle.cached_sets.proofs.Meaning.{same_test}
+use Rattle.cached_sets.specs.Sets.{holders, told_of, touches}
+use Rattle.cached_sets.specs.declared.marked.Marked.{Marked}
 use Rattle.link_table.specs.Pairs.{is_linked, lefts}
-use Rattle.repo_sessions.specs.Noting.{IsGathered, IsNoted, Named, if_any, named, names_of, noted, noted_behind, noted_for}
-use Rattle.std.proofs.Common.{Bool, List, [], add-one, ap, append_assoc, arith, cond, false, get_or, length, map, nat_eq, refl, subst, suc, sym, take, true, zero, ◌+◌, ◌++◌, ◌<◌, ◌∙◌, ◌∷◌, ◌≡◌, ℕ}
+use Rattle.repo_sessions.specs.Noting.{IsGathered, IsNoted, Named, if_any, named, names_of, noted, noted_all, noted_behind, noted_for}
+use Rattle.std.proofs.Common.{Bool, List, [], add-one, ap, append_assoc, cond, drop, drop-cons, false, get_or, length, map, nat_eq, refl, subst, sym, true, ◌+◌, ◌++◌, ◌<◌, ◌∙◌, ◌∷◌, ◌≡◌, ℕ}
 use Rattle.std.proofs.lemmas.Bool.{eqb-true}
 use Rattle.std.proofs.lemmas.Cmp.{eq_by_cmp_equiv, nat_eq_equiv}
 use Rattle.std.proofs.lemmas.List.Elements.{filter-append}
@@ -12,14 +14,13 @@ use Rattle.std.specs.BTreeMap.{is_at}
 use Rattle.std.specs.Cmp.{nat_cmp_total}
 use Rattle.std.specs.List.Sorted.{IsStrictlySortedBy}
 use Rattle.std.specs.List.{AllByRecursion, IsDistinct, filter, list_any}
-use Rattle.std.specs.Map.{keys_of, set_value}
+use Rattle.std.specs.Map.{set_value}
 use Rattle.std.specs.Option.{IsSome, unwrap_or}
 use Rattle.std.specs.Ordering.{nat_cmp}
 use Rattle.std.specs.Prelude.{None, Option, Some, not, ◌&&◌, ◌||◌}
 use Rattle.thor_value.proofs.FiniteMap.{IsSorted-insert, get-insert}
 use Rattle.thor_value.specs.FiniteMap.{IsSorted, empty, get, insert}
 use Rattle.thor_value.specs.declared.names.Oref.{Oref}
-use Rattle.thor_value.specs.declared.values.Obj.{Obj}
 
 -- ---- one more name of one session
 
@@ -158,7 +159,7 @@ others_distinct w (y ∷ ys) h = by (nat_eq y w) (others_distinct w ys h.1)
     by false r = (others_apart y w ys h.0, r)
 
 -- each session but the writer that has the page
-pub all_noted : (C : List (ℕ × ℕ)) (w : ℕ) (x : Oref) (N M : Named) → IsDistinct nat_eq (lefts C x.page) → M ≡ noted_for N (filter (λ s. not (nat_eq s w)) (lefts C x.page)) x → IsNoted C w x N M
+all_noted : (C : List (ℕ × ℕ)) (w : ℕ) (x : Oref) (N M : Named) → IsDistinct nat_eq (lefts C x.page) → M ≡ noted_for N (filter (λ s. not (nat_eq s w)) (lefts C x.page)) x → IsNoted C w x N M
 all_noted C w x N M d e = subst (IsNoted C w x N) (sym e) (record {
   names = λ s.
       names_all N ss s x (others_distinct w (lefts C x.page) d)
@@ -175,12 +176,6 @@ all_noted C w x N M d e = subst (IsNoted C w x N) (sym e) (record {
     by true there = refl
     by false there = refl
 
-pub step_on : (N : Named) (w : ℕ) (x : Oref) (s : ℕ) (ss : List ℕ) → nat_eq s w ≡ false → noted_for N (filter (λ k. not (nat_eq k w)) (s ∷ ss)) x ≡ noted_for (noted N s x) (filter (λ k. not (nat_eq k w)) ss) x
-step_on N w x s ss h = rw h refl
-
-pub step_over : (N : Named) (w : ℕ) (x : Oref) (s : ℕ) (ss : List ℕ) → nat_eq s w ≡ true → noted_for N (filter (λ k. not (nat_eq k w)) (s ∷ ss)) x ≡ noted_for N (filter (λ k. not (nat_eq k w)) ss) x
-step_over N w x s ss h = rw h refl
-
 -- ---- several names
 
 no_key : IsStrictlySortedBy nat_cmp []
@@ -190,7 +185,7 @@ no_key = tt
 abbrev no_names : List Oref
 no_names = []
 
-pub none_gathered : (C : List (ℕ × ℕ)) (w : ℕ) → IsGathered C w [] empty
+none_gathered : (C : List (ℕ × ℕ)) (w : ℕ) → IsGathered C w [] empty
 none_gathered C w = record { names_are = λ s. by (nat_eq s w); full = λ s. refl; order = no_key }
   where
     by : (t : Bool) → no_names ≡ cond t no_names no_names
@@ -211,11 +206,29 @@ more_gathered C w names x N M h g = record {
     by s true = refl
     by s false = sym (filter-append (λ (y : Oref). is_linked C s y.page) names (x ∷ []))
 
-keys_next : (ws : List (Oref × Obj)) (i : ℕ) (d : Oref × Obj) → i < length ws → keys_of (take (suc i) ws) ≡ keys_of (take i ws) ++ (get_or ws i d).0 ∷ []
-keys_next [] i d h = absurd (omega arith)
-keys_next (w ∷ ws) zero d h = refl
-keys_next (w ∷ ws) (suc i) d h = ap (λ (ns : List Oref). w.0 ∷ ns) (keys_next ws i d (omega arith))
+-- ---- the marks of a commit
 
--- behind the write at i
-pub next_gathered : (C : List (ℕ × ℕ)) (w : ℕ) (ws : List (Oref × Obj)) (i : ℕ) (d : Oref × Obj) (N M : Named) → i < length ws → IsGathered C w (keys_of (take i ws)) N → IsNoted C w (get_or ws i d).0 N M → IsGathered C w (keys_of (take (i + 1) ws)) M
-next_gathered C w ws i d N M l h g = subst (λ (ns : List Oref). IsGathered C w ns M) (sym (rw add-one (keys_next ws i d l))) (more_gathered C w (keys_of (take i ws)) (get_or ws i d).0 N M h g)
+noted_append : (N : Named) (ts us : List (ℕ × Oref)) → noted_all N (ts ++ us) ≡ noted_all (noted_all N ts) us
+noted_append N [] us = refl
+noted_append N (t ∷ ts) us = noted_append (noted N t.0 t.1) ts us
+
+noted_each : (N : Named) (ss : List ℕ) (x : Oref) → noted_all N (map (λ s. (s, x)) ss) ≡ noted_for N ss x
+noted_each N [] x = refl
+noted_each N (s ∷ ss) x = noted_each (noted N s x) ss x
+
+-- those of some names behind others
+gathered_from : (C : List (ℕ × ℕ)) (w : ℕ) → ((page : ℕ) → IsDistinct nat_eq (lefts C page)) → (names done : List Oref) (N : Named) → IsGathered C w done N → IsGathered C w (done ++ names) (noted_all N (touches C w names))
+gathered_from C w d [] done N h = subst (λ (ns : List Oref). IsGathered C w ns N) (sym (append-nil done)) h
+gathered_from C w d (x ∷ xs) done N h =
+    let M : Named = noted_all N (map (λ s. (s, x)) (holders C w x)) in
+    let here : IsNoted C w x N M = all_noted C w x N M (d x.page) (noted_each N (holders C w x) x) in
+    let rest : IsGathered C w ((done ++ x ∷ []) ++ xs) (noted_all M (touches C w xs)) = gathered_from C w d xs (done ++ x ∷ []) M (more_gathered C w done x N M h here) in
+    subst (λ (K : Named). IsGathered C w (done ++ x ∷ xs) K) (sym (noted_append N (map (λ s. (s, x)) (holders C w x)) (touches C w xs))) (subst (λ (ns : List Oref). IsGathered C w ns (noted_all M (touches C w xs))) (append_assoc done (x ∷ []) xs) rest)
+
+-- where each session is named by its marks
+pub all_gathered : (C : List (ℕ × ℕ)) (w : ℕ) (names : List Oref) → ((page : ℕ) → IsDistinct nat_eq (lefts C page)) → IsGathered C w names (noted_all empty (touches C w names))
+all_gathered C w names d = gathered_from C w d names [] empty (none_gathered C w)
+
+-- the marks from one on: that one, and those behind it
+pub marks_from : (N : Named) (ms : List Marked) (i : ℕ) (d : Marked) → i < length ms → noted_all N (map told_of (drop i ms)) ≡ noted_all (noted N (get_or ms i d).session (get_or ms i d).oref) (map told_of (drop (i + 1) ms))
+marks_from N ms i d l = rw (drop-cons ms i d l, add-one) refl

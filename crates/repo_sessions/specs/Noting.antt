@@ -34,6 +34,10 @@ noted_behind N s x (Some xs) = record { pairs = set_value (is_at (nat_cmp s)) N.
 abbrev pub noted : Named → ℕ → Oref → Named
 noted N s x = noted_behind N s x (get N s)
 
+-- with a name behind those of a session for each of some sessions and names, in turn
+abbrev pub noted_all : Named → List (ℕ × Oref) → Named
+noted_all N ts = fold (λ M t. noted M t.0 t.1) N ts
+
 -- with a name behind those of each of some sessions
 abbrev pub noted_for : Named → List ℕ → Oref → Named
 noted_for N [] x = N

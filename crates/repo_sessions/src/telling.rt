@@ -1,16 +1,17 @@
 //! Sessions are told of commits.
 
-ghost use Rattle.std.specs.Prelude.{◌++◌, ◌≡◌, IfOk, OnOk};
+ghost use Rattle.std.specs.Prelude.{◌++◌, ◌≡◌, IfOk, OnOk, map};
 ghost use Rattle.std.specs.List.Sorted.{IsStrictlySortedBy};
 ghost use Rattle.std.specs.Map.{keys_of};
 ghost use Rattle.std.specs.Ordering.{nat_cmp};
-ghost use Rattle.cached_sets.specs.Sets.{note as with_note};
-ghost use Rattle.repo_sessions.specs.Noting.{AreNoted, IsGathered, IsNoted, if_silent, named, names_sent, noted, upgrade_sent};
+ghost use Rattle.cached_sets.specs.Sets.{note as with_note, told_of};
+ghost use Rattle.repo_sessions.specs.Noting.{AreNoted, if_silent, named, names_sent, noted, noted_all, upgrade_sent};
 ghost use Rattle.repo_sessions.specs.Sessions.{KeepsNumbers, Kept};
 ghost use Rattle.repo_sessions.specs.Telling.{Retires, UpgradeTold, WritesTold};
+ghost use Rattle.thor_value.specs.FiniteMap.{empty};
 
 use crate::sessions::Sessions;
-use cached_sets::Sets;
+use cached_sets::{Marked, Sets};
 use session_outbox::{Message, Outbox};
 use std::alloc::Global;
 use std::collections::BTreeMap;
@@ -27,44 +28,12 @@ impl Sessions {
         ensures numbers { KeepsNumbers self.old self.new }
         ensures news { OnOk result ((told : Kept) × WritesTold self.old told writer (keys_of writes.now) place × Retires self.old told self.new) }
     {
-        self.sets.touch(writer, writes, place)?;
-        let holders = self.holders(writer, writes)?;
+        let marks = self.sets.touch_marking(writer, writes, place)?;
+        let holders = gathered(self.alloc, marks.as_slice())?;
+        self.sets.holders_are_apart();
         let silent = note_all(self.alloc, &mut self.sets, &holders, place)?;
         send_names(&mut self.outbox, holders, place)?;
         self.retire_all(silent)
-    }
-
-    /// The sessions but the writer's that may have copies of written objects, each with their names, rising.
-    fn holders(&self, writer: u32, writes: &Writes) -> Result<BTreeMap<u32, Orefs>, NoMemory>
-        ensures { IfOk result (λ held. IsGathered self.now.sets.cached writer (keys_of writes.now) (named held.entries)) }
-    {
-        let mut holders = BTreeMap::new(self.alloc);
-        for write in writes.as_slice() {
-            self.note_holders(&mut holders, writer, write.0)?;
-        }
-        Ok(holders)
-    }
-
-    /// Puts a name behind those of each session that may have a copy of it.
-    fn note_holders(
-        &self,
-        holders: &mut BTreeMap<u32, Orefs>,
-        writer: u32,
-        oref: Oref,
-    ) -> Result<(), NoMemory>
-        ensures { OnOk result (IsNoted self.now.sets.cached writer oref (named holders.old.entries) (named holders.new.entries)) }
-    {
-        let mut after = None;
-        for _ in 0..u32::MAX {
-            let Some(session) = self.sets.next_holder(oref.page, after) else {
-                return Ok(());
-            };
-            if session != writer {
-                note(self.alloc, holders, session, oref)?;
-            }
-            after = Some(session);
-        }
-        Err(NoMemory)
     }
 
     /// An upgrade has committed at a place: every live session is told. One whose client hasn't acknowledged more than
@@ -147,6 +116,17 @@ fn send_upgrade(
         outbox.push(*session, message)?;
     }
     Ok(())
+}
+
+/// The sessions of some marks, each with the names of its marks.
+fn gathered(alloc: Global, marks: &[Marked]) -> Result<BTreeMap<u32, Orefs>, NoMemory>
+    ensures { IfOk result (λ held. named held.entries ≡ noted_all empty (map told_of marks.now)) }
+{
+    let mut holders = BTreeMap::new(alloc);
+    for mark in marks {
+        note(alloc, &mut holders, mark.session, mark.oref)?;
+    }
+    Ok(holders)
 }
 
 /// Puts a name behind those of a session.

@@ -8,7 +8,7 @@ ghost use Rattle.script_text.specs.declared.sections.Sections.{Sections};
 
 use crate::reader::Reader;
 use crate::sections::Split;
-use crate::steps::{so_far, step};
+use crate::steps::{go_on, so_far};
 use crate::syntax::Syntax;
 use crate::token::{Token, Tokens};
 use std::alloc::Global;
@@ -21,7 +21,7 @@ fn read(alloc: Global, tokens: Tokens) -> Result<Reader, NoMemory>
 {
     let mut reader = Reader::Start;
     for token in tokens.into_vec() {
-        reader = step(alloc, reader, token)?;
+        go_on(alloc, &mut reader, token)?;
     }
     Ok(reader)
 }

@@ -1,6 +1,6 @@
 //! The parts of a script, read token by token.
 
-ghost use Rattle.std.specs.Prelude.{◌≡◌, ◌+◌, ◌<◌, ◌≤◌, ◌^◌, ◌∷◌, ◌++◌, [], length, IfOk};
+ghost use Rattle.std.specs.Prelude.{◌≡◌, ◌+◌, ◌<◌, ◌≤◌, ◌^◌, ◌∷◌, ◌++◌, [], false, length, IfOk, OnOk, true};
 ghost use Rattle.script_text.specs.Marks.{mark_of, number_in};
 ghost use Rattle.script_text.specs.Sections.{nothing, with_setup, with_client, with_item, with_upgrade, sections_of, so_far, stop, stop_setup, start_step, setup_step, number_step, client_step, word_step, item_step, step, depth_of};
 ghost use Rattle.script_text.specs.declared.reader.Reader.TheVariants as reader;
@@ -12,6 +12,7 @@ use crate::sections::{ClientParts, ItemParts, Sections};
 use crate::syntax::Syntax;
 use crate::token::{Token, Tokens};
 use std::alloc::Global;
+use std::mem;
 use thor_value::NoMemory;
 
 /// Neither a setup nor a client.
@@ -228,11 +229,22 @@ fn number_step(alloc: Global, found: Found, token: &Token) -> Result<Reader, NoM
     }
 }
 
+/// No token, with room for as many as the last of some items has, and some more.
+fn empty_part(alloc: Global, items: &ItemParts) -> Result<Tokens, NoMemory>
+    ensures { IfOk result (λ part. part ≡ []) }
+{
+    let last = match items.as_slice().last() {
+        Some(item) => item.len(),
+        None => 0,
+    };
+    Ok(Tokens::from_vec(Vec::with_capacity(alloc, last.saturating_add(4))?))
+}
+
 /// The first word of an item.
 fn begun(alloc: Global, current: Current, token: Token) -> Result<Reader, NoMemory>
     ensures { IfOk result (λ next. next ≡ reader.Word current (token ∷ [])) }
 {
-    let part = joined(Tokens::new(alloc), token)?;
+    let part = joined(empty_part(alloc, &current.items)?, token)?;
     Ok(Reader::Word { current, part })
 }
 
@@ -322,9 +334,43 @@ fn item_step(
     }
 }
 
+/// Puts a token into the item that is read, where it is neither a brace nor a word that ends an item, and answers whether it
+/// did. Nothing else changes.
+#[tactic(auto, unfolding(crate::specs::Sections::step))]
+fn put_inside(reader: &mut Reader, token: &Token) -> Result<bool, NoMemory>
+    ensures put { IfOk result (λ put. put ≡ true → reader.new ≡ step reader.old token.now) }
+    ensures other { IfOk result (λ put. put ≡ false → reader.new ≡ reader.old) }
+{
+    let mark = mark(token);
+    match reader {
+        Reader::Item { part, .. } => match mark {
+            Mark::End | Mark::Other => {
+                part.push(*token)?;
+                Ok(true)
+            }
+            _ => Ok(false),
+        },
+        _ => Ok(false),
+    }
+}
+
+/// Goes on with one more token. What is read isn't moved for a token inside an item. After `NoMemory` it is gone.
+pub fn go_on(alloc: Global, reader: &mut Reader, token: Token) -> Result<(), NoMemory>
+    requires { depth_of reader.old < 2 ^ 62 }
+    ensures { OnOk result (reader.new ≡ step reader.old token) }
+{
+    if put_inside(reader, &token)? {
+        return Ok(());
+    }
+    let before = mem::replace(reader, Reader::Start);
+    let after = step(alloc, before, token)?;
+    drop(mem::replace(reader, after));
+    Ok(())
+}
+
 /// What was read, with one more token.
 #[tactic(auto, unfolding(crate::specs::Sections::step))]
-pub fn step(alloc: Global, reader: Reader, token: Token) -> Result<Reader, NoMemory>
+fn step(alloc: Global, reader: Reader, token: Token) -> Result<Reader, NoMemory>
     requires { depth_of reader < 2 ^ 62 }
     ensures { IfOk result (λ next. next ≡ step reader token) }
 {

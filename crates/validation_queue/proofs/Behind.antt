@@ -1,11 +1,14 @@
 -- A transaction above the greatest member is above each, and none is later then.
-use Rattle.std.proofs.Common.{◌≡◌, ◌<◌, List, [], ◌∷◌, arith, false, length, refl, suc, true}
+use Rattle.std.proofs.Common.{◌≡◌, ◌<◌, List, [], ◌∷◌, ap, arith, false, length, refl, suc, true}
+use Rattle.std.specs.BTreeMap.Range.{entries_between}
 use Rattle.std.specs.List.{All, AllByRecursion}
 use Rattle.std.specs.Map.{keys_of}
 use Rattle.std.specs.Ordering.{is_lt}
-use Rattle.std.specs.Prelude.{None}
+use Rattle.std.specs.Option.{option_or}
+use Rattle.std.specs.Prelude.{Bool, None, cond, ◌&&◌}
 use Rattle.std.specs.declared.cmp.Ordering.TheVariants.{Equal, Greater, Less}
 use Rattle.std.specs.declared.cmp.Ordering.{Ordering}
+use Rattle.std.specs.declared.ops.Bound.TheVariants.{Excluded, Unbounded}
 use Rattle.thor_value.proofs.NameOrders.{ts_total}
 use Rattle.thor_value.specs.Names.{ts_cmp}
 use Rattle.thor_value.specs.declared.names.Oref.{Oref}
@@ -16,6 +19,20 @@ use Rattle.validation_queue.specs.declared.member.Member.{Member}
 pub none_later : (tx : Ts) (read written : List Oref) (es : List (Ts × Member)) → IsBehindAll tx es → first_some (comes_later tx read written) es ≡ None
 none_later tx read written [] h = refl
 none_later tx read written (e ∷ es) h = rw h.0 (none_later tx read written es h.1)
+
+-- the members behind a transaction
+abbrev pub behind : Ts → List (Ts × Member) → List (Ts × Member)
+behind tx es = entries_between ts_cmp (Excluded tx) Unbounded es
+
+-- they decide
+pub later_behind : (tx : Ts) (read written : List Oref) (es : List (Ts × Member)) → first_some (comes_later tx read written) (behind tx es) ≡ first_some (comes_later tx read written) es
+later_behind tx read written [] = refl
+later_behind tx read written (e ∷ es) = by (is_before tx e.0) refl (later_behind tx read written es)
+  where
+    by : (t : Bool) → is_before tx e.0 ≡ t → first_some (comes_later tx read written) (behind tx es) ≡ first_some (comes_later tx read written) es
+        → first_some (comes_later tx read written) (cond (t && true) (e ∷ behind tx es) (behind tx es)) ≡ option_or (comes_later tx read written e) (first_some (comes_later tx read written) es)
+    by true g more = ap (option_or (comes_later tx read written e)) more
+    by false g more = rw g more
 
 -- each pair by its key
 by_keys : (P : Ts → Type 0) (es : List (Ts × Member)) → All P (keys_of es) → AllByRecursion (λ e. P e.0) es

@@ -15,6 +15,7 @@ use crate::members::Members;
 use crate::name_set::NameSet;
 use base_reasons::Reason;
 use std::cmp::Ordering;
+use std::ops::Bound;
 use thor_value::{Obj, Oref, Ts};
 
 pub fn is_before(first: Ts, second: Ts) -> bool
@@ -111,7 +112,7 @@ pub fn first_earlier(members: &Members, tx: Ts, ros: &[Oref]) -> Option<Reason>
     None
 }
 
-/// The clash with the least member that is later.
+/// The clash with the least member that is later. It looks at the later members alone.
 pub fn first_later(
     members: &Members,
     tx: Ts,
@@ -121,7 +122,7 @@ pub fn first_later(
     requires { IsInOrder ros.now (keys_of writes.now) }
     ensures { result ≡ first_some (comes_later tx ros.now (keys_of writes.now)) members.now.entries }
 {
-    for (of, member) in members {
+    for (of, member) in members.range((Bound::Excluded(tx), Bound::Unbounded)) {
         let found = later(tx, ros, writes, *of, member);
         if found.is_some() {
             return found;

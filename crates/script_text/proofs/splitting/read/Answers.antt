@@ -8,7 +8,7 @@ use Rattle.script_text.proofs.splitting.read.Goals as goal
 pub loop-token-preserved : goal.loop-token-preserved
 loop-token-preserved c =
     let ahead : into_iter_items c.loop-token.token-iterator ≡ c.in-Some.token ∷ into_iter_items c.next.new.self = search rules in
-    let next = c.in_ok-reader.ensures in
+    let next = c.in_ok-go_on.ensures in
     let depth = step_depth c.loop-token.reader c.in-Some.token in
     let before : depth_of c.loop-token.reader + length (c.in-Some.token ∷ into_iter_items c.next.new.self) ≤ length c.args.tokens =
     subst (λ items. depth_of c.loop-token.reader + length items ≤ length c.args.tokens) ahead c.loop-token.invariant.depth in

@@ -1,5 +1,19 @@
 use Rattle.std.proofs.Common.{◌∙◌}
+use Rattle.mob_flusher.proofs.ImagesKept.{show_fewer, show_held, still_held}
 use Rattle.mob_flusher.proofs.store.ObjectStore.page_image.Goals as goal
+
+pub invariant_of-self : goal.invariant_of-self
+invariant_of-self g c = rw c.in_err-hold.ensures.err (show_fewer (record { pages = c.self.inside.pages; mob = c.self.inside.mob }) c.self.inside.images c.forget_unheld.new.images c.forget_unheld.ensures.kept c.self.invariant)
+
+pub held_image-requires : goal.held_image-requires
+held_image-requires g c = show_held c.self.inside.pages c.hold.new.self c.self.inside.mob c.self.inside.images c.forget_unheld.new.images c.args.page c.self.invariant c.forget_unheld.ensures.kept c.forget_unheld.ensures.gone
+    (still_held c.self.inside.pages c.hold.new.self c.args.page c.in_ok-hold.ensures.there c.in_ok-hold.ensures.held c.in_ok-hold.ensures.again)
+
+pub invariant_of-self-2 : goal.invariant_of-self-2
+invariant_of-self-2 g c = c.held_image.ensures.show
+
+pub invariant_of-self-in_err-image : goal.invariant_of-self-in_err-image
+invariant_of-self-in_err-image g c = c.held_image.ensures.show
 
 pub returns-clause-image : goal.returns-clause-image
 returns-clause-image g c =

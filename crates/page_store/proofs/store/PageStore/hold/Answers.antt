@@ -4,7 +4,7 @@ use Rattle.page_format.specs.Pages.{Contents}
 use Rattle.page_format.specs.Sides.{side_in_use}
 use Rattle.page_store.specs.Sides.{Shows}
 use Rattle.page_store.specs.Store.{page_in}
-use Rattle.page_store.proofs.Stores.{Held, some_of, promote_is, keeps_now, agrees_now, there_now, shows_now, held_now}
+use Rattle.page_store.proofs.Stores.{Held, some_of, promote_is, keeps_now, agrees_now, there_now, shows_now, held_now, again_now, not_held}
 use Rattle.page_store.proofs.store.PageStore.hold.Goals as goal
 
 pub invariant_of-self : goal.invariant_of-self
@@ -40,6 +40,12 @@ returns-then-holds-clause-agrees g c = λ disk told.
     let agrees = rw (← c.self.view_is) at c.requires.agrees in
     agrees_now c.self.inside.sides c.self.inside.staged c.self.inside.held c.promote.new.self c.args.page there.0 c.self.invariant.cap_is put disk (agrees disk told) ((agrees disk told).held c.args.page there.0 there.1)
 
+pub returns-then-holds-clause-again : goal.returns-then-holds-clause-again
+returns-then-holds-clause-again g c = λ found here.
+    let there = some_of (page_in c.self.inside.held.entries c.args.page) c.holds.result (rw (← c.self.view_is) at c.holds.ensures) c.if-holds.true in
+    let put = c.promote.ensures.entries ∙ ap (λ (es : Held). lru_cache es c.self.inside.held.cap) (promote_is c.self.inside.held.entries c.self.inside.held.cap c.args.page there.0 there.1) in
+    again_now c.self.inside.sides c.self.inside.staged c.self.inside.held c.promote.new.self c.args.page there.0 c.self.invariant.cap_is put there.1 found (rw (← c.self.view_is) at here)
+
 pub fetch-requires : goal.fetch-requires
 fetch-requires g c = record {
   within = λ side is disk told.
@@ -68,3 +74,6 @@ returns-clause-agrees g c = λ disk told.
     let agrees = rw (← c.self.view_is) at c.requires.agrees in
     let was = sym c.fetch.ensures.content ∙ told in
     agrees_now c.self.inside.sides c.self.inside.staged c.self.inside.held c.put.new.self c.args.page c.in_ok-found.found c.self.invariant.cap_is c.in_ok-put.ensures.entries disk (agrees disk was) (rw c.in_use.ensures.value at (c.in_ok-found.ensures.page disk was))
+
+pub returns-clause-again : goal.returns-clause-again
+returns-clause-again g c = λ found here. absurd (not_held (page_in c.self.inside.held.entries c.args.page) c.holds.result (rw (← c.self.view_is) at c.holds.ensures) c.if-holds.false found (rw (← c.self.view_is) at here))
