@@ -11,7 +11,7 @@ use Rattle.client_port.specs.Works.{Answered, AskWork, CommitWork, DecideWork, D
 use Rattle.client_state.proofs.Pending.{sends_free, settled_written, still_written}
 use Rattle.client_state.proofs.Stopping.{at_here}
 use Rattle.client_state.specs.Calling.{Draws, IsDrawnSo}
-use Rattle.client_state.specs.Drawing.{DrawsNow, DrawsSo, MayDraw, PreparesOut, RefusesOut, SendsOut, StaysDrawn, drawn_in}
+use Rattle.client_state.specs.Drawing.{DrawsNow, DrawsSo, MayDraw, PreparesOut, RefusesOut, StaysDrawn, drawn_in}
 use Rattle.client_state.specs.Handing.{AbortsInVain, AbortsNext, ByAsking, ByLink, ByPreparing, ForgetsNext, HandsIf, HandsTold, HandsVerdict, KeepsDuties, MayTell, TellsNext, TellsRefuser, handed, helps_by}
 use Rattle.client_state.specs.Links.{NoneAwaits, at_repo, waiting}
 use Rattle.client_state.specs.Moving.{Aborted, Asked, AskedInVain, AskedOwn, CommitRefused, Committed, Connected, DecideRefused, Decided, Drawn, EndsSo, Fetched, Finished, Forgot, Granted, HoldsLess, InSession, KeepsMade, KeepsTry, Learns, LeavesLess, Loses, MaySettle, Moves, PrepareRefused, Prepared, ReceiveRefused, ReceiveStopped, Received, ReceivedNone, Rested, SendsNothing, SendsNothingIf, Settled, Transformed, Unsent}

@@ -24,7 +24,7 @@ ghost use Rattle.front_end.specs.Showing.{NewsShown, ShownIf};
 ghost use Rattle.client_port.specs.Acting.{ActsIf};
 ghost use Rattle.client_items.specs.declared.news.News.TheVariants as news;
 ghost use Rattle.session_outbox.specs.declared.answers.At.{At};
-ghost use Rattle.std.specs.Prelude.{IfOk, OnOk, ℕ, ◌≡◌, None, Some, [], IsTrue, false, not, slice_get, true, List};
+ghost use Rattle.std.specs.Prelude.{IfOk, OnOk, ℕ, ◌≡◌, None, Some, [], IsTrue, false, slice_get, true, List};
 
 use crate::client::Client;
 use client_items::{News, Opened};

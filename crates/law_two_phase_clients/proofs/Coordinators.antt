@@ -4,15 +4,15 @@ use Rattle.client_cache.specs.Copies.{Contents}
 use Rattle.client_items.specs.declared.news.News.{News}
 use Rattle.client_port.specs.Views.{View}
 use Rattle.client_state.proofs.Stopping.{at_here, at_other}
-use Rattle.client_state.specs.Calling.{is_session_of, links_asked, links_drawn, links_joined, links_refused}
+use Rattle.client_state.specs.Calling.{links_asked, links_drawn, links_joined, links_refused}
 use Rattle.client_state.specs.Handing.{ByAsking, ByLink, ByPreparing, IsSentBy}
 use Rattle.client_state.specs.Learning.{is_session, links_learnt, without_session}
-use Rattle.client_state.specs.Links.{acknowledged, answered, at_repo, stopped, waiting, without_messages, without_reply}
+use Rattle.client_state.specs.Links.{at_repo, stopped, waiting}
 use Rattle.client_state.specs.Moving.{Aborted, Asked, AskedInVain, AskedOwn, CommitRefused, Committed, Connected, DecideRefused, Decided, Drawn, EndsSo, Fetched, Finished, Forgot, Granted, IsApart, Moves, PrepareRefused, Prepared, ReceiveRefused, ReceiveStopped, Received, ReceivedNone, Rested, SendsNothing, Settled, StopsWaiting, Transformed, Unsent}
 use Rattle.client_state.specs.Participants.{first_in, sent_of}
-use Rattle.client_state.specs.Pending.{IsAsking, IsPreparing, NonePending, Pending, PendsSo, SendsPending, StaysPending}
-use Rattle.client_state.specs.Stepping.{AsksAgain, AsksInVain, AsksOwn, AsksWhereStopped, CommitsInVain, DecidesAll, HoldsUnknown, KeepsSent, PreparesFirst, PreparesNext, PreparesSo, Present, RefusesItem, RefusesTransform, SendsAlone, StepsSo, TriesSo, one_more}
-use Rattle.client_state.specs.Taking.{next_place, took}
+use Rattle.client_state.specs.Pending.{IsAsking, NonePending, Pending, PendsSo, SendsPending, StaysPending}
+use Rattle.client_state.specs.Stepping.{AsksAgain, AsksInVain, AsksOwn, AsksWhereStopped, CommitsInVain, DecidesAll, HoldsUnknown, KeepsSent, PreparesFirst, PreparesNext, PreparesSo, Present, RefusesItem, RefusesTransform, SendsAlone, StepsSo, TriesSo}
+use Rattle.client_state.specs.Taking.{took}
 use Rattle.client_state.specs.Written.{LeavesApart, LeavesSo}
 use Rattle.client_state.specs.declared.duties.Duties.{Duties}
 use Rattle.client_state.specs.declared.held.Held.{Held}
@@ -31,7 +31,7 @@ use Rattle.session_outbox.specs.declared.answers.At.{At}
 use Rattle.session_outbox.specs.declared.answers.Welcome.{Welcome}
 use Rattle.session_outbox.specs.declared.message.Message.TheVariants.{Grant, Invalid, Page, Upgrade}
 use Rattle.session_outbox.specs.declared.message.Message.{Message}
-use Rattle.std.proofs.Common.{Bool, List, ap, cond, false, inl, inr, refl, subst, sym, true, ℕ, ◌≡◌, ◌≢◌, ◌∙◌}
+use Rattle.std.proofs.Common.{Bool, List, ap, cond, false, inl, inr, subst, sym, true, ℕ, ◌≡◌, ◌∙◌}
 use Rattle.std.proofs.lemmas.Bool.{cases_eq}
 use Rattle.std.proofs.lemmas.Option.{same_Some}
 use Rattle.std.specs.Option.{option_map}
@@ -45,12 +45,12 @@ abbrev KeepsNoMore : (Link → Link) → Type 0
 KeepsNoMore f = (l : Link) (sent : Sent) (index : ℕ) → f l ≡ Unsettled sent index → l ≡ Unsettled sent index
 
 mapped : (f : Link → Link) → KeepsNoMore f → (o : Option Link) (sent : Sent) (index : ℕ) → option_map f o ≡ Some (Unsettled sent index) → o ≡ Some (Unsettled sent index)
-mapped f no None sent index h = cc
-mapped f no (Some l) sent index h = ap Some (no l sent index (sym (same_Some (f l) (Unsettled sent index) h)))
+mapped f keeps None sent index h = cc
+mapped f keeps (Some l) sent index h = ap Some (keeps l sent index (same_Some (f l) (Unsettled sent index) h))
 
 at_repo_keeps : (f : Link → Link) → KeepsNoMore f → (links after : List Link) (r : ℕ) → after ≡ at_repo links r f → LinksAt links → LinksAt after
-at_repo_keeps f no links after r is kept n sent index there = elim (cases_eq n r) [
-  | inl e ↦ kept n sent index (subst (λ (m : ℕ). slice_get links m ≡ Some (Unsettled sent index)) (sym e) (mapped f no (slice_get links r) sent index (sym (at_here f links r) ∙ (ap (λ (ls : List Link). slice_get ls r) (sym is) ∙ subst (λ (m : ℕ). slice_get after m ≡ Some (Unsettled sent index)) e there))))
+at_repo_keeps f keeps links after r is kept n sent index there = elim (cases_eq n r) [
+  | inl e ↦ kept n sent index (subst (λ (m : ℕ). slice_get links m ≡ Some (Unsettled sent index)) (sym e) (mapped f keeps (slice_get links r) sent index (sym (at_here f links r) ∙ (ap (λ (ls : List Link). slice_get ls r) (sym is) ∙ subst (λ (m : ℕ). slice_get after m ≡ Some (Unsettled sent index)) e there))))
   | inr away ↦ kept n sent index (sym (at_other f links r n away) ∙ (ap (λ (ls : List Link). slice_get ls n) (sym is) ∙ there))
 ]
 

@@ -16,7 +16,7 @@ use Rattle.client_state.specs.Pending.{IsAsking, IsPreparing, NonePending, Pendi
 use Rattle.client_state.specs.Sending.{AreApart, IsFirstOfItsOwn}
 use Rattle.client_state.specs.Stepping.{AsksAgain, AsksInVain, AsksWhereStopped, CommitsInVain, HoldsUnknown, PreparesFirst, PreparesNext, PreparesSo, Present, RefusesItem, RefusesTransform, SendsMore, StepsSo, TriesSo, one_more}
 use Rattle.client_state.specs.Taking.{WrittenWithout, took}
-use Rattle.client_state.specs.Writing.{FirstOf, WritesStay, is_of, shares_write}
+use Rattle.client_state.specs.Writing.{FirstOf, WritesStay, shares_write}
 use Rattle.client_state.specs.Written.{WhileUndecided, WritesSo, WrittenRefused, WrittenTaken, is_sent_to, is_undecided}
 use Rattle.client_state.specs.declared.duties.Duties.{Duties}
 use Rattle.client_state.specs.declared.held.Held.{Held}
@@ -35,15 +35,14 @@ use Rattle.repo_refusals.specs.declared.refusal.Refusal.{Refusal}
 use Rattle.session_outbox.specs.declared.answers.At.{At}
 use Rattle.session_outbox.specs.declared.message.Message.TheVariants as messages
 use Rattle.session_outbox.specs.declared.message.Message.{Message}
-use Rattle.std.proofs.Common.{Bool, List, [], ap, arith, cond, false, inl, inr, nat_eq, refl, subst, suc, sym, true, zero, ℕ, ◌+◌, ◌++◌, ◌<◌, ◌≡◌, ◌≢◌, ◌∙◌, ◌∷◌}
-use Rattle.std.proofs.lemmas.Bool.{cases_eq, eqb-false, eqb-true}
+use Rattle.std.proofs.Common.{Bool, List, [], ap, arith, cond, false, inl, inr, nat_eq, refl, subst, suc, sym, true, zero, ℕ, ◌+◌, ◌++◌, ◌≡◌, ◌≢◌, ◌∙◌, ◌∷◌}
+use Rattle.std.proofs.lemmas.Bool.{cases_eq, eqb-true}
 use Rattle.std.proofs.lemmas.Option.{same_Some}
 use Rattle.std.specs.List.{list_any}
 use Rattle.std.specs.Option.{option_map}
 use Rattle.std.specs.Prelude.{None, Option, Some, slice_get, ◌&&◌, ◌||◌, ◌⊎◌}
 use Rattle.thor_value.specs.declared.names.Oref.{Oref}
 use Rattle.thor_value.specs.declared.names.Ts.{Ts}
-use Rattle.thor_value.specs.declared.values.Obj.{Obj}
 
 -- ---- sessions
 
@@ -52,16 +51,16 @@ abbrev NoSession : (Link → Link) → Type 0
 NoSession f = (n : ℕ) (l : Link) → is_session n (f l) ≡ true → is_session n l ≡ true
 
 still_in : (f : Link → Link) → NoSession f → (n : ℕ) (o : Option Link) → is_session_of n (option_map f o) ≡ true → is_session_of n o ≡ true
-still_in f no n None h = h
-still_in f no n (Some l) h = no n l h
+still_in f keeps n None h = h
+still_in f keeps n (Some l) h = keeps n l h
 
 -- Each session behind the step was there before.
 abbrev SessionsStay : List Link → List Link → Type 0
 SessionsStay links after = (n r : ℕ) → is_session_of n (slice_get after r) ≡ true → is_session_of n (slice_get links r) ≡ true
 
 at_repo_stays : (f : Link → Link) → NoSession f → (links after : List Link) (k : ℕ) → after ≡ at_repo links k f → SessionsStay links after
-at_repo_stays f no links after k is n r h = elim (cases_eq r k) [
-  | inl e ↦ subst (λ (m : ℕ). is_session_of n (slice_get links m) ≡ true) (sym e) (still_in f no n (slice_get links k) (ap (is_session_of n) (sym (at_here f links k)) ∙ (ap (λ (ls : List Link). is_session_of n (slice_get ls k)) (sym is) ∙ subst (λ (m : ℕ). is_session_of n (slice_get after m) ≡ true) e h)))
+at_repo_stays f keeps links after k is n r h = elim (cases_eq r k) [
+  | inl e ↦ subst (λ (m : ℕ). is_session_of n (slice_get links m) ≡ true) (sym e) (still_in f keeps n (slice_get links k) (ap (is_session_of n) (sym (at_here f links k)) ∙ (ap (λ (ls : List Link). is_session_of n (slice_get ls k)) (sym is) ∙ subst (λ (m : ℕ). is_session_of n (slice_get after m) ≡ true) e h)))
   | inr away ↦ ap (is_session_of n) (sym (at_other f links k r away)) ∙ (ap (λ (ls : List Link). is_session_of n (slice_get ls r)) (sym is) ∙ h)
 ]
 
@@ -222,11 +221,11 @@ module _ (first : Share) (rest : List Share) (apart : AreApart (first ∷ rest))
 
 sent_more : (r m : ℕ) (rs : List ℕ) → list_any (λ n. nat_eq n r) rs ≡ false → nat_eq m r ≡ false → list_any (λ n. nat_eq n r) (rs ++ m ∷ []) ≡ false
 sent_more r m [] h e = ap (λ (b : Bool). b || false) e
-sent_more r m (k ∷ rs) h e = by (nat_eq k r) refl h
+sent_more r m (k ∷ rs) h e = by (nat_eq k r) refl h (λ g. sent_more r m rs g e)
   where
-    by : (b : Bool) → nat_eq k r ≡ b → (nat_eq k r || list_any (λ n. nat_eq n r) rs) ≡ false → (nat_eq k r || list_any (λ n. nat_eq n r) (rs ++ m ∷ [])) ≡ false
-    by true is g = let no : true ≡ false = sym (ap (λ (b : Bool). b || list_any (λ n. nat_eq n r) rs) is) ∙ g in cc
-    by false is g = ap (λ (b : Bool). b || list_any (λ n. nat_eq n r) (rs ++ m ∷ [])) is ∙ sent_more r m rs (sym (ap (λ (b : Bool). b || list_any (λ n. nat_eq n r) rs) is) ∙ g) e
+    by : (b : Bool) → nat_eq k r ≡ b → (nat_eq k r || list_any (λ n. nat_eq n r) rs) ≡ false → (list_any (λ n. nat_eq n r) rs ≡ false → list_any (λ n. nat_eq n r) (rs ++ m ∷ []) ≡ false) → (nat_eq k r || list_any (λ n. nat_eq n r) (rs ++ m ∷ [])) ≡ false
+    by true is g rest = let no : true ≡ false = sym (ap (λ (b : Bool). b || list_any (λ n. nat_eq n r) rs) is) ∙ g in cc
+    by false is g rest = ap (λ (b : Bool). b || list_any (λ n. nat_eq n r) (rs ++ m ∷ [])) is ∙ rest (sym (ap (λ (b : Bool). b || list_any (λ n. nat_eq n r) rs) is) ∙ g)
 
 or_false : (a b : Bool) → (a || b) ≡ false → (a ≡ false) × (b ≡ false)
 or_false true b h = cc
@@ -330,24 +329,24 @@ module _ (item : Present) (old new : View) (before after : Held) (a z : Pending)
   und_of s (PreparesNext at rs rest sends holds now) = ap is_undecided now
 
   by_call : (n : Moves old new before after) → PendsSo old new before after n a z → (tries : TriesSo item old new before after n a z came) (drawn now : Option Ts) → DrawsSo item old new before after n a z came tries drawn now → WhileUndecided z (WritesSo old new before after n a) → TakesThere old new before after n → EndsRefused old new before after n z → LeftWritten z after.links.items after.cache.cache
-  by_call (Unsent sends) h tries drawn now draws wrote there ends = sends_left sends h wrote
-  by_call (Received at m does in_it takes same) h tries drawn now draws wrote there ends = taken_left at m there (at_repo_stays (took m) (took_stays m) before.links.items after.links.items at.repo takes.links) wrote h
-  by_call (ReceivedNone at does in_it stays same fewer) h tries drawn now draws wrote there ends = kept_left (none_stays at stays) wrote h
-  by_call (ReceiveRefused at k does in_it loses same) h tries drawn now draws wrote there ends = lost_left k at.repo (refused_stays k at.repo before.links.items after.links.items loses.links) (λ s w. refused_there k s.session at.repo s.repo before.links.items after.links.items before.cache.cache after.cache.cache loses.links w) wrote h
-  by_call (ReceiveStopped at k does in_it outage stops same fewer) h tries drawn now draws wrote there ends = kept_left (stops_stays at.repo before after stops) (λ und. outage_kept k at.repo before.links.items before.cache.cache after.cache.cache outage (wrote und)) h
-  by_call (Prepared s place does of less) h tries drawn now draws wrote there ends = prepares_left item before.links.items after.links.items before.cache.cache after.cache.cache s a z less.1 (wrote (und_of s tries.0)) tries.0 drawn now draws left
-  by_call (PrepareRefused s k does of idle learns same) h tries drawn now draws wrote there ends = none_left ends
-  by_call (Committed s place does of session written held idle keeps) h tries drawn now draws wrote there ends = none_left h
-  by_call (Transformed s place oref made does of session writes here held idle keeps) h tries drawn now draws wrote there ends = none_left h
-  by_call (CommitRefused s k does of idle learns same) h tries drawn now draws wrote there ends = commits_left s k tries.0
-  by_call (Decided at t v does idle ends) h tries drawn now draws wrote there ends = none_left h.1
-  by_call (Aborted at t v does less) h tries drawn now draws wrote there ends = kept_left (same_stays before.links.items after.links.items less.1) wrote h
-  by_call (DecideRefused at t true k does loses same) h tries drawn now draws wrote there ends = asking_left (sent_of t at tries.0) 0 tries.2
-  by_call (DecideRefused at t false k does loses same) h tries drawn now draws wrote there ends = lost_left k at.repo (refused_stays k at.repo before.links.items after.links.items loses.links) (λ s w. refused_there k s.session at.repo s.repo before.links.items after.links.items before.cache.cache after.cache.cache loses.links w) wrote h
-  by_call (Finished r t commit result does less) h tries drawn now draws wrote there ends = kept_left (same_stays before.links.items after.links.items less.1) wrote h
-  by_call (Forgot r t result does less) h tries drawn now draws wrote there ends = kept_left (same_stays before.links.items after.links.items less.1) wrote h
-  by_call (AskedOwn r t v does ends) h tries drawn now draws wrote there ends = none_left h.1
-  by_call (AskedInVain r t result does leaves same fewer) h tries drawn now draws wrote there ends = vain_left r tries.0 tries.1 tries.3
+  by_call (Unsent sends) h tries drawn now draws wrote there over = sends_left sends h wrote
+  by_call (Received at m does in_it takes same) h tries drawn now draws wrote there over = taken_left at m there (at_repo_stays (took m) (took_stays m) before.links.items after.links.items at.repo takes.links) wrote h
+  by_call (ReceivedNone at does in_it stays same fewer) h tries drawn now draws wrote there over = kept_left (none_stays at stays) wrote h
+  by_call (ReceiveRefused at k does in_it loses same) h tries drawn now draws wrote there over = lost_left k at.repo (refused_stays k at.repo before.links.items after.links.items loses.links) (λ s w. refused_there k s.session at.repo s.repo before.links.items after.links.items before.cache.cache after.cache.cache loses.links w) wrote h
+  by_call (ReceiveStopped at k does in_it outage stops same fewer) h tries drawn now draws wrote there over = kept_left (stops_stays at.repo before after stops) (λ und. outage_kept k at.repo before.links.items before.cache.cache after.cache.cache outage (wrote und)) h
+  by_call (Prepared s place does of less) h tries drawn now draws wrote there over = prepares_left item before.links.items after.links.items before.cache.cache after.cache.cache s a z less.1 (wrote (und_of s tries.0)) tries.0 drawn now draws left
+  by_call (PrepareRefused s k does of idle learns same) h tries drawn now draws wrote there over = none_left over
+  by_call (Committed s place does of session written held idle keeps) h tries drawn now draws wrote there over = none_left h
+  by_call (Transformed s place oref made does of session writes here held idle keeps) h tries drawn now draws wrote there over = none_left h
+  by_call (CommitRefused s k does of idle learns same) h tries drawn now draws wrote there over = commits_left s k tries.0
+  by_call (Decided at t v does idle ends) h tries drawn now draws wrote there over = none_left h.1
+  by_call (Aborted at t v does less) h tries drawn now draws wrote there over = kept_left (same_stays before.links.items after.links.items less.1) wrote h
+  by_call (DecideRefused at t true k does loses same) h tries drawn now draws wrote there over = asking_left (sent_of t at tries.0) 0 tries.2
+  by_call (DecideRefused at t false k does loses same) h tries drawn now draws wrote there over = lost_left k at.repo (refused_stays k at.repo before.links.items after.links.items loses.links) (λ s w. refused_there k s.session at.repo s.repo before.links.items after.links.items before.cache.cache after.cache.cache loses.links w) wrote h
+  by_call (Finished r t commit result does less) h tries drawn now draws wrote there over = kept_left (same_stays before.links.items after.links.items less.1) wrote h
+  by_call (Forgot r t result does less) h tries drawn now draws wrote there over = kept_left (same_stays before.links.items after.links.items less.1) wrote h
+  by_call (AskedOwn r t v does ends) h tries drawn now draws wrote there over = none_left h.1
+  by_call (AskedInVain r t result does leaves same fewer) h tries drawn now draws wrote there over = vain_left r tries.0 tries.1 tries.3
 
 pub stays : (item : Present) (old new : View) (before after : Held) (a z : Pending) (d e : Duties) (came : News) (step : StepsSo item old new before after a z d e came) (drawn now : Option Ts) → DrawsSo item old new before after step.moves a z came step.tries drawn now → WhileUndecided z (WritesSo old new before after step.moves a)
     → TakesThere old new before after step.moves → EndsRefused old new before after step.moves z → LeftWritten a before.links.items before.cache.cache → LeftWritten z after.links.items after.cache.cache

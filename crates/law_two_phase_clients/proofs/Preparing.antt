@@ -200,7 +200,7 @@ module _ (S : Several) (r : ℕ) (e : Entry) (sd : AreSound S) (go : Continues S
 
 -- ---- behind an entry
 
-pub at_the_end : (H : List Entry) (e : Entry) → slice_get (H ++ e ∷ []) (length H) ≡ Some e
+at_the_end : (H : List Entry) (e : Entry) → slice_get (H ++ e ∷ []) (length H) ≡ Some e
 at_the_end [] e = refl
 at_the_end (x ∷ xs) e = at_the_end xs e
 

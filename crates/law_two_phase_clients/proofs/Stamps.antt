@@ -10,12 +10,11 @@ use Rattle.client_state.specs.Stepping.{PreparesFirst, PreparesInVain, PreparesN
 use Rattle.client_state.specs.declared.held.Held.{Held}
 use Rattle.client_state.specs.declared.link.Link.{Link}
 use Rattle.client_state.specs.declared.requests.Sending.{Sending}
-use Rattle.law_two_phase_clients.proofs.Preparing.{at_the_end}
 use Rattle.law_two_phase_clients.specs.Stamping.{AreSeen, DrawnStands, GoesOut, PreparesFirstOf, RefusesFirstOf, SeesMore, WasDrawn}
 use Rattle.spec_trace.proofs.Drawn.{drawn-once}
 use Rattle.spec_trace.specs.Trace.{Item, M}
 use Rattle.spec_trace.specs.declared.mark.Mark.TheVariants as the
-use Rattle.std.proofs.Common.{List, [], ap, arith, inl, inr, length, subst, suc, sym, zero, ℕ, ◌++◌, ◌+◌, ◌<◌, ◌≡◌, ◌≤◌, ◌∙◌, ◌∷◌}
+use Rattle.std.proofs.Common.{List, [], ap, arith, inl, inr, length, refl, subst, suc, sym, zero, ℕ, ◌++◌, ◌+◌, ◌<◌, ◌≡◌, ◌≤◌, ◌∙◌, ◌∷◌}
 use Rattle.std.proofs.lemmas.Bool.{cases_lt}
 use Rattle.std.proofs.lemmas.Option.{same_Some}
 use Rattle.std.specs.Prelude.{None, Ok, Option, Some, slice_get, ◌⊎◌}
@@ -41,6 +40,10 @@ not_none : (xs : List Item) (x : Item) → xs ++ x ∷ [] ≡ [] → ⊥
 not_none [] x h = cc
 not_none (y ∷ xs) x h = cc
 
+at_the_end : (xs : List Item) (x : Item) → slice_get (xs ++ x ∷ []) (length xs) ≡ Some x
+at_the_end [] x = refl
+at_the_end (y ∷ xs) x = at_the_end xs x
+
 -- ---- the draw of a step
 
 -- what the call has drawn
@@ -64,23 +67,23 @@ module _ (old new : View) (r s floor : ℕ) (t : Ts) where
   drew_by d = by_answer d d.met d.answer
 
 module _ (old new : View) (seen : AreSeen new) (r : ℕ) (t : Ts) (drew : Drew old new r t) where
-  here_by : (r < new.opened.repos) ⊎ (new.opened.repos ≤ r) → t.repo ≡ r
-  here_by (inl l) = drew.home ∙ (sym (ap (λ (o : Opened). (o.base r).repo) drew.same) ∙ seen.numbered r l)
-  here_by (inr l) = absurd (not_none drew.at (M (the.Drew drew.session t)) (sym drew.behind ∙ seen.outside r l))
+  home_by : (r < new.opened.repos) ⊎ (new.opened.repos ≤ r) → t.repo ≡ r
+  home_by (inl l) = drew.home ∙ (sym (ap (λ (o : Opened). (o.base r).repo) drew.same) ∙ seen.numbered r l)
+  home_by (inr l) = absurd (not_none drew.at (M (the.Drew drew.session t)) (sym drew.behind ∙ seen.outside r l))
 
-  here : t.repo ≡ r
-  here = here_by (cases_lt r new.opened.repos)
+  at_home : t.repo ≡ r
+  at_home = home_by (cases_lt r new.opened.repos)
 
   mark_there : slice_get (new.seen r) (length drew.at) ≡ Some (M (the.Drew drew.session t))
   mark_there = ap (λ (T : List Item). slice_get T (length drew.at)) drew.behind ∙ at_the_end drew.at (M (the.Drew drew.session t))
 
-  pub is_marked : WasDrawn new t
-  is_marked = record { place = length drew.at; session = drew.session; there = ap (λ (n : ℕ). slice_get (new.seen n) (length drew.at)) here ∙ mark_there }
+  is_marked : WasDrawn new t
+  is_marked = record { place = length drew.at; session = drew.session; there = ap (λ (n : ℕ). slice_get (new.seen n) (length drew.at)) at_home ∙ mark_there }
 
   -- it wasn't drawn before
-  pub never_before : {A : Type 0} → WasDrawn old t → A
+  never_before : {A : Type 0} → WasDrawn old t → A
   never_before was =
-      let there : slice_get (old.seen r) was.place ≡ Some (M (the.Drew was.session t)) = subst (λ (n : ℕ). slice_get (old.seen n) was.place ≡ Some (M (the.Drew was.session t))) here was.there in
+      let there : slice_get (old.seen r) was.place ≡ Some (M (the.Drew was.session t)) = subst (λ (n : ℕ). slice_get (old.seen n) was.place ≡ Some (M (the.Drew was.session t))) at_home was.there in
       let reached : slice_get drew.at was.place ≡ Some (M (the.Drew was.session t)) = ap (λ (T : List Item). slice_get T was.place) drew.reached ∙ there_on (old.seen r) drew.gap was.place (M (the.Drew was.session t)) there in
       let still : slice_get (new.seen r) was.place ≡ Some (M (the.Drew was.session t)) = ap (λ (T : List Item). slice_get T was.place) drew.behind ∙ there_on drew.at (M (the.Drew drew.session t) ∷ []) was.place (M (the.Drew was.session t)) reached in
       let same : was.place ≡ length drew.at = drawn-once (new.opened.base r) (new.seen r) (seen.sound_each r) (seen.exact_each r) was.place (length drew.at) was.session drew.session t still mark_there in

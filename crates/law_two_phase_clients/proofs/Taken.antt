@@ -1,11 +1,11 @@
 -- A coordinator is made to forget only what each other participant has taken.
 use Rattle.client_items.specs.declared.news.News.{News}
 use Rattle.client_port.specs.Views.{View}
-use Rattle.client_state.specs.Handing.{AbortsInVain, AbortsNext, ForgetsNext, HandsSo, HandsTold, HandsVerdict, KeepsDuties, MayTell, PassesOver, TellsNext, TellsOn, TellsRefuser, handed, is_answered, kept_behind, told_all}
+use Rattle.client_state.specs.Handing.{AbortsNext, ForgetsNext, KeepsDuties, MayTell, PassesOver, TellsNext, TellsOn, TellsRefuser, handed, is_answered, kept_behind}
 use Rattle.client_state.specs.Moving.{Aborted, AskedInVain, AskedOwn, CommitRefused, Committed, DecideRefused, Decided, Finished, Forgot, Moves, PrepareRefused, Prepared, ReceiveRefused, ReceiveStopped, Received, ReceivedNone, Transformed, Unsent}
 use Rattle.client_state.specs.Participants.{first_in, others_in}
 use Rattle.client_state.specs.Pending.{Pending}
-use Rattle.client_state.specs.Stepping.{Present, StepsSo}
+use Rattle.client_state.specs.Stepping.{HandsSo, Present, StepsSo}
 use Rattle.client_state.specs.declared.duties.Duties.{Duties}
 use Rattle.client_state.specs.declared.duties.Duty.TheVariants.{Finish, Forget}
 use Rattle.client_state.specs.declared.duties.Duty.{Duty}

@@ -1,13 +1,11 @@
 use Rattle.client_state.proofs.Moving.{here, session_is_here}
 use Rattle.client_state.proofs.Writing.{nothing_unsent}
 use Rattle.client_state.specs.Calling.{upto_in}
-use Rattle.client_state.specs.Pending.{pending_in}
 use Rattle.client_state.specs.Sending.{transform_of}
-use Rattle.client_state.specs.declared.duties.Duties.{Duties}
 use Rattle.front_end.proofs.Requesting.{of_call}
 use Rattle.front_end.proofs.Stepping.{by_anew, sent_under}
 use Rattle.front_end.proofs.client.Client.commit_transform.Goals as goal
-use Rattle.std.proofs.Common.{ap, inl, refl, sym, ◌∙◌}
+use Rattle.std.proofs.Common.{ap, refl, sym, ◌∙◌}
 use Rattle.std.specs.Prelude.{slice_get}
 use Rattle.thor_value.specs.declared.names.Ts.{Ts}
 

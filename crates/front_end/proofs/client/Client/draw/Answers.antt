@@ -54,5 +54,5 @@ returns-in-Ts-clause-hands g c = hands_drawn _ _ _ c.args.self.now c.set_phase.n
 pub returns-in-Refused-clause-hands : goal.returns-in-Refused-clause-hands
 returns-in-Refused-clause-hands g c = hands_then _ _ _ c.args.self.now (record c.args.self.now { held = c.draw.new.self }) c.go_behind.new.self (hands_none _ _ _ c.args.self.now (record c.args.self.now { held = c.draw.new.self }) refl (inr refl)) (λ none. none) c.go_behind.ensures.verdicts
 
-pub returns-in-None-clause-hands : goal.returns-in-None-clause-hands
-returns-in-None-clause-hands g c = hands_none _ _ _ c.args.self.now c.args.self.now refl (inr refl)
+pub returns-in_default-clause-hands : goal.returns-in_default-clause-hands
+returns-in_default-clause-hands g c = hands_none _ _ _ c.args.self.now c.args.self.now refl (inr refl)

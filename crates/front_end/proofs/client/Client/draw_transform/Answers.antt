@@ -3,8 +3,7 @@ use Rattle.client_state.specs.declared.link.Link.{Link}
 use Rattle.client_state.specs.Settling.{NewsAsSent}
 use Rattle.client_state.proofs.Writing.{nothing_unsent}
 use Rattle.client_state.specs.declared.held.Held.{Held}
-use Rattle.front_end.proofs.Calling.{on_any}
-use Rattle.front_end.proofs.Stepping.{hands_none, hands_same, hands_then}
+use Rattle.front_end.proofs.Stepping.{hands_same}
 use Rattle.front_end.proofs.client.Client.draw_transform.Goals as goal
 use Rattle.std.proofs.Common.{ap, ◌∙◌, subst, List}
 

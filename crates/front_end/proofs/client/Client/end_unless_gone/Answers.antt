@@ -1,4 +1,3 @@
-use Rattle.client_state.specs.Pending.{pending_in}
 use Rattle.client_state.specs.declared.duties.Duties.{Duties}
 use Rattle.front_end.proofs.Stepping.{none_undecided, notes_from}
 use Rattle.client_state.specs.Receiving.{EndsReceive, LosesThere}

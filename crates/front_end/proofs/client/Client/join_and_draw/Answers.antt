@@ -4,11 +4,10 @@ use Rattle.client_state.specs.declared.link.Link.{Link}
 use Rattle.client_state.specs.Settling.{NewsAsSent}
 use Rattle.client_state.proofs.Writing.{is_evaluated}
 use Rattle.client_state.specs.Pending.{pending_in}
-use Rattle.front_end.proofs.Calling.{on_any}
-use Rattle.front_end.proofs.Stepping.{hands_none, hands_same, hands_then}
+use Rattle.front_end.proofs.Stepping.{hands_same}
 use Rattle.front_end.proofs.client.Client.join_and_draw.Goals as goal
 use Rattle.front_end.specs.declared.client.Client.{Client}
-use Rattle.std.proofs.Common.{List, ap, inl, subst, ◌∙◌}
+use Rattle.std.proofs.Common.{List, ap, inl, subst}
 
 pub returns-in-Some-clause-writes : goal.returns-in-Some-clause-writes
 returns-in-Some-clause-writes g c = λ w. c.join_behind.ensures.writes (rw (c.set_phase.ensures) (is_evaluated _ _ w))

@@ -1,8 +1,6 @@
-use Rattle.client_state.specs.Pending.{pending_in}
-use Rattle.client_state.specs.declared.duties.Duties.{Duties}
 use Rattle.front_end.proofs.Stepping.{by_anew}
 use Rattle.front_end.proofs.client.Client.prepare_held.Goals as goal
-use Rattle.std.proofs.Common.{ap, inl, refl}
+use Rattle.std.proofs.Common.{refl}
 
 pub returns-then-not-holds_written-clause-moves : goal.returns-then-not-holds_written-clause-moves
 returns-then-not-holds_written-clause-moves g c = λ item none tx drawn apart of idle. by_anew _ item _ c.args.self.now.held c.begin_anew.new.self.held _ _ _ _ c.begin_anew.ensures.less c.begin_anew.ensures.phase refl c.begin_anew.ensures.duties _

@@ -3,7 +3,7 @@ use Rattle.client_state.specs.Drawing.{drawn_in}
 use Rattle.client_state.specs.Pending.{pending_in}
 use Rattle.client_state.specs.Sending.{IsOfSession, SendsShare}
 use Rattle.client_state.specs.declared.requests.Sending.{Sending}
-use Rattle.front_end.proofs.Stepping.{by_rest_free, sends_drawn, sent_under, spent_steps, with_drawn}
+use Rattle.front_end.proofs.Stepping.{by_rest_free, sent_under, spent_steps, with_drawn}
 use Rattle.front_end.proofs.client.Client.send.Goals as goal
 use Rattle.std.proofs.Common.{[], ap, inl, refl, subst, ◌≡◌}
 use Rattle.std.proofs.lemmas.Result.{IfOk-weaker}

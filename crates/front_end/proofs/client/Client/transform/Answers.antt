@@ -4,7 +4,7 @@ use Rattle.client_state.specs.declared.link.Link.{Link}
 use Rattle.client_state.specs.Settling.{NewsAsSent}
 use Rattle.client_state.specs.Pending.{pending_in}
 use Rattle.client_state.specs.Writing.{unsent}
-use Rattle.front_end.proofs.Stepping.{from_idle, sends_any, sends_from_phase, sends_idle_from}
+use Rattle.front_end.proofs.Stepping.{sends_any, sends_from_phase, sends_idle_from}
 use Rattle.front_end.proofs.client.Client.transform.Goals as goal
 use Rattle.front_end.specs.declared.client.Client.{Client}
 use Rattle.std.proofs.Common.{List, ap, refl, subst, sym}
