@@ -6,6 +6,7 @@ use Rattle.client_items.specs.declared.news.News.{News}
 use Rattle.client_port.specs.Acting.{ActsIf}
 use Rattle.client_port.specs.Views.{View}
 use Rattle.client_port.specs.Works.{Does, FinishWork, ForgetWork}
+use Rattle.client_state.specs.Drawing.{DrawsSo, MayDraw, StaysDrawn, drawn_in}
 use Rattle.client_state.specs.Handing.{HandsIf, is_answered}
 use Rattle.base_reasons.specs.declared.reason.Reason.TheVariants as reasons
 use Rattle.client_state.specs.Moving.{Aborted, Asked, AskedInVain, AskedOwn, CommitRefused, Committed, Connected, DecideRefused, Decided, Drawn, Fetched, Finished, Forgot, Granted, Moves, MovesIf, PrepareRefused, Prepared, ReceiveRefused, ReceiveStopped, Received, ReceivedNone, Rested, SendsNothing, Settled, Transformed, Unsent}
@@ -13,6 +14,7 @@ use Rattle.client_state.specs.Pending.{IsAsking, IsPreparing, NonePending, Pendi
 use Rattle.client_state.specs.Reading.{phase_reads}
 use Rattle.client_state.specs.Settling.{NewsAsSent}
 use Rattle.client_state.specs.Stepping.{Present, SendsMore, StepsSo}
+use Rattle.client_state.specs.Written.{LeavesSo, WhileUndecided, WritesSo}
 use Rattle.client_state.specs.declared.duties.Abort.{Abort}
 use Rattle.client_state.specs.declared.duties.Duties.{Duties}
 use Rattle.client_state.specs.declared.duties.Helping.{Helping}
@@ -151,27 +153,52 @@ pub record StepsInOrder (item : Present) (old new : View) (before after : Held) 
   pub ends : EndsTry old new before after so.moves q
   pub aborts : AbortsSo old new before after so.moves a (pending_in q) d e
 
+-- The same, and: what is sent goes out once, under the timestamp that was drawn for it; what the try has written stays while its transaction is
+-- undecided, but for what others have written, or what goes with a session; and where an item is held as Unknown, the links with its participants are
+-- apart.
+pub record StepsKeeping (item : Present) (old new : View) (before after : Held) (a : Pending) (drawn : Option Ts) (q : Phase) (d e : Duties) (came : News) : Type 0 where
+  pub order : StepsInOrder item old new before after a q d e came
+  pub draws : DrawsSo item old new before after order.so.moves a (pending_in q) came order.so.tries drawn (drawn_in q)
+  pub writes : WhileUndecided (pending_in q) (WritesSo old new before after order.so.moves a)
+  pub leaves : LeavesSo item old new before after order.so.moves a (pending_in q) came order.so.tries
+
 -- the same of a port that may show nothing
-abbrev pub StepsInOrderIf : Bool → Present → View → View → Held → Held → Pending → Phase → Duties → Duties → News → Type 0
-StepsInOrderIf shows item old new before after a q d e came = shows ≡ true → StepsInOrder item old new before after a q d e came
+abbrev pub StepsKeepingIf : Bool → Present → View → View → Held → Held → Pending → Option Ts → Phase → Duties → Duties → News → Type 0
+StepsKeepingIf shows item old new before after a drawn q d e came = shows ≡ true → StepsKeeping item old new before after a drawn q d e came
 
 -- ---- a client without its items
 
--- A client has made a step, which came to this. What was undecided before is told apart.
+-- A client has made a step, which came to this. What was undecided before is told apart, and so is the timestamp that was drawn.
+abbrev pub StepsOut : Bool → Present → View → View → Pending → Option Ts → Client → Client → News → Type 0
+StepsOut shows item old new a drawn f g came = StepsKeepingIf shows item old new f.held g.held a drawn g.phase f.duties g.duties came
+
+-- the same whatever was drawn
 abbrev pub StepsFrom : Bool → Present → View → View → Pending → Client → Client → News → Type 0
-StepsFrom shows item old new a f g came = StepsInOrderIf shows item old new f.held g.held a g.phase f.duties g.duties came
+StepsFrom shows item old new a f g came = (drawn : Option Ts) → StepsOut shows item old new a drawn f g came
 
 -- the same of one that has no verdict to hand on
 abbrev pub TriesFrom : Bool → Present → View → View → Pending → Client → Client → News → Type 0
-TriesFrom shows item old new a f g came = OwesNone f.duties → StepsFrom shows item old new a f g came
+TriesFrom shows item old new a f g came = (drawn : Option Ts) → OwesNone f.duties → StepsOut shows item old new a drawn f g came
 
--- the same of what was undecided in its phase
+-- the same where nothing was undecided, and this was drawn
+abbrev pub SendsFrom : Bool → Present → View → View → Option Ts → Client → Client → News → Type 0
+SendsFrom shows item old new drawn f g came = OwesNone f.duties → StepsOut shows item old new NonePending drawn f g came
+
+-- the same of what was undecided and drawn in its phase
 abbrev pub ClientSteps : Bool → Present → View → View → Client → Client → News → Type 0
-ClientSteps shows item old new f g came = StepsFrom shows item old new (pending_in f.phase) f g came
+ClientSteps shows item old new f g came = StepsOut shows item old new (pending_in f.phase) (drawn_in f.phase) f g came
 
--- the same where these were its duties, and the step came to nothing for its items
+-- the same where it has no verdict to hand on
+abbrev pub ClientGoesOn : Bool → Present → View → View → Client → Client → News → Type 0
+ClientGoesOn shows item old new f g came = OwesNone f.duties → ClientSteps shows item old new f g came
+
+-- the same where these were its duties
+abbrev pub StepsWith : Bool → Present → View → View → Duties → Client → Client → News → Type 0
+StepsWith shows item old new d f g came = StepsKeepingIf shows item old new f.held g.held (pending_in f.phase) (drawn_in f.phase) g.phase d g.duties came
+
+-- the same where the step came to nothing for its items
 abbrev pub StepsOwing : Bool → Present → View → View → Duties → Client → Client → Type 0
-StepsOwing shows item old new d f g = StepsInOrderIf shows item old new f.held g.held (pending_in f.phase) g.phase d g.duties news.Nothing
+StepsOwing shows item old new d f g = StepsWith shows item old new d f g news.Nothing
 
 -- what a step came to that may have come to nothing at all
 abbrev pub news_in : Option News → News
@@ -182,17 +209,25 @@ news_in (Some n) = n
 abbrev pub KeepsAbort : Client → Client → Type 0
 KeepsAbort f g = pending_in f.phase ≡ NonePending → g.duties.abort ≡ f.duties.abort
 
--- What its coordinator has prepared of a try that has ended is to be aborted, else what was so before.
+-- Nothing is drawn any more, or what was drawn before.
+abbrev pub KeepsDrawn : Client → Client → Type 0
+KeepsDrawn f g = StaysDrawn (drawn_in f.phase) (drawn_in g.phase)
+
+-- What is drawn was drawn before, or by the step's call.
+abbrev pub ClientDraws : Bool → View → View → Client → Client → Type 0
+ClientDraws shows old new f g = shows ≡ true → MayDraw old new (drawn_in f.phase) (drawn_in g.phase)
+
+-- What its coordinator has prepared of a try that has ended is to be aborted, else what was so before. Nothing is drawn anew.
 abbrev pub ClientNotes : Client → Client → Type 0
-ClientNotes f g = NotesAbort (pending_in f.phase) (pending_in g.phase) f.duties g.duties
+ClientNotes f g = NotesAbort (pending_in f.phase) (pending_in g.phase) f.duties g.duties × KeepsDrawn f g
 
--- What comes to a client's duties by a call that sends nothing of its transaction, where its links stood so before.
+-- What comes to a client's duties by a call that sends nothing of its transaction, where its links stood so before, and what is drawn by it.
 abbrev pub ClientHands : Bool → View → View → Client → Client → Type 0
-ClientHands shows old new f g = ((a : Pending) → HandsIf shows old new a f.held.links.items f.duties g.duties) × KeepsAbort f g
+ClientHands shows old new f g = ((a : Pending) → HandsIf shows old new a f.held.links.items f.duties g.duties) × KeepsAbort f g × ClientDraws shows old new f g
 
--- The verdicts of a client's duties stay, and so does how it helps, and what is to be aborted where nothing was undecided.
+-- The verdicts of a client's duties stay, and so does how it helps, and what is to be aborted where nothing was undecided. Nothing is drawn anew.
 abbrev pub SameVerdicts : Client → Client → Type 0
-SameVerdicts f g = (g.duties.verdicts ≡ f.duties.verdicts) × (g.duties.helping ≡ f.duties.helping) × KeepsAbort f g
+SameVerdicts f g = (g.duties.verdicts ≡ f.duties.verdicts) × (g.duties.helping ≡ f.duties.helping) × KeepsAbort f g × KeepsDrawn f g
 
 -- A try ends since objects were written by others only where it had read one of them.
 abbrev pub IsStaleBy : Phase → List Oref → ℕ → News → Type 0

@@ -3,8 +3,9 @@
 
 ghost use Rattle.client_state.specs.Pending.{StaysPending, pending_in};
 ghost use Rattle.client_state.specs.Stepping.{Present};
+ghost use Rattle.client_state.specs.Written.{WhileUndecided, WrittenRefused};
 ghost use Rattle.client_state.specs.declared.duties.Duties.{Duties};
-ghost use Rattle.front_end.specs.Stepping.{AbortsNone, StepsOwing};
+ghost use Rattle.front_end.specs.Stepping.{AbortsNone, KeepsDrawn, StepsOwing};
 ghost use Rattle.front_end.specs.Writing.{ClientWrites};
 ghost use Rattle.client_state.specs.Learning.{Rises};
 ghost use Rattle.client_state.specs.Moving.{Loses};
@@ -45,6 +46,8 @@ impl Client {
         ensures loses { Loses refusal repo self.old.held self.new.held }
         ensures client { self.new.held.client ≡ self.old.held.client }
         ensures stays { StaysPending (pending_in self.old.phase) (pending_in self.new.phase) self.old.held self.new.held }
+        ensures drawn { KeepsDrawn self.old self.new }
+        ensures wrote { WhileUndecided (pending_in self.new.phase) (WrittenRefused refusal repo self.old.held.links.items self.old.held.cache.cache self.new.held.cache.cache) }
         ensures left { (tries : ℕ) → uncounted tries self.new ≤ uncounted tries self.old }
         ensures duties { self.new.duties ≡ self.old.duties }
         ensures writes { ClientWrites self.old → ClientWrites self.new }

@@ -9,7 +9,8 @@ ghost use Rattle.client_state.specs.Pending.{IsAsking, NonePending, StaysAsked, 
 ghost use Rattle.client_state.specs.Stepping.{AsksInVain, EndsAsked, KeepsSent, one_more};
 ghost use Rattle.front_end.specs.Stepping.{ClientSteps, IsOver, KeepsAbort, StepsFrom};
 ghost use Rattle.serial_model.specs.declared.outcomes.ItemOutcome.TheVariants as outcomes;
-ghost use Rattle.client_state.specs.Writing.{unsent};
+ghost use Rattle.client_state.specs.Writing.{WritesStay, unsent};
+ghost use Rattle.client_state.specs.Written.{LeavesApart, PartsSome, WhileUndecided};
 ghost use Rattle.front_end.specs.Writing.{ClientWrites};
 ghost use Rattle.client_state.specs.Learning.{Rises};
 ghost use Rattle.client_state.specs.Moving.{EndsSo, LeavesLess};
@@ -115,6 +116,8 @@ impl Client {
         ensures stays { (before : ℕ) → pending_in self.old.phase ≡ NonePending → StaysAsked (IsAsking sent before) (pending_in self.new.phase) self.old.held self.new.held }
         ensures asks { (before : ℕ) → pending_in self.old.phase ≡ NonePending → answers ≡ one_more before → AsksInVain (record { who = task.entry.who; tries = task.entry.tries }) self.new.held (first_in sent.participants) sent before (pending_in self.new.phase) result }
         ensures over { self.old.phase ≡ phase.Between → IsOver self.new.phase }
+        ensures wrote { pending_in self.old.phase ≡ NonePending → WhileUndecided (pending_in self.new.phase) (WritesStay self.old.held.cache.cache self.new.held.cache.cache) }
+        ensures parts { LeavesApart (first_in sent.participants) task.entry.who.index sent self.old.held self.new.held }
         ensures duties { self.new.duties ≡ self.old.duties }
         ensures as_sent { (links : List Link) → NewsAsSent links result }
         ensures writes { unsent self.old.phase ≡ None → ClientWrites self.new }
@@ -134,6 +137,7 @@ impl Client {
         ensures shown { (old new : View) (repos : ℕ) → NewsShown old new repos result }
         ensures unknown { result ≡ news.Ended (outcomes.Unknown sent.ts) }
         ensures link { KeepsSent (first_in sent.participants) sent task.entry.who.index self.new.held }
+        ensures parts { LeavesApart (first_in sent.participants) task.entry.who.index sent self.old.held self.new.held }
         ensures leaves { LeavesLess self.old.held self.new.held }
         ensures as_sent { (links : List Link) → NewsAsSent links result }
         ensures writes { unsent self.old.phase ≡ None → ClientWrites self.new }
@@ -156,6 +160,7 @@ impl Client {
     fn leave_all(&mut self, repos: &Repos)
         ensures rest { self.new ≡ record self.old { held = self.new.held } }
         ensures leaves { LeavesLess self.old.held self.new.held }
+        ensures parts { PartsSome self.old.held self.new.held }
         ensures rises { Rises self.old.held self.new.held }
     {
         for repo in repos.as_slice() {

@@ -11,19 +11,20 @@ ghost use Rattle.client_state.specs.Pending.{HasStopped, IsAsking, IsPreparing, 
 ghost use Rattle.client_state.specs.Stepping.{AsksWhereStopped, DecidesAll, HoldsThere, Present, SendsAlone, SendsDrawn};
 ghost use Rattle.client_state.specs.declared.phase.Phase.TheVariants as phase;
 ghost use Rattle.client_state.specs.declared.transaction.Transaction.{Transaction};
-ghost use Rattle.front_end.specs.Stepping.{ClientHands, IsOver, IsSentMore, KeepsAbort, SameVerdicts, TriesFrom};
-ghost use Rattle.client_state.specs.Writing.{HoldsWritten, WritesShares, WritesThere, unsent};
+ghost use Rattle.front_end.specs.Stepping.{ClientHands, IsOver, IsSentMore, KeepsAbort, SendsFrom, TriesFrom};
+ghost use Rattle.client_state.specs.Writing.{HoldsWritten, WritesShares, WritesStay, WritesThere, unsent};
+ghost use Rattle.client_state.specs.Written.{WhileUndecided, WrittenRefused};
 ghost use Rattle.front_end.specs.Writing.{ClientWrites};
 ghost use Rattle.client_state.specs.Learning.{Rises};
 ghost use Rattle.client_state.specs.Calling.{is_session_of};
 ghost use Rattle.client_state.specs.Links.{NoneAwaits};
 ghost use Rattle.client_state.specs.Moving.{InSession, Learns, Loses, SendsNothingIf};
-ghost use Rattle.client_state.specs.Sending.{IsOfSession};
+ghost use Rattle.client_state.specs.Sending.{AreApart, IsOfSession};
 ghost use Rattle.front_end.specs.Showing.{NewsShown, ShownIf};
 ghost use Rattle.client_port.specs.Acting.{ActsIf};
 ghost use Rattle.client_items.specs.declared.news.News.TheVariants as news;
 ghost use Rattle.session_outbox.specs.declared.answers.At.{At};
-ghost use Rattle.std.specs.Prelude.{IfOk, OnOk, ℕ, ◌≡◌, None, [], IsTrue, false, not, slice_get, true, List};
+ghost use Rattle.std.specs.Prelude.{IfOk, OnOk, ℕ, ◌≡◌, None, Some, [], IsTrue, false, slice_get, true, List};
 
 use crate::client::Client;
 use client_items::{News, Opened};
@@ -67,7 +68,7 @@ impl Client {
         ensures moves { SendsNothingIf Q.shows (Q.view port.old) (Q.view port.new) self.old.held self.new.held }
         ensures free { pending_in self.old.phase ≡ NonePending → pending_in self.new.phase ≡ NonePending }
         ensures ends { IfOk result (λ news. is_ended news ≡ false) }
-        ensures verdicts { SameVerdicts self.old self.new }
+        ensures hands { OnOk result (ClientHands Q.shows (Q.view port.old) (Q.view port.new) self.old self.new) }
         ensures as_sent { IfOk result (NewsAsSent self.old.held.links.items) }
         ensures writes { ClientWrites self.old → ClientWrites self.new }
         ensures rises { Rises self.old.held self.new.held }
@@ -85,8 +86,8 @@ impl Client {
         }
     }
 
-    /// Sends a drawn transaction to its only participant, or to its coordinator. It was drawn there; one of which that can't be told
-    /// isn't sent.
+    /// Sends a drawn transaction to its only participant, or to its coordinator. It was drawn there, and no two of its shares are of one
+    /// repository; one of which that can't be told isn't sent.
     pub fn send<Q: Port>(
         &mut self,
         port: &mut Q,
@@ -97,13 +98,16 @@ impl Client {
     ) -> Result<News, NoMemory>
         ensures acts { ActsIf Q.shows (Q.view port.old) (Q.view port.new) }
         ensures shown { ShownIf Q.shows (Q.view port.old) (Q.view port.new) opened.now.repos result }
-        ensures moves { (item : Present) → item.who ≡ who → self.old.phase ≡ phase.Between → WritesShares transaction.shares.items self.old.held.cache.cache → NoneAwaits 8 self.old.held.links.items → IfOk result (TriesFrom Q.shows item (Q.view port.old) (Q.view port.new) NonePending self.old self.new) }
+        ensures moves { (item : Present) → item.who ≡ who → self.old.phase ≡ phase.Between → WritesShares transaction.shares.items self.old.held.cache.cache → NoneAwaits 8 self.old.held.links.items → IfOk result (SendsFrom Q.shows item (Q.view port.old) (Q.view port.new) (Some ts) self.old self.new) }
         ensures as_sent { (links : List Link) → IfOk result (NewsAsSent links) }
         ensures writes { unsent self.old.phase ≡ None → ClientWrites self.new }
         ensures rises { Rises self.old.held self.new.held }
     {
         self.held.names.spend();
         if !transaction.is_drawn_at(ts) {
+            return Err(NoMemory);
+        }
+        if !transaction.has_shares_apart() {
             return Err(NoMemory);
         }
         match self.held.next_sending(who, ts, &mut transaction)? {
@@ -123,7 +127,7 @@ impl Client {
     ) -> Result<News, NoMemory>
         ensures acts { ActsIf Q.shows (Q.view port.old) (Q.view port.new) }
         ensures shown { sending.request.tx ≡ ts → ShownIf Q.shows (Q.view port.old) (Q.view port.new) opened.now.repos result }
-        ensures moves { (item : Present) → self.old.phase ≡ phase.Between → sending.request.tx ≡ ts → SendsDrawn item self.old.held.links.items self.old.held.cache.cache sending transaction → (transaction.shares.items ≡ [] → WritesThere sending.at.repo sending.request.writes self.old.held.cache.cache) → IsOfSession self.old.held.links.items sending → NoneAwaits 8 self.old.held.links.items → IfOk result (TriesFrom Q.shows item (Q.view port.old) (Q.view port.new) NonePending self.old self.new) }
+        ensures moves { (item : Present) → self.old.phase ≡ phase.Between → sending.request.tx ≡ ts → (drawn : SendsDrawn item self.old.held.links.items self.old.held.cache.cache sending transaction) → AreApart drawn.drawn.shares.items → (transaction.shares.items ≡ [] → WritesThere sending.at.repo sending.request.writes self.old.held.cache.cache) → IsOfSession self.old.held.links.items sending → NoneAwaits 8 self.old.held.links.items → IfOk result (SendsFrom Q.shows item (Q.view port.old) (Q.view port.new) (Some sending.request.tx) self.old self.new) }
         ensures as_sent { (links : List Link) → IfOk result (NewsAsSent links) }
         ensures writes { unsent self.old.phase ≡ None → ClientWrites self.new }
         ensures rises { Rises self.old.held self.new.held }
@@ -158,7 +162,7 @@ impl Client {
     ) -> Result<News, NoMemory>
         ensures acts { ActsIf Q.shows (Q.view port.old) (Q.view port.new) }
         ensures shown { sending.request.tx ≡ ts → ShownIf Q.shows (Q.view port.old) (Q.view port.new) opened.now.repos result }
-        ensures moves { (item : Present) → self.old.phase ≡ phase.Between → sending.request.tx ≡ ts → InSession sending.at self.old.held → SendsDrawn item self.old.held.links.items self.old.held.cache.cache sending transaction → (transaction.shares.items ≡ [] → WritesThere sending.at.repo sending.request.writes self.old.held.cache.cache) → IsOfSession self.old.held.links.items sending → NoneAwaits 8 self.old.held.links.items → IfOk result (TriesFrom Q.shows item (Q.view port.old) (Q.view port.new) NonePending self.old self.new) }
+        ensures moves { (item : Present) → self.old.phase ≡ phase.Between → sending.request.tx ≡ ts → InSession sending.at self.old.held → (drawn : SendsDrawn item self.old.held.links.items self.old.held.cache.cache sending transaction) → AreApart drawn.drawn.shares.items → (transaction.shares.items ≡ [] → WritesThere sending.at.repo sending.request.writes self.old.held.cache.cache) → IsOfSession self.old.held.links.items sending → NoneAwaits 8 self.old.held.links.items → IfOk result (SendsFrom Q.shows item (Q.view port.old) (Q.view port.new) (Some sending.request.tx) self.old self.new) }
         ensures as_sent { (links : List Link) → IfOk result (NewsAsSent links) }
         ensures writes { unsent self.old.phase ≡ None → ClientWrites self.new }
         ensures rises { Rises self.old.held self.new.held }
@@ -180,7 +184,7 @@ impl Client {
     ) -> Result<News, NoMemory>
         ensures acts { ActsIf Q.shows (Q.view port.old) (Q.view port.new) }
         ensures shown { (repos : ℕ) → ShownIf Q.shows (Q.view port.old) (Q.view port.new) repos result }
-        ensures moves { (item : Present) → self.old.phase ≡ phase.Between → sending.request.tx ≡ ts → SendsDrawn item self.old.held.links.items self.old.held.cache.cache sending transaction → IsOfSession self.old.held.links.items sending → NoneAwaits 8 self.old.held.links.items → IfOk result (TriesFrom Q.shows item (Q.view port.old) (Q.view port.new) NonePending self.old self.new) }
+        ensures moves { (item : Present) → self.old.phase ≡ phase.Between → sending.request.tx ≡ ts → (drawn : SendsDrawn item self.old.held.links.items self.old.held.cache.cache sending transaction) → AreApart drawn.drawn.shares.items → IsOfSession self.old.held.links.items sending → NoneAwaits 8 self.old.held.links.items → IfOk result (SendsFrom Q.shows item (Q.view port.old) (Q.view port.new) (Some sending.request.tx) self.old self.new) }
         ensures as_sent { (links : List Link) → IfOk result (NewsAsSent links) }
         ensures writes { unsent self.old.phase ≡ None → ClientWrites self.new }
         ensures rises { Rises self.old.held self.new.held }
@@ -203,7 +207,7 @@ impl Client {
     ) -> Result<News, NoMemory>
         ensures acts { ActsIf Q.shows (Q.view port.old) (Q.view port.new) }
         ensures shown { sending.request.tx ≡ sent.ts → ShownIf Q.shows (Q.view port.old) (Q.view port.new) opened.now.repos result }
-        ensures moves { (item : Present) (left : Transaction) → SendsAlone item self.old.held.links.items self.old.held.cache.cache sending left → sent ≡ sent_of sending.request.tx sending.at left → self.old.phase ≡ phase.Between → InSession sending.at self.old.held → WritesThere sending.at.repo sending.request.writes self.old.held.cache.cache → IsOfSession self.old.held.links.items sending → NoneAwaits 8 self.old.held.links.items → IfOk result (TriesFrom Q.shows item (Q.view port.old) (Q.view port.new) NonePending self.old self.new) }
+        ensures moves { (item : Present) (left : Transaction) → SendsAlone item self.old.held.links.items self.old.held.cache.cache sending left → sent ≡ sent_of sending.request.tx sending.at left → self.old.phase ≡ phase.Between → InSession sending.at self.old.held → WritesThere sending.at.repo sending.request.writes self.old.held.cache.cache → IsOfSession self.old.held.links.items sending → NoneAwaits 8 self.old.held.links.items → IfOk result (SendsFrom Q.shows item (Q.view port.old) (Q.view port.new) (Some sending.request.tx) self.old self.new) }
         ensures as_sent { (links : List Link) → IfOk result (NewsAsSent links) }
         ensures writes { unsent self.old.phase ≡ None → ClientWrites self.new }
         ensures rises { Rises self.old.held self.new.held }
@@ -224,7 +228,7 @@ impl Client {
     ) -> Result<News, NoMemory>
         ensures acts { ActsIf Q.shows (Q.view port.old) (Q.view port.new) }
         ensures shown { sending.request.tx ≡ sent.ts → ShownIf Q.shows (Q.view port.old) (Q.view port.new) opened.now.repos result }
-        ensures moves { (item : Present) (left : Transaction) → SendsAlone item self.old.held.links.items self.old.held.cache.cache sending left → sent ≡ sent_of sending.request.tx sending.at left → self.old.phase ≡ phase.Between → InSession sending.at self.old.held → WritesThere sending.at.repo sending.request.writes self.old.held.cache.cache → HoldsWritten sending.request self.old.held.cache.cache → IsOfSession self.old.held.links.items sending → NoneAwaits 8 self.old.held.links.items → IfOk result (TriesFrom Q.shows item (Q.view port.old) (Q.view port.new) NonePending self.old self.new) }
+        ensures moves { (item : Present) (left : Transaction) → SendsAlone item self.old.held.links.items self.old.held.cache.cache sending left → sent ≡ sent_of sending.request.tx sending.at left → self.old.phase ≡ phase.Between → InSession sending.at self.old.held → WritesThere sending.at.repo sending.request.writes self.old.held.cache.cache → HoldsWritten sending.request self.old.held.cache.cache → IsOfSession self.old.held.links.items sending → NoneAwaits 8 self.old.held.links.items → IfOk result (SendsFrom Q.shows item (Q.view port.old) (Q.view port.new) (Some sending.request.tx) self.old self.new) }
         ensures as_sent { (links : List Link) → IfOk result (NewsAsSent links) }
         ensures writes { unsent self.old.phase ≡ None → ClientWrites self.new }
         ensures rises { Rises self.old.held self.new.held }
@@ -245,6 +249,7 @@ impl Client {
         ensures over { OnOk result (IsOver self.new.phase) }
         ensures abort { OnOk result (KeepsAbort self.old self.new) }
         ensures written { (at : At) → IsWrittenIn at self.old.held → HasStopped refusal → IsWrittenIn at self.new.held }
+        ensures wrote { OnOk result (WhileUndecided (pending_in self.new.phase) (WritesStay self.old.held.cache.cache self.new.held.cache.cache)) }
         ensures ends { IfOk result (λ news. is_ended news ≡ false) }
         ensures duties { OnOk result (KeepsDuties self.old.duties self.new.duties) }
         ensures as_sent { (links : List Link) → IfOk result (NewsAsSent links) }
@@ -267,7 +272,7 @@ impl Client {
     ) -> Result<News, NoMemory>
         ensures acts { ActsIf Q.shows (Q.view port.old) (Q.view port.new) }
         ensures shown { (repos : ℕ) → ShownIf Q.shows (Q.view port.old) (Q.view port.new) repos result }
-        ensures moves { (item : Present) → self.old.phase ≡ phase.Between → sending.request.tx ≡ ts → SendsDrawn item self.old.held.links.items self.old.held.cache.cache sending transaction → HoldsWritten sending.request self.old.held.cache.cache → IsOfSession self.old.held.links.items sending → NoneAwaits 8 self.old.held.links.items → IfOk result (TriesFrom Q.shows item (Q.view port.old) (Q.view port.new) NonePending self.old self.new) }
+        ensures moves { (item : Present) → self.old.phase ≡ phase.Between → sending.request.tx ≡ ts → (drawn : SendsDrawn item self.old.held.links.items self.old.held.cache.cache sending transaction) → AreApart drawn.drawn.shares.items → HoldsWritten sending.request self.old.held.cache.cache → IsOfSession self.old.held.links.items sending → NoneAwaits 8 self.old.held.links.items → IfOk result (SendsFrom Q.shows item (Q.view port.old) (Q.view port.new) (Some sending.request.tx) self.old self.new) }
         ensures as_sent { (links : List Link) → IfOk result (NewsAsSent links) }
         ensures writes { unsent self.old.phase ≡ None → ClientWrites self.new }
         ensures rises { Rises self.old.held self.new.held }
@@ -437,6 +442,7 @@ impl Client {
         ensures loses { Loses refusal repo self.old.held self.new.held }
         ensures client { self.new.held.client ≡ self.old.held.client }
         ensures asks { OnOk result (pending_in self.new.phase ≡ IsAsking sent 0) }
+        ensures wrote { WrittenRefused refusal repo self.old.held.links.items self.old.held.cache.cache self.new.held.cache.cache }
         ensures duties { self.new.duties ≡ self.old.duties }
         ensures as_sent { (links : List Link) → IfOk result (NewsAsSent links) }
         ensures writes { unsent self.old.phase ≡ None → ClientWrites self.new }

@@ -3,7 +3,7 @@
 ghost use Rattle.client_state.specs.Settling.{NewsAsSent};
 ghost use Rattle.client_items.specs.Meanings.{is_ended};
 ghost use Rattle.client_state.specs.Pending.{NonePending, pending_in};
-ghost use Rattle.front_end.specs.Stepping.{ClientHands, TriesFrom};
+ghost use Rattle.front_end.specs.Stepping.{ClientGoesOn, ClientHands};
 ghost use Rattle.client_state.specs.Writing.{unsent};
 ghost use Rattle.front_end.specs.Writing.{ClientWrites};
 ghost use Rattle.client_state.specs.Learning.{Rises};
@@ -30,7 +30,7 @@ impl Client {
     ) -> Result<News, NoMemory>
         ensures acts { ActsIf Q.shows (Q.view port.old) (Q.view port.new) }
         ensures shown { ShownIf Q.shows (Q.view port.old) (Q.view port.new) opened.now.repos result }
-        ensures moves { ClientWrites self.old → NoneAwaits 8 self.old.held.links.items → IfOk result (TriesFrom Q.shows (record { who = task.entry.who; tries = task.entry.tries }) (Q.view port.old) (Q.view port.new) (pending_in self.old.phase) self.old self.new) }
+        ensures moves { ClientWrites self.old → NoneAwaits 8 self.old.held.links.items → IfOk result (ClientGoesOn Q.shows (record { who = task.entry.who; tries = task.entry.tries }) (Q.view port.old) (Q.view port.new) self.old self.new) }
         ensures as_sent { IfOk result (NewsAsSent self.old.held.links.items) }
         ensures writes { ClientWrites self.old → ClientWrites self.new }
         ensures rises { Rises self.old.held self.new.held }

@@ -1,10 +1,9 @@
 //! The third rule: the client helps on a transaction that stood against its request.
 
 ghost use Rattle.client_state.specs.Settling.{NewsAsSent};
-ghost use Rattle.client_state.specs.Pending.{pending_in};
 ghost use Rattle.client_state.specs.Stepping.{Present};
 ghost use Rattle.client_state.specs.declared.duties.Duties.{Duties};
-ghost use Rattle.front_end.specs.Stepping.{ClientSteps, IsFinishedSo, StepsInOrderIf};
+ghost use Rattle.front_end.specs.Stepping.{ClientSteps, IsFinishedSo, StepsWith};
 ghost use Rattle.front_end.specs.Writing.{ClientWrites};
 ghost use Rattle.client_state.specs.Learning.{Rises};
 ghost use Rattle.front_end.specs.Showing.{ShownIf};
@@ -55,7 +54,7 @@ impl Client {
     ) -> Result<News, NoMemory>
         ensures acts { ActsIf Q.shows (Q.view port.old) (Q.view port.new) }
         ensures shown { ShownIf Q.shows (Q.view port.old) (Q.view port.new) opened.now.repos result }
-        ensures moves { (item : Present) (d : Duties) → self.old.duties.verdicts ≡ d.verdicts → self.old.duties.helping ≡ None → self.old.duties.abort ≡ d.abort → IfOk result (StepsInOrderIf Q.shows item (Q.view port.old) (Q.view port.new) self.old.held self.new.held (pending_in self.old.phase) self.new.phase d self.new.duties) }
+        ensures moves { (item : Present) (d : Duties) → self.old.duties.verdicts ≡ d.verdicts → self.old.duties.helping ≡ None → self.old.duties.abort ≡ d.abort → IfOk result (StepsWith Q.shows item (Q.view port.old) (Q.view port.new) d self.old self.new) }
         ensures as_sent { IfOk result (NewsAsSent self.old.held.links.items) }
         ensures writes { ClientWrites self.old → ClientWrites self.new }
         ensures rises { Rises self.old.held self.new.held }

@@ -13,8 +13,9 @@ ghost use Rattle.client_cache.specs.Copies.{changed};
 ghost use Rattle.client_state.specs.Learning.{KeepsBounds, Rises};
 ghost use Rattle.client_state.specs.Moving.{InSession, Loses};
 ghost use Rattle.client_state.specs.Receiving.{EndsReceive, GaveUpIf, GivesUp, IsNotGone, ReceivesNone, TakesCopies};
-ghost use Rattle.client_state.specs.Taking.{Without};
-ghost use Rattle.client_state.specs.Writing.{WritesNone, has_sent_to};
+ghost use Rattle.client_state.specs.Taking.{Without, WrittenWithout};
+ghost use Rattle.client_state.specs.Writing.{WritesNone, WritesStay, has_sent_to};
+ghost use Rattle.client_state.specs.Written.{WhileUndecided, WrittenRefused, WrittenTaken, is_sent_to};
 ghost use Rattle.paused_eval.specs.Copies.{AreAmong};
 ghost use Rattle.front_end.specs.Showing.{NewsShown, ShownIf, SomeShownIf};
 ghost use Rattle.client_port.specs.Acting.{ActsIf, IsTaken, Refuses};
@@ -80,6 +81,7 @@ impl Client {
         ensures duties { OnOk result (KeepsDuties self.old.duties self.new.duties) }
         ensures notes { OnOk result (ClientNotes self.old self.new) }
         ensures stays { OnOk result (StaysPending (pending_in self.old.phase) (pending_in self.new.phase) self.old.held self.new.held) }
+        ensures wrote { OnOk result (WhileUndecided (pending_in self.new.phase) (WrittenRefused refusal repo self.old.held.links.items self.old.held.cache.cache self.new.held.cache.cache)) }
         ensures as_sent { (links : List Link) → IfOk result (NewsAsSent links) }
         ensures writes { ClientWrites self.old → ClientWrites self.new }
         ensures rises { Rises self.old.held self.new.held }
@@ -142,6 +144,7 @@ impl Client {
         ensures loses { Loses refusal repo self.old.held self.new.held }
         ensures client { self.new.held.client ≡ self.old.held.client }
         ensures stays { StaysPending (pending_in self.old.phase) (pending_in self.new.phase) self.old.held self.new.held }
+        ensures wrote { WhileUndecided (pending_in self.new.phase) (WrittenRefused refusal repo self.old.held.links.items self.old.held.cache.cache self.new.held.cache.cache) }
         ensures as_sent { (links : List Link) → IfOk result (NewsAsSent links) }
         ensures writes { ClientWrites self.old → ClientWrites self.new }
         ensures rises { Rises self.old.held self.new.held }
@@ -162,6 +165,7 @@ impl Client {
         ensures loses { Loses refusal repo self.old.held self.new.held }
         ensures client { self.new.held.client ≡ self.old.held.client }
         ensures stays { StaysPending (pending_in self.old.phase) (pending_in self.new.phase) self.old.held self.new.held }
+        ensures wrote { WhileUndecided (pending_in self.new.phase) (WrittenRefused refusal repo self.old.held.links.items self.old.held.cache.cache self.new.held.cache.cache) }
         ensures rest { IsTrue (not result) → self.new.held ≡ self.old.held }
         ensures phase { IsTrue (not result) → self.new.phase ≡ self.old.phase }
         ensures duties { self.new.duties ≡ self.old.duties }
@@ -188,6 +192,7 @@ impl Client {
         ensures takes { OnOk result (TakesCopies repo message self.old.held self.new.held) }
         ensures gives_up { OnOk result (GivesUp repo message self.old.phase self.new.held.cache.cache) }
         ensures stays { OnOk result (StaysPending (pending_in self.old.phase) (pending_in self.new.phase) self.old.held self.new.held) }
+        ensures wrote { OnOk result (WhileUndecided (pending_in self.new.phase) (WrittenTaken (is_sent_to repo (pending_in self.old.phase)) message self.old.held.cache.cache self.new.held.cache.cache)) }
         ensures as_sent { (links : List Link) → IfOk result (NewsAsSent links) }
         ensures writes { ClientWrites self.old → ClientWrites self.new }
         ensures rises { Rises self.old.held self.new.held }
@@ -209,6 +214,7 @@ impl Client {
         ensures notes { OnOk result (ClientNotes self.old self.new) }
         ensures takes { (place : ℕ) → OnOk result (TakesCopies repo (message.Page page bytes.now place) self.old.held self.new.held) }
         ensures stays { OnOk result (StaysPending (pending_in self.old.phase) (pending_in self.new.phase) self.old.held self.new.held) }
+        ensures wrote { OnOk result (WhileUndecided (pending_in self.new.phase) (WritesStay self.old.held.cache.cache self.new.held.cache.cache)) }
         ensures as_sent { (links : List Link) → IfOk result (NewsAsSent links) }
         ensures writes { ClientWrites self.old → ClientWrites self.new }
         ensures rises { Rises self.old.held self.new.held }
@@ -231,6 +237,7 @@ impl Client {
         ensures notes { OnOk result (ClientNotes self.old self.new) }
         ensures takes { (place : ℕ) → OnOk result (TakesCopies repo (message.Grant page place) self.old.held self.new.held) }
         ensures stays { OnOk result (StaysPending (pending_in self.old.phase) (pending_in self.new.phase) self.old.held self.new.held) }
+        ensures wrote { OnOk result (WhileUndecided (pending_in self.new.phase) (WritesStay self.old.held.cache.cache self.new.held.cache.cache)) }
         ensures as_sent { (links : List Link) → IfOk result (NewsAsSent links) }
         ensures writes { ClientWrites self.old → ClientWrites self.new }
         ensures rises { Rises self.old.held self.new.held }
@@ -256,6 +263,7 @@ impl Client {
         ensures takes { (repo : ℕ) → TakesCopies repo (message.Invalid orefs.now place) self.old.held self.new.held }
         ensures gives_up { GivesUp repo (message.Invalid orefs.now place) self.old.phase self.new.held.cache.cache }
         ensures stays { StaysPending (pending_in self.old.phase) (pending_in self.new.phase) self.old.held self.new.held }
+        ensures wrote { WhileUndecided (pending_in self.new.phase) (WrittenTaken (is_sent_to repo (pending_in self.old.phase)) (message.Invalid orefs.now place) self.old.held.cache.cache self.new.held.cache.cache) }
         ensures as_sent { (links : List Link) → NewsAsSent links result }
         ensures writes { ClientWrites self.old → ClientWrites self.new }
         ensures rises { Rises self.old.held self.new.held }
@@ -272,6 +280,8 @@ impl Client {
         ensures copies { Without orefs.now self.old.held.cache.cache self.new.held.cache.cache }
         ensures fewer { AreAmong (changed self.old.held.cache.cache) (changed self.new.held.cache.cache) }
         ensures none { has_sent_to repo self.old.phase ≡ true → WritesNone orefs.now self.new.held.cache.cache }
+        ensures sent { has_sent_to repo self.old.phase ≡ true → WrittenWithout orefs.now self.old.held.cache.cache self.new.held.cache.cache }
+        ensures unsent { has_sent_to repo self.old.phase ≡ false → WritesStay self.old.held.cache.cache self.new.held.cache.cache }
         ensures links { self.new.held.links ≡ self.old.held.links }
         ensures client { self.new.held.client ≡ self.old.held.client }
         ensures bounds { KeepsBounds self.old.held self.new.held }
@@ -294,6 +304,7 @@ impl Client {
         ensures notes { ClientNotes self.old self.new }
         ensures takes { (repo place : ℕ) (text : List ℕ) → TakesCopies repo (message.Upgrade number text place) self.old.held self.new.held }
         ensures stays { StaysPending (pending_in self.old.phase) (pending_in self.new.phase) self.old.held self.new.held }
+        ensures wrote { WhileUndecided (pending_in self.new.phase) (WritesStay self.old.held.cache.cache self.new.held.cache.cache) }
         ensures as_sent { (links : List Link) → NewsAsSent links result }
         ensures writes { ClientWrites self.old → ClientWrites self.new }
         ensures rises { Rises self.old.held self.new.held }

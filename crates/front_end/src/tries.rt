@@ -5,7 +5,7 @@ ghost use Rattle.client_state.specs.Settling.{CameAsSent, NewsAsSent, SettlesAsS
 ghost use Rattle.client_items.specs.Meanings.{is_ended};
 ghost use Rattle.client_state.specs.Handing.{KeepsDuties, helps_by};
 ghost use Rattle.client_state.specs.Pending.{NonePending, StaysPending, abort_in, pending_in};
-ghost use Rattle.front_end.specs.Stepping.{ClientNotes, SameVerdicts};
+ghost use Rattle.front_end.specs.Stepping.{ClientNotes, KeepsDrawn, SameVerdicts};
 ghost use Rattle.client_state.specs.Writing.{CameStays, PhaseWrites};
 ghost use Rattle.client_cache.specs.Copies.{Contents, changed};
 ghost use Rattle.front_end.specs.Writing.{ClientWrites};
@@ -88,6 +88,7 @@ impl Client {
         ensures free { pending_in self.old.phase ≡ NonePending → pending_in self.new.phase ≡ NonePending }
         ensures ends { is_ended result ≡ false }
         ensures duties { self.new.duties ≡ self.old.duties }
+        ensures drawn { KeepsDrawn self.old self.new }
         ensures as_sent { (links : List Link) → SettlesAsSent links learnt.settled → NewsAsSent links result }
         ensures writes { ClientWrites self.old → ClientWrites self.new }
         ensures rises { Rises self.old.held self.new.held }

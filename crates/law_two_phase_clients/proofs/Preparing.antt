@@ -121,7 +121,7 @@ module _ (links : List Link) (who : Who) (t : Ts) (before left : Transaction) (s
   }
 
 -- the first share of a drawn transaction goes to its coordinator
-starts_there : (item : Present) (links : List Link) (c : Contents) (s : Sending) (left : Transaction) → SendsDrawn item links c s left → s.request.tx.repo ≡ s.at.repo
+pub starts_there : (item : Present) (links : List Link) (c : Contents) (s : Sending) (left : Transaction) → SendsDrawn item links c s left → s.request.tx.repo ≡ s.at.repo
 starts_there item links c s left sends = sym (place_is links item.who s.request.tx sends.drawn left s sends.sends ∙ eqb-true sends.sends.share.repo s.request.tx.repo first)
   where
     first : nat_eq sends.sends.share.repo s.request.tx.repo ≡ true

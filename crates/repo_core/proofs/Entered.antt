@@ -37,3 +37,7 @@ on_err1 (Err e) A F a f = f a
 pub on_err2 : {X E : Type 0} (r : Result X E) (A B F : Type 0) → OnErr r A → OnErr r B → (A → B → F) → OnErr r F
 on_err2 (Ok x) A B F a b f = tt
 on_err2 (Err e) A B F a b f = f a b
+
+pub on_err3 : {X E : Type 0} (r : Result X E) (A B C F : Type 0) → OnErr r A → OnErr r B → OnErr r C → (A → B → C → F) → OnErr r F
+on_err3 (Ok x) A B C F a b c f = tt
+on_err3 (Err e) A B C F a b c f = f a b c

@@ -4,7 +4,7 @@ use Rattle.disk_trait.specs.Disks.{Disks}
 use Rattle.repo_state.specs.Keeps.{Keeps}
 use Rattle.repo_state.specs.declared.held.Held.{Held}
 use Rattle.repo_core.specs.Behind.{is_marked}
-use Rattle.repo_durable.specs.Kept.{IsFallen, IsKept, IsOpenIn, StandsAfter, disks_of, held_of, is_fault, is_up, is_up_in}
+use Rattle.repo_durable.specs.Kept.{IsFallen, IsKept, IsOpenIn, StandsAfter, disks_of, held_of, is_fault, is_torn, is_torn_in, is_up, is_up_in}
 use Rattle.repo_durable.specs.declared.stable.Phase.TheVariants.{Down, Torn, Up}
 use Rattle.repo_durable.specs.declared.stable.Phase.{Phase}
 use Rattle.repo_durable.specs.declared.stable.Stable.{Stable}
@@ -32,6 +32,15 @@ keeps_in : (disks : Disks) (h : Held) (p : Phase) → IsOpenIn disks h p → is_
 keeps_in disks h (Up log) o u = o.keeps
 keeps_in disks h (Down pending) o u = o.keeps
 keeps_in disks h (Torn entry) o u = absurd (cc)
+
+-- what one holds that isn't torn is that of a repository
+keeps_whole_in : (disks : Disks) (h : Held) (p : Phase) → IsOpenIn disks h p → is_torn_in p ≡ false → Keeps h
+keeps_whole_in disks h (Up log) o u = o.keeps
+keeps_whole_in disks h (Down pending) o u = o.keeps
+keeps_whole_in disks h (Torn entry) o u = absurd (cc)
+
+pub keeps_whole : {P : Type 0} (disks : P → Disks) (s : Stable P) → IsKept disks s → is_torn s ≡ false → Keeps (held_of s)
+keeps_whole disks s k u = keeps_whole_in (disks_of disks s) s.held s.phase k.stands u
 
 -- what an open repository holds is that of a repository
 pub keeps_up : {P : Type 0} (disks : P → Disks) (s : Stable P) → IsKept disks s → is_up s ≡ true → Keeps (held_of s)

@@ -17,12 +17,12 @@ use Rattle.page_format.specs.Sides.{side_in_use}
 use Rattle.page_store.specs.Sides.{Shows}
 use Rattle.repo_core.specs.Behind.{MovesObjects, Stands, alone_entry}
 use Rattle.repo_core.specs.Moving.{Falls, MakesRoom}
-use Rattle.repo_core.specs.Objects.{ObjectsTake, TakesOrPends}
-use Rattle.repo_core.specs.Shown.{Shown, ShowsPages, shown}
+use Rattle.repo_core.specs.Objects.{ObjectsTake}
+use Rattle.repo_core.specs.Shown.{Shown, ShowsPages, WholeIfUp, shown}
 use Rattle.repo_durable.proofs.Mapping.{moves_entered, moves_same, moves_then}
 use Rattle.repo_durable.proofs.Readable.{told_at}
 use Rattle.repo_durable.proofs.Remembering.{again, last_of}
-use Rattle.repo_durable.specs.Kept.{disks_of, held_of, is_torn, is_torn_in, is_up, is_up_in, pending}
+use Rattle.repo_durable.specs.Kept.{disks_of, held_of, is_torn, is_torn_in, is_up, is_up_in}
 use Rattle.repo_durable.specs.Mapping.{StoreMoves}
 use Rattle.repo_durable.specs.Pages.{HasPages}
 use Rattle.repo_durable.specs.declared.stable.Phase.TheVariants.{Down, Torn, Up}
@@ -35,7 +35,7 @@ use Rattle.repo_state.specs.Entering.{decided_by, entered, finished_by, loaded}
 use Rattle.repo_state.specs.declared.held.Held.{Held}
 use Rattle.repo_trace.specs.Recorded.{Recorded}
 use Rattle.repo_volatile.specs.Volatile.{Memory}
-use Rattle.std.proofs.Common.{Bool, Err, List, None, Ok, OnOk, Option, Result, Some, [], ◌∷◌, ap, false, inr, refl, subst, sym, true, ◌<◌, ◌∙◌, ◌≡◌, ℕ}
+use Rattle.std.proofs.Common.{Bool, Err, List, None, Ok, OnOk, Option, Result, Some, [], ◌∷◌, ap, false, refl, subst, sym, true, ◌<◌, ◌∙◌, ◌≡◌, ℕ}
 use Rattle.std.specs.Option.{is_some, option_map_or}
 use Rattle.std.specs.Prelude.{OnErr}
 use Rattle.thor_value.specs.FiniteMap.{get}
@@ -57,6 +57,9 @@ whole_up store up = whole_in store.phase up
 pub whole_answered : {P X : Type 0} (r : Result X Refusal) (store : Stable P) → Stands true r (is_up store) → OnOk r (is_torn store ≡ false)
 whole_answered (Ok x) store stands = whole_up store stands.1
 whole_answered (Err e) store stands = tt
+
+pub shown_whole : {P : Type 0} (disks : P → Disks) (stable : Stable P) (memory : Memory) (trace : Recorded) (n : ℕ) (s : Shown) → shown disks stable memory trace n ≡ s → WholeIfUp s
+shown_whole disks stable memory trace n s is = subst WholeIfUp is (record { whole = λ up. whole_up stable up })
 
 -- ---- one event
 
@@ -194,8 +197,9 @@ moves_again disks old mid new e keeps up moves content held first =
           subst (λ (a : Option Obj). Has image (held_of new).objects o a) (ap (λ (ws : List (Oref × Obj)). written_last o (written_last o answer (loaded (held_of old) e)) ws) same ∙ last_again o (loaded (held_of old) e) answer) done;
     }
 
-pub pends_so : {P : Type 0} (disks : P → Disks) (old mid new : Stable P) (M N : Memory) (t u : Recorded) (n : ℕ) (e : Entry) → pending old ≡ Some e → is_up mid ≡ true → (disks_of disks new).content 2 ≡ (disks_of disks mid).content 2 → Falls mid new e → StoreMoves disks (loaded (held_of old) e) old mid → TakesOrPends (shown disks old M t n) (shown disks new N u n)
-pends_so disks old mid new M N t u n e was up content falls first = inr (e, was, falls.pending, moves_pended disks (loaded (held_of old) e) old mid new e up content falls first)
+-- of one that is torn nothing is said
+pub objects_torn : (x y : Shown) → y.is_torn ≡ true → ObjectsTake [] x y
+objects_torn x y torn = record { moves = λ told whole. absurd (let no : true ≡ false = sym torn ∙ whole in cc) }
 
 taken_number : (h : Held) (taken : Option Entry) → (held_with h taken).repo ≡ h.repo
 taken_number h None = refl

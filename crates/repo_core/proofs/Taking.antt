@@ -1,6 +1,6 @@
 -- What a restart takes.
 use Rattle.log_entries.specs.declared.entry.Entry.{Entry}
-use Rattle.repo_core.specs.Objects.{ObjectsTake, TakesOrPends, writes_in}
+use Rattle.repo_core.specs.Objects.{ObjectsTake, writes_in}
 use Rattle.repo_state.specs.Entering.{entered, loaded}
 use Rattle.repo_core.proofs.Refused.{moved_none, moved_on}
 use Rattle.repo_core.specs.Behind.{MovesObjects}
@@ -82,7 +82,7 @@ pending_before p q is whole = by p is
 
 -- the log wasn't taken over
 pub none_taken : (x y : Shown) (p q : Phase) → q ≡ lowered p → x.is_up ≡ is_up_in p → x.is_torn ≡ is_torn_in p → x.pending ≡ pending_in p → y.is_torn ≡ is_torn_in q → y.pending ≡ pending_in q
-    → y.held ≡ x.held → Outlasts x.memory y.memory → y.trace ≡ x.trace → TakesOrPends x y → TakesNone x y
+    → y.held ≡ x.held → Outlasts x.memory y.memory → y.trace ≡ x.trace → ObjectsTake [] x y → TakesNone x y
 none_taken x y p q is up torn pending torn' pending' held lasts trace objects = record {
   torn = λ w. torn ∙ torn_before p q is (sym torn' ∙ w);
   held = λ w. moved_none x y held;
@@ -97,7 +97,7 @@ none_taken x y p q is up torn pending torn' pending' held lasts trace objects = 
     by (inr same) = inr (up ∙ same.0, pending' ∙ (same.1 ∙ sym pending))
 
 -- the pending entry wasn't taken
-pub pending_falls : (x y z : Shown) (e : Entry) → x.is_torn ≡ false → x.is_up ≡ false → x.pending ≡ Some e → Moved x y → y.memory ≡ x.memory → y.trace ≡ x.trace → GoesDown y z (Some e) → z.trace ≡ y.trace → TakesOrPends x z → TakesNone x z
+pub pending_falls : (x y z : Shown) (e : Entry) → x.is_torn ≡ false → x.is_up ≡ false → x.pending ≡ Some e → Moved x y → y.memory ≡ x.memory → y.trace ≡ x.trace → GoesDown y z (Some e) → z.trace ≡ y.trace → ObjectsTake [] x z → TakesNone x z
 pending_falls x y z e whole down is moved memory trace falls recorded objects = record {
   torn = λ w. whole;
   held = λ w. moved_on x y z moved (falls.held w);

@@ -8,7 +8,7 @@ use Rattle.repo_sessions.specs.Sessions.{acknowledged, sent}
 use Rattle.repo_state.specs.Entering.{loaded}
 use Rattle.repo_state.specs.declared.held.Held.{Held}
 use Rattle.session_outbox.specs.declared.message.Message.TheVariants.{Page}
-use Rattle.std.specs.Prelude.{List, None, Option, Some, [], false, length, ℕ, ◌<◌, ◌≡◌, ◌⊎◌}
+use Rattle.std.specs.Prelude.{List, None, Option, Some, [], length, ℕ, ◌<◌, ◌≡◌}
 use Rattle.thor_value.specs.declared.names.Oref.{Oref}
 use Rattle.thor_value.specs.declared.values.Obj.{Obj}
 
@@ -21,11 +21,6 @@ ObjectsTake writes x y = MovesMap (ShowsPages x) y.is_torn writes x.pages x.held
 abbrev pub writes_in : Held → Option Entry → List (Oref × Obj)
 writes_in h None = []
 writes_in h (Some e) = loaded h e
-
--- the objects of a repository that is down have taken nothing, or the writes of the entry that was and is pending, which its
--- disks have
-abbrev pub TakesOrPends : Shown → Shown → Type 0
-TakesOrPends x y = ObjectsTake [] x y ⊎ ((e : Entry) × (x.pending ≡ Some e) × (y.is_torn ≡ false → y.pending ≡ Some e) × ObjectsTake (loaded x.held e) x y)
 
 -- A page is sent to a session, whose client knows what was written below upto: it has each object of the repository that lies
 -- on it, and no other.

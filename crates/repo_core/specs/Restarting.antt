@@ -6,13 +6,13 @@ use Rattle.repo_state.specs.Entering.{entered}
 use Rattle.repo_state.specs.declared.held.Held.{Held}
 use Rattle.repo_sessions.specs.Sessions.{ended, no_sessions}
 use Rattle.repo_core.specs.Behind.{MovesObjects}
-use Rattle.repo_core.specs.Objects.{ObjectsTake, TakesOrPends, writes_in}
+use Rattle.repo_core.specs.Objects.{ObjectsTake, writes_in}
 use Rattle.repo_core.specs.Refusing.{GoesDown, Moved}
 use Rattle.repo_core.specs.Shown.{Shown}
 use Rattle.law_repo_memory.specs.Coming.{BeginsLife}
 use Rattle.law_repo_memory.specs.Running.{held_with, recorded_with, requested_with}
 use Rattle.std.specs.Option.{IfSome}
-use Rattle.std.specs.Prelude.{List, None, Option, Some, false, suc, zero, ℕ, ◌+◌, ◌<◌, ◌≡◌, ◌≤◌, ◌⊎◌}
+use Rattle.std.specs.Prelude.{List, None, Option, Some, [], false, suc, zero, ℕ, ◌+◌, ◌<◌, ◌≡◌, ◌≤◌, ◌⊎◌}
 use Rattle.repo_format.specs.Fresh.{IsFresh}
 use Rattle.thor_value.specs.FiniteMap.{IsSorted, empty, get}
 use Rattle.thor_value.specs.declared.names.Ts.{Ts}
@@ -87,7 +87,7 @@ pub record TakesNone (old new : Shown) : Type 0 where
   pub memory : Outlasts old.memory new.memory
   pub pending : new.is_torn ≡ false → (new.pending ≡ None) ⊎ ((old.is_up ≡ false) × (new.pending ≡ old.pending))
   pub trace : new.trace ≡ old.trace
-  pub objects : TakesOrPends old new
+  pub objects : ObjectsTake [] old new
 
 -- the Life behind what was recovered wasn't written, or wasn't taken
 pub record FailsBehind (old new : Shown) : Type 0 where

@@ -5,7 +5,7 @@ use Rattle.repo_state.specs.declared.held.Held.{Held}
 use Rattle.repo_durable.specs.Kept.{disks_of, held_of, is_torn, is_up, pending}
 use Rattle.repo_durable.specs.Pages.{TellsPages}
 use Rattle.repo_durable.specs.declared.stable.Stable.{Stable}
-use Rattle.std.specs.Prelude.{Bool, List, Option, suc, zero, ℕ}
+use Rattle.std.specs.Prelude.{Bool, List, Option, false, suc, true, zero, ℕ, ◌≡◌}
 use Rattle.repo_trace.specs.Recorded.{Recorded}
 use Rattle.repo_volatile.specs.Volatile.{Memory}
 
@@ -62,3 +62,7 @@ faults_of x = count_at x.faults
 -- damaged.
 abbrev pub ShowsPages : Shown → Type 0
 ShowsPages x = TellsPages x.is_torn x.held.objects.pages.sides x.logs.0 x.logs.1 x.pages
+
+-- one that is up isn't torn
+pub record WholeIfUp (x : Shown) : Type 0 where
+  pub whole : x.is_up ≡ true → x.is_torn ≡ false

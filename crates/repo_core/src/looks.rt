@@ -8,6 +8,7 @@ ghost use Rattle.repo_state.specs.Keeps.{TableFits};
 ghost use Rattle.repo_sessions.specs.Sessions.{is_live};
 ghost use Rattle.mob_buffer.specs.Buffer.{bytes_of};
 ghost use Rattle.repo_core.specs.Behind.{AreOwn, IsLeastOfOthers, epoch_of, has_prepared};
+ghost use Rattle.repo_core.specs.Shown.{WholeIfUp};
 ghost use Rattle.repo_durable.specs.Saying.{ImagesSay};
 ghost use Rattle.thor_value.specs.FiniteMap.{has};
 ghost use Rattle.repo_volatile.specs.Volatile.{knows};
@@ -38,8 +39,10 @@ impl<P: Parts> Repo<P> {
     }
 
     /// Whether it answers. One that is down does so behind a restart.
+    #[tactic(auto, using(crate::proofs::Objects::shown_whole))]
     pub fn is_up(&self) -> bool
-        ensures { result ≡ self.now.is_up }
+        ensures up { result ≡ self.now.is_up }
+        ensures whole { WholeIfUp self.now }
     {
         self.stable.is_up()
     }
@@ -49,6 +52,13 @@ impl<P: Parts> Repo<P> {
         ensures { result ≡ self.now.is_torn }
     {
         self.stable.is_torn()
+    }
+
+    /// A law: one that is up isn't torn.
+    pub fn up_is_whole(&self)
+        ensures { WholeIfUp self.now }
+    {
+        let _ = self.is_up();
     }
 
     /// The entries of its history since it was opened.

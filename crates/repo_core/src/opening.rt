@@ -42,6 +42,7 @@ impl<P: Parts> Repo<P> {
         ensures readable { TellsAll (P.disks parts) → WhereTold (P.disks parts) 2 (ArePages recovered.state.objects.pages.sides) → IfOk result ShowsPages }
         ensures trace { IfOk result (λ repo. repo.trace ≡ with_entry nothing (ALife (recovered.state.life + 1))) }
         ensures begins { IfOk result (λ repo. Begins recovered.state repo) }
+        ensures content { IfOk result (λ repo. repo.pages ≡ (P.disks parts).content 2) }
         ensures clock { IfOk result (λ repo. repo.clock ≡ (P.disks parts).clock) }
         ensures fell { IfOk result (λ repo. NoneFell (P.disks parts).faults (faults_of repo)) }
         ensures failed { IfErr result (λ fault. fault.cause ≡ Failed → HasFailed (P.disks parts).faults (P.disks fault.parts).faults) }

@@ -3,6 +3,7 @@
 ghost use Rattle.repo_core.specs.Shown.{faults_of};
 ghost use Rattle.repo_durable.specs.Failing.{NoneFell};
 ghost use Rattle.repo_durable.specs.Saying.{ImagesSay};
+ghost use Rattle.repo_state.specs.Keeps.{Keeps};
 ghost use Rattle.std.specs.Prelude.{None, false, true, ◌≡◌};
 
 use disk_trait::Parts;
@@ -62,6 +63,8 @@ impl<P: Parts> Repo<P> {
         ensures marks { result.1.marks ≡ self.trace.marks }
         ensures says { self.is_torn ≡ false → ImagesSay (P.disks result.0) self.held self.pending }
         ensures none { self.is_up ≡ true → self.pending ≡ None }
+        ensures keeps { self.is_torn ≡ false → Keeps self.held }
+        ensures content { (P.disks result.0).content 2 ≡ self.pages }
     {
         let Repo {
             alloc: _,

@@ -9,7 +9,7 @@ ghost use Rattle.repo_core.specs.Objects.{ObjectsTake};
 ghost use Rattle.repo_core.specs.Behind.{IsRecovered, IsRestarted, Stands, is_marked};
 ghost use Rattle.repo_core.specs.Shown.{faults_of, ShowsPages};
 ghost use Rattle.repo_durable.specs.Failing.{HasFailed, NoFewer, is_stopped};
-ghost use Rattle.repo_durable.specs.Kept.{IsKept, disks_of, held_of, is_fault, is_up, parts_in};
+ghost use Rattle.repo_durable.specs.Kept.{IsKept, disks_of, held_of, is_fault, is_torn, is_up, parts_in};
 ghost use Rattle.repo_durable.specs.Saying.{IsAhead, IsSaid};
 ghost use Rattle.repo_trace.specs.Recorded.{with_entry};
 ghost use Rattle.repo_core.specs.Restarting.{AllTold, ComesUp, DropsEarlier, LetsGo, StaysDown, Takes, TakesNone, life_behind};
@@ -38,7 +38,8 @@ impl<P: Parts> Repo<P> {
     /// What is recovered has to agree with what is in memory, or with that and the entry that was being
     /// written; else the answer is `Damaged`, as it is where a log disk has no log of this repository. It comes
     /// only where some disk doesn't tell its bytes. All sessions end. Decisions of earlier openings are kept no
-    /// longer. After a refusal the repository is down, with the entry pending that was so, or with the Life.
+    /// longer. After a refusal the repository is down, with the entry pending that was so, or with the Life; where there was no
+    /// memory for the entry, which its disks have, it is torn.
     pub fn restart(&mut self, pick: u64) -> Result<(), Refusal>
         ensures up { OnOk result (self.new.is_up ≡ true) }
         ensures readable { ShowsPages self.old → ShowsPages self.new }
@@ -146,8 +147,9 @@ impl<P: Parts> Repo<P> {
     }
 }
 
-/// Takes the pending entry, which the disks have.
-#[tactic(auto, using(crate::proofs::Entered::falls_told, repo_volatile::proofs::Lasting::lasts_itself))]
+/// Takes the pending entry, which the disks have. The objects that were found have what it writes already, so without memory for it
+/// the repository is torn.
+#[tactic(auto, using(crate::proofs::Entered::falls_torn, repo_volatile::proofs::Lasting::lasts_itself))]
 fn take_pending<P: Parts>(
     stable: &mut Stable<P>,
     memory: &mut Memory,
@@ -172,13 +174,17 @@ fn take_pending<P: Parts>(
     ensures held { OnOk result (held_of stable.new ≡ entered (held_of stable.old) entry) }
     ensures requested { OnOk result (memory.new.requested ≡ came_with memory.old.requested entry) }
     ensures left { OnErr result (Falls stable.old stable.new entry) }
+    ensures torn { OnErr result (is_torn stable.new ≡ true) }
     ensures refusal { IfErr result (λ r. r ≡ IsNoMemory) }
     ensures pages { (disks_of P.disks stable.new).content 2 ≡ (disks_of P.disks stable.old).content 2 }
     ensures clock { (disks_of P.disks stable.new).clock ≡ (disks_of P.disks stable.old).clock }
     ensures faults { (d : ℕ) → (disks_of P.disks stable.new).faults d ≡ (disks_of P.disks stable.old).faults d }
 {
-    let noted = note(memory, &entry);
-    record(stable, trace, entry, noted)?;
+    if note(memory, &entry).is_err() {
+        stable.fail_with(entry);
+        return Err(Refusal::NoMemory);
+    }
+    record(stable, trace, entry, Ok(()))?;
     Ok(())
 }
 

@@ -12,7 +12,7 @@ ghost use Rattle.repo_core.specs.Objects.{ObjectsTake};
 ghost use Rattle.repo_core.specs.Behind.{Stands, is_marked};
 ghost use Rattle.repo_core.specs.Calls.{CanWrite, Comes, ComesIn, IsTold};
 ghost use Rattle.repo_core.specs.Moving.{Falls};
-ghost use Rattle.repo_durable.specs.Kept.{IsKept, disks_of, held_of, is_fault, is_up, repo_named};
+ghost use Rattle.repo_durable.specs.Kept.{IsKept, disks_of, held_of, is_fault, is_torn, is_up, repo_named};
 ghost use Rattle.repo_durable.specs.Saying.{IsAhead, IsSaid};
 ghost use Rattle.law_repo_memory.specs.Coming.{Becomes, BeginsLife, Moves, Reopens, alone_queue, decided_queue};
 ghost use Rattle.thor_value.specs.FiniteMap.{add, has};
@@ -116,6 +116,7 @@ pub(crate) fn record<P: Parts>(
     ensures trace { OnOk result (trace.new ≡ with_entry trace.old entry) }
     ensures refused { OnErr result (trace.new ≡ trace.old) }
     ensures left { OnErr result (Falls stable.old stable.new entry) }
+    ensures torn { told ≡ Ok tt → OnErr result (is_torn stable.new ≡ true) }
     ensures refusal { IfErr result (λ r. r ≡ IsNoMemory) }
     ensures pages { (disks_of P.disks stable.new).content 2 ≡ (disks_of P.disks stable.old).content 2 }
     ensures clock { (disks_of P.disks stable.new).clock ≡ (disks_of P.disks stable.old).clock }

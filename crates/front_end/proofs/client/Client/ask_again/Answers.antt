@@ -1,8 +1,10 @@
+use Rattle.client_cache.specs.Copies.{changed}
+use Rattle.client_state.proofs.Parting.{leaves_all_same}
 use Rattle.client_state.proofs.Writing.{nothing_unsent}
 use Rattle.client_state.specs.Pending.{IsAsking, pending_in}
 use Rattle.client_state.specs.Stepping.{AsksAgain, HoldsUnknown}
 use Rattle.client_state.specs.Writing.{unsent}
-use Rattle.front_end.proofs.Stepping.{asks_on}
+use Rattle.front_end.proofs.Stepping.{asks_on, none_undecided}
 use Rattle.front_end.proofs.client.Client.ask_again.Goals as goal
 use Rattle.front_end.specs.declared.client.Client.{Client}
 use Rattle.std.proofs.Common.{ap, arith, inl, inr, refl, ◌∙◌}
@@ -27,3 +29,12 @@ returns-then-answers-task-clause-asks c = λ before none is. AsksAgain (ap (λ (
 
 pub returns-clause-asks : goal.returns-clause-asks
 returns-clause-asks c = λ before none is. HoldsUnknown (ap (λ (k : Client). pending_in k.phase) c.hold_as_unknown.ensures.rest ∙ none) (omega (arith, c.if-answers-task.false, is)) c.hold_as_unknown.ensures.unknown c.hold_as_unknown.ensures.link
+
+pub returns-then-answers-task-clause-wrote : goal.returns-then-answers-task-clause-wrote
+returns-then-answers-task-clause-wrote c = λ none und x. ap (λ (k : Client). changed k.held.cache.cache x) c.set_phase.ensures
+
+pub returns-clause-wrote : goal.returns-clause-wrote
+returns-clause-wrote c = λ none. none_undecided _ (ap (λ (k : Client). pending_in k.phase) c.hold_as_unknown.ensures.rest ∙ none)
+
+pub returns-then-answers-task-clause-parts : goal.returns-then-answers-task-clause-parts
+returns-then-answers-task-clause-parts c = leaves_all_same _ _ _ c.args.self.now.held c.set_phase.new.self.held (ap (λ (k : Client). k.held.links.items) c.set_phase.ensures)

@@ -1,3 +1,4 @@
+use Rattle.client_state.specs.Drawing.{drawn_in}
 use Rattle.client_state.specs.Settling.{SettlesAsSent}
 use Rattle.client_items.specs.Courses.{IsDownAt, is_committed}
 use Rattle.client_items.specs.declared.news.Learnt.{Learnt}
@@ -11,7 +12,7 @@ use Rattle.front_end.proofs.Showing.{learnt_of}
 use Rattle.front_end.proofs.Stepping.{hands_none, told_so}
 use Rattle.front_end.proofs.client.Client.ask_before.Goals as goal
 use Rattle.repo_refusals.specs.declared.refusal.Refusal.{Refusal}
-use Rattle.std.proofs.Common.{inl, refl, subst, ◌≡◌}
+use Rattle.std.proofs.Common.{ap, inl, inr, refl, subst, ◌≡◌}
 use Rattle.std.specs.Prelude.{IfSome, Option, Some}
 
 pub returns-in_err-learnt-in-Ok-Settled-clause-acts : goal.returns-in_err-learnt-in-Ok-Settled-clause-acts
@@ -51,16 +52,16 @@ pub returns-in_ok-cause_of-in-Err-clause-moves : goal.returns-in_ok-cause_of-in-
 returns-in_ok-cause_of-in-Err-clause-moves g c = asked_nothing _ _ _ _ c.args.ts c.ask.result _ _ c.ask.ensures.call (less_itself c.args.self.now.held)
 
 pub returns-in-Some-clause-hands : goal.returns-in-Some-clause-hands
-returns-in-Some-clause-hands g c = (λ a s. record { verdicts = inl (c.in_ok-learnt-in-Ok-Settled.ensures.hands a _ _ (told_so _ _ _ _ c.args.ts c.in-Ok-Settled.field-0 c.in-Ok-Settled.verdict c.in-Ok-Settled.field-0-is c.in-Ok-Settled.ensures.call s)); helping = inl c.in_ok-learnt-in-Ok-Settled.ensures.helping }, λ none. c.in_ok-learnt-in-Ok-Settled.ensures.abort)
+returns-in-Some-clause-hands g c = ((λ a s. record { verdicts = inl (c.in_ok-learnt-in-Ok-Settled.ensures.hands a _ _ (told_so _ _ _ _ c.args.ts c.in-Ok-Settled.field-0 c.in-Ok-Settled.verdict c.in-Ok-Settled.field-0-is c.in-Ok-Settled.ensures.call s)); helping = inl c.in_ok-learnt-in-Ok-Settled.ensures.helping }), (λ none. c.in_ok-learnt-in-Ok-Settled.ensures.abort), λ s. inl (inr (ap drawn_in c.in_ok-learnt-in-Ok-Settled.ensures.phase)))
 
 pub returns-in-None-clause-hands : goal.returns-in-None-clause-hands
-returns-in-None-clause-hands g c = (λ a s. record { verdicts = inl (c.in_ok-learnt-in-Ok-Settled.ensures.hands a _ _ (told_so _ _ _ _ c.args.ts c.in-Ok-Settled.field-0 c.in-Ok-Settled.verdict c.in-Ok-Settled.field-0-is c.in-Ok-Settled.ensures.call s)); helping = inl c.in_ok-learnt-in-Ok-Settled.ensures.helping }, λ none. c.in_ok-learnt-in-Ok-Settled.ensures.abort)
+returns-in-None-clause-hands g c = ((λ a s. record { verdicts = inl (c.in_ok-learnt-in-Ok-Settled.ensures.hands a _ _ (told_so _ _ _ _ c.args.ts c.in-Ok-Settled.field-0 c.in-Ok-Settled.verdict c.in-Ok-Settled.field-0-is c.in-Ok-Settled.ensures.call s)); helping = inl c.in_ok-learnt-in-Ok-Settled.ensures.helping }), (λ none. c.in_ok-learnt-in-Ok-Settled.ensures.abort), λ s. inl (inr (ap drawn_in c.in_ok-learnt-in-Ok-Settled.ensures.phase)))
 
 pub returns-in-Ok-Undecided-clause-hands : goal.returns-in-Ok-Undecided-clause-hands
-returns-in-Ok-Undecided-clause-hands g c = hands_none _ _ _ c.args.self.now c.args.self.now refl
+returns-in-Ok-Undecided-clause-hands g c = hands_none _ _ _ c.args.self.now c.args.self.now refl (inr refl)
 
 pub returns-in_ok-cause_of-in-Err-clause-hands : goal.returns-in_ok-cause_of-in-Err-clause-hands
-returns-in_ok-cause_of-in-Err-clause-hands g c = hands_none _ _ _ c.args.self.now c.args.self.now refl
+returns-in_ok-cause_of-in-Err-clause-hands g c = hands_none _ _ _ c.args.self.now c.args.self.now refl (inr refl)
 
 pub returns-in-Some-clause-as_sent : goal.returns-in-Some-clause-as_sent
 returns-in-Some-clause-as_sent g c = subst (λ (o : Option Learnt). IfSome o (λ l. SettlesAsSent c.args.self.now.held.links.items l.settled)) c.in-Some.is c.in_ok-learnt-in-Ok-Settled.ensures.as_sent

@@ -23,7 +23,7 @@ pub returns-in-Ok-clause-moves : goal.returns-in-Ok-clause-moves
 returns-in-Ok-clause-moves g c = λ item a transaction all is none idle. decided_so _ item _ _ c.args.self.now.held c.learn_own.new.self.held _ _ _ a c.args.coordinator c.args.sent c.in-Ok.verdict c.in-Ok.ensures.call idle transaction all is c.learn_own.result c.learn_own.ensures.ends (c.learn_own.ensures.over none) c.learn_own.ensures.own c.learn_own.ensures.hands c.learn_own.ensures.helping (on_ok_weaker c.learn_own.result (λ keeps. keeps (ap pending_in none)) c.learn_own.ensures.abort)
 
 pub returns-in-Err-clause-moves : goal.returns-in-Err-clause-moves
-returns-in-Err-clause-moves g c = λ item a transaction all is none idle. both_if c.ask_behind.result (λ n nothing asks. by_decide_refused_so _ item _ _ c.args.self.now.held c.ask_behind.new.self.held _ _ _ _ n c.args.coordinator c.args.sent.ts c.in-Err.refusal c.in-Err.ensures.call c.ask_behind.ensures.loses c.ask_behind.ensures.client (ap prepared_at all.was, ap asked_at (asks ∙ ap (λ (x : Sent). IsAsking x 0) is)) transaction all (asks ∙ ap (λ (x : Sent). IsAsking x 0) is) (ap is_ended nothing) (same_duties _ _ c.ask_behind.ensures.duties) (asking_noted a _ c.args.self.now.duties c.ask_behind.new.self.duties c.args.sent 0 asks (ap (λ (x : Duties). x.abort) c.ask_behind.ensures.duties))) c.ask_behind.ensures.news c.ask_behind.ensures.asks
+returns-in-Err-clause-moves g c = λ item a transaction all is none idle. both_if c.ask_behind.result (λ n nothing asks drawn. by_decide_refused_so _ item _ _ c.args.self.now.held c.ask_behind.new.self.held _ _ _ _ n c.args.coordinator c.args.sent.ts c.in-Err.refusal c.in-Err.ensures.call c.ask_behind.ensures.loses c.ask_behind.ensures.client (ap prepared_at all.was, ap asked_at (asks ∙ ap (λ (x : Sent). IsAsking x 0) is)) transaction all (asks ∙ ap (λ (x : Sent). IsAsking x 0) is) (ap is_ended nothing) (same_duties _ _ c.ask_behind.ensures.duties) (asking_noted a _ c.args.self.now.duties c.ask_behind.new.self.duties c.args.sent 0 asks (ap (λ (x : Duties). x.abort) c.ask_behind.ensures.duties)) drawn c.ask_behind.ensures.wrote) c.ask_behind.ensures.news c.ask_behind.ensures.asks
 
 pub returns-in-Err-clause-shown : goal.returns-in-Err-clause-shown
 returns-in-Err-clause-shown g c = IfOk-weaker c.ask_behind.result _ _ (λ n is s. nothing_shown _ _ _ n is) c.ask_behind.ensures.news

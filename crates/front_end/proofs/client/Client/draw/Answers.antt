@@ -4,9 +4,10 @@ use Rattle.client_state.proofs.Writing.{drew_refused, drew_ts, still_writes}
 use Rattle.client_state.specs.Pending.{pending_in}
 use Rattle.client_state.specs.Showing.{DrewShown}
 use Rattle.front_end.proofs.Acting.{by_draw}
+use Rattle.front_end.proofs.Stepping.{drawn_behind, hands_drawn, hands_none, hands_then}
 use Rattle.front_end.proofs.client.Client.draw.Goals as goal
 use Rattle.front_end.specs.declared.client.Client.{Client}
-use Rattle.std.proofs.Common.{ap, refl, subst, sym, ◌∙◌}
+use Rattle.std.proofs.Common.{ap, inr, refl, subst, sym, ◌∙◌}
 
 pub returns-in_err-ts-clause-acts : goal.returns-in_err-ts-clause-acts
 returns-in_err-ts-clause-acts g c = by_draw _ _ _ _ _ _ _ _ _ c.draw.ensures.call
@@ -47,5 +48,11 @@ returns-in_err-ts-clause-free g c = λ none. none
 pub returns-in-Refused-clause-as_sent : goal.returns-in-Refused-clause-as_sent
 returns-in-Refused-clause-as_sent g c = c.go_behind.ensures.as_sent _ (subst (DrewAsSent c.args.self.now.held.links.items) c.in-Refused.is c.in_ok-ts.ensures.as_sent)
 
-pub returns-in-Ts-clause-verdicts : goal.returns-in-Ts-clause-verdicts
-returns-in-Ts-clause-verdicts g c = rw (c.set_phase.ensures, c.take_phase.ensures.rest) (refl, refl, λ none. refl)
+pub returns-in-Ts-clause-hands : goal.returns-in-Ts-clause-hands
+returns-in-Ts-clause-hands g c = hands_drawn _ _ _ c.args.self.now c.set_phase.new.self (ap (λ (k : Client). k.duties) c.set_phase.ensures ∙ ap (λ (k : Client). k.duties) c.take_phase.ensures.rest) c.in-Some.at _ _ _ _ _ _ c.in_ok-ts.ensures.call c.in-Ts.is (drawn_behind _ c.set_phase.new.self.phase c.args.self.now.phase c.drawn-phase.result c.take_phase.result (ap (λ (k : Client). k.phase) c.set_phase.ensures) c.take_phase.ensures.phase c.drawn-phase.ensures.timestamp)
+
+pub returns-in-Refused-clause-hands : goal.returns-in-Refused-clause-hands
+returns-in-Refused-clause-hands g c = hands_then _ _ _ c.args.self.now (record c.args.self.now { held = c.draw.new.self }) c.go_behind.new.self (hands_none _ _ _ c.args.self.now (record c.args.self.now { held = c.draw.new.self }) refl (inr refl)) (λ none. none) c.go_behind.ensures.verdicts
+
+pub returns-in_default-clause-hands : goal.returns-in_default-clause-hands
+returns-in_default-clause-hands g c = hands_none _ _ _ c.args.self.now c.args.self.now refl (inr refl)

@@ -3,8 +3,9 @@ use Rattle.client_state.proofs.Moving.{sends_then_drops}
 use Rattle.client_state.proofs.Writing.{came_itself, nothing_unsent}
 use Rattle.client_state.specs.Showing.{DrewShown}
 use Rattle.front_end.proofs.Acting.{by_draw}
+use Rattle.front_end.proofs.Stepping.{hands_drawn, hands_none, hands_then}
 use Rattle.front_end.proofs.client.Client.draw_made.Goals as goal
-use Rattle.std.proofs.Common.{subst, ◌∙◌}
+use Rattle.std.proofs.Common.{inr, refl, subst, ◌∙◌}
 
 pub returns-in_err-ts-clause-acts : goal.returns-in_err-ts-clause-acts
 returns-in_err-ts-clause-acts g c = by_draw _ _ _ _ _ _ _ _ _ c.draw.ensures.call
@@ -41,3 +42,9 @@ returns-in_err-ts-clause-free g c = λ none. none
 
 pub returns-in-Refused-clause-as_sent : goal.returns-in-Refused-clause-as_sent
 returns-in-Refused-clause-as_sent g c = c.go_behind.ensures.as_sent _ (subst (DrewAsSent c.args.self.now.held.links.items) c.in-Refused.is c.in_ok-ts.ensures.as_sent)
+
+pub returns-in-Ts-clause-hands : goal.returns-in-Ts-clause-hands
+returns-in-Ts-clause-hands g c = hands_drawn _ _ _ c.args.self.now (record c.args.self.now { held = c.draw.new.self; phase = c.draw_transform.new.self }) refl c.args.at _ _ _ _ _ _ c.in_ok-ts.ensures.call c.in-Ts.is c.draw_transform.ensures.timestamp
+
+pub returns-in-Refused-clause-hands : goal.returns-in-Refused-clause-hands
+returns-in-Refused-clause-hands g c = hands_then _ _ _ c.args.self.now (record c.args.self.now { held = c.draw.new.self }) c.go_behind.new.self (hands_none _ _ _ c.args.self.now (record c.args.self.now { held = c.draw.new.self }) refl (inr refl)) (λ none. none) c.go_behind.ensures.verdicts

@@ -18,4 +18,4 @@ pub returns-clause-free : goal.returns-clause-free
 returns-clause-free c = ap pending_in (c.stop_waiting.ensures.phase ∙ c.end_try-news.ensures.phase)
 
 pub returns-clause-notes : goal.returns-clause-notes
-returns-clause-notes c = notes_behind c.args.self.now c.end_try-news.new.self c.stop_waiting.new.self (ap pending_in c.stop_waiting.ensures.phase) c.stop_waiting.ensures.abort c.end_try-news.ensures.notes
+returns-clause-notes c = notes_behind c.args.self.now c.end_try-news.new.self c.stop_waiting.new.self c.stop_waiting.ensures.phase c.stop_waiting.ensures.abort c.end_try-news.ensures.notes

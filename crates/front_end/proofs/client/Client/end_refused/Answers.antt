@@ -21,4 +21,4 @@ pub returns-clause-stays : goal.returns-clause-stays
 returns-clause-stays c = inl (ap pending_in c.end_try.ensures.phase)
 
 pub returns-clause-notes : goal.returns-clause-notes
-returns-clause-notes c = notes_from c.args.self.now c.note_helping.new.self c.end_try.new.self (ap (λ (k : Client). pending_in k.phase) c.note_helping.ensures.rest) (ap (λ (k : Client). k.duties.abort) c.note_helping.ensures.rest) c.end_try.ensures.notes
+returns-clause-notes c = notes_from c.args.self.now c.note_helping.new.self c.end_try.new.self (ap (λ (k : Client). k.phase) c.note_helping.ensures.rest) (ap (λ (k : Client). k.duties.abort) c.note_helping.ensures.rest) c.end_try.ensures.notes

@@ -1,4 +1,5 @@
 use Rattle.client_state.proofs.Writing.{nothing_unsent}
+use Rattle.client_state.specs.Drawing.{drawn_in}
 use Rattle.client_state.specs.Pending.{pending_in}
 use Rattle.front_end.proofs.Requesting.{made_then}
 use Rattle.front_end.proofs.client.Client.end_transform.Goals as goal
@@ -15,3 +16,6 @@ returns-in_err-keep_made-clause-free c = λ none. none
 
 pub returns-clause-free : goal.returns-clause-free
 returns-clause-free c = λ none. ap pending_in c.begin_anew.ensures.phase
+
+pub returns-clause-undrawn : goal.returns-clause-undrawn
+returns-clause-undrawn c = ap drawn_in c.begin_anew.ensures.phase

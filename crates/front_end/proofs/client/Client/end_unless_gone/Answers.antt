@@ -1,6 +1,5 @@
-use Rattle.client_state.specs.Pending.{pending_in}
 use Rattle.client_state.specs.declared.duties.Duties.{Duties}
-use Rattle.front_end.proofs.Stepping.{notes_from}
+use Rattle.front_end.proofs.Stepping.{none_undecided, notes_from}
 use Rattle.client_state.specs.Receiving.{EndsReceive, LosesThere}
 use Rattle.client_state.specs.declared.held.Held.{Held}
 use Rattle.front_end.proofs.Showing.{try_shown}
@@ -25,4 +24,7 @@ pub returns-then-lose_session-clause-stays : goal.returns-then-lose_session-clau
 returns-then-lose_session-clause-stays c = c.lose_session.ensures.stays
 
 pub returns-clause-notes : goal.returns-clause-notes
-returns-clause-notes c = notes_from c.args.self.now c.lose_session.new.self c.end_in_outage.new.self (ap pending_in (c.lose_session.ensures.phase (ap (λ (b : Bool). not b) c.if-lose_session.false))) (ap (λ (x : Duties). x.abort) c.lose_session.ensures.duties) c.end_in_outage.ensures.notes
+returns-clause-notes c = notes_from c.args.self.now c.lose_session.new.self c.end_in_outage.new.self (c.lose_session.ensures.phase (ap (λ (b : Bool). not b) c.if-lose_session.false)) (ap (λ (x : Duties). x.abort) c.lose_session.ensures.duties) c.end_in_outage.ensures.notes
+
+pub returns-clause-wrote : goal.returns-clause-wrote
+returns-clause-wrote c = none_undecided _ c.end_in_outage.ensures.free

@@ -45,7 +45,7 @@ pub returns-then-oref-opened-clause-ends : goal.returns-then-oref-opened-clause-
 returns-then-oref-opened-clause-ends g c = ap is_ended c.end_try.ensures.news
 
 pub returns-clause-hands : goal.returns-clause-hands
-returns-clause-hands g c = hands_same _ _ _ c.args.self.now (record c.args.self.now { phase = c.await_page.new.self }) c.go_behind.new.self refl refl (λ none. c.await_page.ensures.pending ∙ none) (Ok c.go_behind.result) (hands_then _ _ _ (record c.args.self.now { phase = c.await_page.new.self }) c.fetch.new.self c.go_behind.new.self c.in_ok-came.ensures.hands (λ none. ap pending_in c.fetch.ensures.phase ∙ none) c.go_behind.ensures.verdicts)
+returns-clause-hands g c = hands_same _ _ _ c.args.self.now (record c.args.self.now { phase = c.await_page.new.self }) c.go_behind.new.self refl refl (λ none. c.await_page.ensures.pending ∙ none) c.await_page.ensures.drawn (Ok c.go_behind.result) (hands_then _ _ _ (record c.args.self.now { phase = c.await_page.new.self }) c.fetch.new.self c.go_behind.new.self c.in_ok-came.ensures.hands (λ none. ap pending_in c.fetch.ensures.phase ∙ none) c.go_behind.ensures.verdicts)
 
 pub returns-clause-as_sent : goal.returns-clause-as_sent
 returns-clause-as_sent g c = c.go_behind.ensures.as_sent _ c.in_ok-came.ensures.as_sent

@@ -1,10 +1,11 @@
+use Rattle.client_state.specs.Drawing.{drawn_in}
 use Rattle.front_end.proofs.Stepping.{same_verdicts}
 use Rattle.client_state.specs.Settling.{CameAsSent}
 use Rattle.client_state.proofs.Writing.{came_learnt, came_well, still_writes}
 use Rattle.client_state.specs.Pending.{pending_in}
 use Rattle.client_state.specs.Showing.{CameShown}
 use Rattle.front_end.proofs.client.Client.go_behind.Goals as goal
-use Rattle.std.proofs.Common.{ap, refl, subst}
+use Rattle.std.proofs.Common.{ap, inl, inr, refl, subst}
 
 pub returns-in-Learnt-clause-shown : goal.returns-in-Learnt-clause-shown
 returns-in-Learnt-clause-shown c = λ old new repos h. c.take_learnt.ensures.shown old new repos (subst (CameShown old new) c.in-Learnt.is h)
@@ -25,7 +26,10 @@ pub returns-in-Learnt-clause-as_sent : goal.returns-in-Learnt-clause-as_sent
 returns-in-Learnt-clause-as_sent c = λ links h. c.take_learnt.ensures.as_sent links (subst (CameAsSent links) c.in-Learnt.is h)
 
 pub returns-in-Anew-clause-verdicts : goal.returns-in-Anew-clause-verdicts
-returns-in-Anew-clause-verdicts c = same_verdicts c.args.self.now c.begin_anew.new.self c.begin_anew.ensures.duties
+returns-in-Anew-clause-verdicts c = same_verdicts c.args.self.now c.begin_anew.new.self c.begin_anew.ensures.duties (inl (ap drawn_in c.begin_anew.ensures.phase))
 
 pub returns-in-Learnt-clause-verdicts : goal.returns-in-Learnt-clause-verdicts
-returns-in-Learnt-clause-verdicts c = same_verdicts c.args.self.now c.take_learnt.new.self c.take_learnt.ensures.duties
+returns-in-Learnt-clause-verdicts c = same_verdicts c.args.self.now c.take_learnt.new.self c.take_learnt.ensures.duties c.take_learnt.ensures.drawn
+
+pub returns-in-Well-clause-verdicts : goal.returns-in-Well-clause-verdicts
+returns-in-Well-clause-verdicts c = same_verdicts c.args.self.now c.args.self.now refl (inr refl)

@@ -1,5 +1,7 @@
+use Rattle.client_state.proofs.Parting.{leaves_sent, parts_more, parts_none}
 use Rattle.client_state.proofs.Writing.{nothing_unsent}
 use Rattle.client_state.specs.Links.{at_repo}
+use Rattle.client_state.specs.Participants.{first_in}
 use Rattle.client_state.specs.Writing.{unsent}
 use Rattle.client_state.specs.declared.link.Link.TheVariants.{Unsettled}
 use Rattle.client_state.specs.declared.link.Link.{Link}
@@ -17,3 +19,6 @@ returns-clause-writes c = λ none. nothing_unsent _ _ (ap (λ (k : Client). unse
 
 pub returns-clause-link : goal.returns-clause-link
 returns-clause-link c = λ link there. put_there c.give_up.new.self.links.items c.set_link.new.self.links.items _ (Unsettled c.args.sent c.args.task.who.index) (c.set_link.ensures.links ∙ ap (λ (r : ℕ). at_repo c.give_up.new.self.links.items r (λ (l : Link). Unsettled c.args.sent c.args.task.who.index)) c.coordinator-coordinator.ensures) link there
+
+pub returns-clause-parts : goal.returns-clause-parts
+returns-clause-parts c = leaves_sent (first_in c.args.sent.participants) c.args.task.who.index c.args.sent c.args.self.now.held c.give_up.new.self c.set_link.new.self (parts_more c.args.self.now.held c.leave.new.self c.give_up.new.self (parts_more c.args.self.now.held c.leave_all.new.self.held c.leave.new.self c.leave_all.ensures.parts c.leave.ensures.parts) (parts_none c.leave.new.self c.give_up.new.self c.give_up.ensures.less.1)) (c.set_link.ensures.links ∙ ap (λ (r : ℕ). at_repo c.give_up.new.self.links.items r (λ (l : Link). Unsettled c.args.sent c.args.task.who.index)) c.coordinator-coordinator.ensures)

@@ -7,7 +7,7 @@ use Rattle.client_state.specs.declared.requests.Sending.{Sending}
 use Rattle.front_end.proofs.Stepping.{by_rest_free, from_phase, sends_more}
 use Rattle.front_end.proofs.client.Client.prepare_next.Goals as goal
 use Rattle.front_end.specs.declared.client.Client.{Client}
-use Rattle.std.proofs.Common.{[], ap, inr, refl, subst, ◌≡◌}
+use Rattle.std.proofs.Common.{[], ap, inl, inr, refl, subst, ◌≡◌}
 use Rattle.std.specs.Prelude.{IfSome, MatchOption, Option}
 
 pub returns-in-Some-clause-moves : goal.returns-in-Some-clause-moves
@@ -23,4 +23,4 @@ pub returns-in-None-clause-writes : goal.returns-in-None-clause-writes
 returns-in-None-clause-writes g c = nothing_unsent _ _ (ap (λ (k : Client). unsent k.phase) c.set_phase.ensures)
 
 pub returns-in-None-clause-moves : goal.returns-in-None-clause-moves
-returns-in-None-clause-moves g c = λ item who idle. let none = subst (λ (o : Option Sending). MatchOption o (c.args.transaction.shares.items ≡ []) (SendsShare c.args.self.now.held.links.items c.args.who c.args.ts c.args.transaction c.next_sending-sending.new.transaction)) c.in-None.is c.in_ok-sending.ensures.sends in rw (c.set_phase.ensures) (by_rest_free _ item _ c.args.self.now.held c.args.self.now.held _ _ _ _ _ (less_itself c.args.self.now.held) (inr (ap (IsPreparing c.args.coordinator c.args.ts c.args.prepared) (c.in_ok-sending.ensures.still c.in-None.is), λ at written. written)) refl refl refl refl)
+returns-in-None-clause-moves g c = λ item who idle. let none = subst (λ (o : Option Sending). MatchOption o (c.args.transaction.shares.items ≡ []) (SendsShare c.args.self.now.held.links.items c.args.who c.args.ts c.args.transaction c.next_sending-sending.new.transaction)) c.in-None.is c.in_ok-sending.ensures.sends in rw (c.set_phase.ensures) (λ drawn. by_rest_free _ item _ c.args.self.now.held c.args.self.now.held _ _ _ _ _ (less_itself c.args.self.now.held) (inr (ap (IsPreparing c.args.coordinator c.args.ts c.args.prepared) (c.in_ok-sending.ensures.still c.in-None.is), λ at written. written)) refl refl refl refl drawn (inl refl) (λ und x. refl))

@@ -1,10 +1,11 @@
+use Rattle.client_cache.specs.Copies.{changed}
 use Rattle.client_state.specs.declared.duties.Duties.{Duties}
 use Rattle.client_state.proofs.Writing.{nothing_unsent}
 use Rattle.client_state.specs.Moving.{Learns}
 use Rattle.client_state.specs.Pending.{pending_in}
 use Rattle.client_state.specs.declared.held.Held.{Held}
 use Rattle.front_end.proofs.Requesting.{has_stopped_learns, other_where, stopped_where}
-use Rattle.front_end.proofs.Stepping.{asks_on, same_duties, keeps_noted}
+use Rattle.front_end.proofs.Stepping.{asks_on, keeps_noted, none_undecided, same_duties}
 use Rattle.front_end.proofs.client.Client.refuse_commit.Goals as goal
 use Rattle.std.proofs.Common.{ap, refl, subst, sym}
 use Rattle.std.proofs.lemmas.Result.{on_ok_weaker}
@@ -44,3 +45,9 @@ returns-then-has_stopped-clause-abort c = λ none. ap (λ (x : Duties). x.abort)
 
 pub returns-clause-abort : goal.returns-clause-abort
 returns-clause-abort c = on_ok_weaker c.end_refused.result (keeps_noted c.args.self.now c.end_refused.new.self) c.end_refused.ensures.notes
+
+pub returns-then-has_stopped-clause-wrote : goal.returns-then-has_stopped-clause-wrote
+returns-then-has_stopped-clause-wrote c = λ und x. ap (λ (h : Held). changed h.cache.cache x) c.begin_asking.ensures.held
+
+pub returns-clause-wrote : goal.returns-clause-wrote
+returns-clause-wrote c = on_ok_weaker c.end_refused.result (λ over. none_undecided _ (ap pending_in over)) c.end_refused.ensures.phase

@@ -23,4 +23,4 @@ pub returns-clause-free : goal.returns-clause-free
 returns-clause-free c = λ none. stays_free _ _ c.count_if_stopped.new.self.held c.end_refused.new.self.held (ap pending_in c.count_if_stopped.ensures.phase ∙ none) c.end_refused.ensures.stays
 
 pub returns-clause-abort : goal.returns-clause-abort
-returns-clause-abort c = on_ok_weaker c.end_refused.result (λ notes. keeps_noted c.args.self.now c.end_refused.new.self (notes_from c.args.self.now c.count_if_stopped.new.self c.end_refused.new.self (ap pending_in c.count_if_stopped.ensures.phase) (ap (λ (x : Duties). x.abort) c.count_if_stopped.ensures.duties) notes)) c.end_refused.ensures.notes
+returns-clause-abort c = on_ok_weaker c.end_refused.result (λ notes. keeps_noted c.args.self.now c.end_refused.new.self (notes_from c.args.self.now c.count_if_stopped.new.self c.end_refused.new.self c.count_if_stopped.ensures.phase (ap (λ (x : Duties). x.abort) c.count_if_stopped.ensures.duties) notes)) c.end_refused.ensures.notes

@@ -1,11 +1,9 @@
-use Rattle.client_state.specs.Pending.{pending_in}
-use Rattle.client_state.specs.declared.duties.Duties.{Duties}
-use Rattle.front_end.proofs.Stepping.{by_rest_free}
+use Rattle.front_end.proofs.Stepping.{by_anew}
 use Rattle.front_end.proofs.client.Client.send_held.Goals as goal
-use Rattle.std.proofs.Common.{ap, inl, refl}
+use Rattle.std.proofs.Common.{refl}
 
 pub returns-then-not-holds_written-clause-moves : goal.returns-then-not-holds_written-clause-moves
-returns-then-not-holds_written-clause-moves g c = λ item none joined sends of writes here idle. by_rest_free _ item _ c.args.self.now.held c.begin_anew.new.self.held _ _ _ _ _ c.begin_anew.ensures.less (inl (ap pending_in c.begin_anew.ensures.phase)) refl (ap (λ (x : Duties). x.verdicts) c.begin_anew.ensures.duties) (ap (λ (x : Duties). x.helping) c.begin_anew.ensures.duties) (ap (λ (x : Duties). x.abort) c.begin_anew.ensures.duties)
+returns-then-not-holds_written-clause-moves g c = λ item none joined sends of writes here idle. by_anew _ item _ c.args.self.now.held c.begin_anew.new.self.held _ _ _ _ c.begin_anew.ensures.less c.begin_anew.ensures.phase refl c.begin_anew.ensures.duties _
 
 pub returns-clause-moves : goal.returns-clause-moves
 returns-clause-moves g c = λ item none joined sends of writes here idle. c.send_transform.ensures.moves item none joined sends of writes here (c.if-not-holds_written.ensures.0 refl) idle

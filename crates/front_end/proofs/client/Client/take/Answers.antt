@@ -1,4 +1,6 @@
+use Rattle.client_state.specs.Pending.{pending_in}
 use Rattle.client_state.specs.Receiving.{GivesUp, TakesCopies}
+use Rattle.client_state.specs.Written.{WrittenTaken, is_sent_to}
 use Rattle.front_end.proofs.client.Client.take.Goals as goal
 use Rattle.session_outbox.specs.declared.message.Message.{Message}
 use Rattle.client_port.specs.Acting.{IsTaken}
@@ -31,3 +33,15 @@ returns-clause-takes c = subst (λ (m : Message). TakesCopies c.args.repo m c.ar
 
 pub returns-in-Invalid-clause-gives_up : goal.returns-in-Invalid-clause-gives_up
 returns-in-Invalid-clause-gives_up c = subst (λ (m : Message). GivesUp c.args.repo m c.args.self.now.phase c.take_invalid.new.self.held.cache.cache) (sym c.in-Invalid.is) c.take_invalid.ensures.gives_up
+
+pub returns-in-Page-clause-wrote : goal.returns-in-Page-clause-wrote
+returns-in-Page-clause-wrote c = on_ok_weaker c.take_page.result (λ wrote und. subst (λ (m : Message). WrittenTaken (is_sent_to c.args.repo (pending_in c.args.self.now.phase)) m c.args.self.now.held.cache.cache c.take_page.new.self.held.cache.cache) (sym c.in-Page.is) (wrote und)) c.take_page.ensures.wrote
+
+pub returns-in-Grant-clause-wrote : goal.returns-in-Grant-clause-wrote
+returns-in-Grant-clause-wrote c = on_ok_weaker c.take_grant.result (λ wrote und. subst (λ (m : Message). WrittenTaken (is_sent_to c.args.repo (pending_in c.args.self.now.phase)) m c.args.self.now.held.cache.cache c.take_grant.new.self.held.cache.cache) (sym c.in-Grant.is) (wrote und)) c.take_grant.ensures.wrote
+
+pub returns-in-Invalid-clause-wrote : goal.returns-in-Invalid-clause-wrote
+returns-in-Invalid-clause-wrote c = λ und. subst (λ (m : Message). WrittenTaken (is_sent_to c.args.repo (pending_in c.args.self.now.phase)) m c.args.self.now.held.cache.cache c.take_invalid.new.self.held.cache.cache) (sym c.in-Invalid.is) (c.take_invalid.ensures.wrote und)
+
+pub returns-clause-wrote : goal.returns-clause-wrote
+returns-clause-wrote c = λ und. subst (λ (m : Message). WrittenTaken (is_sent_to c.args.repo (pending_in c.args.self.now.phase)) m c.args.self.now.held.cache.cache c.take_upgrade.new.self.held.cache.cache) (sym c.in-Upgrade.is) (c.take_upgrade.ensures.wrote und)

@@ -14,3 +14,6 @@ returns-clause-stays c = elim c.if-has_none_of.branch [ then-has_none_of+in_ok-g
 
 pub returns-clause-notes : goal.returns-clause-notes
 returns-clause-notes c = elim c.if-has_none_of.branch [ then-has_none_of+in_ok-grant w ↦ rw (w.self-is) (notes_same c.args.self.now c.args.self.now refl refl) | else-has_none_of w ↦ rw (w.self-is) (notes_same c.args.self.now c.args.self.now refl refl) ]
+
+pub returns-clause-wrote : goal.returns-clause-wrote
+returns-clause-wrote c = elim c.if-has_none_of.branch [ then-has_none_of+in_ok-grant w ↦ rw (w.self-is) (λ und. c.place.ensures.writes) | else-has_none_of w ↦ rw (w.self-is) (λ und. c.place.ensures.writes) ]

@@ -1,4 +1,4 @@
-use Rattle.front_end.proofs.Stepping.{notes_same}
+use Rattle.front_end.proofs.Stepping.{none_undecided, notes_same, same_verdicts}
 use Rattle.client_state.proofs.Pending.{still_written}
 use Rattle.client_state.proofs.Writing.{still_writes}
 use Rattle.client_state.specs.Pending.{pending_in}
@@ -32,3 +32,15 @@ returns-in-Some-2-clause-stays c = inr (refl, still_written c.args.self.now.held
 
 pub returns-in-Some-2-clause-notes : goal.returns-in-Some-2-clause-notes
 returns-in-Some-2-clause-notes c = notes_same c.args.self.now (record c.args.self.now { held = c.place.new.self }) refl refl
+
+pub returns-in-Some-clause-wrote : goal.returns-in-Some-clause-wrote
+returns-in-Some-clause-wrote c = none_undecided _ (ap pending_in c.end_try.ensures.phase)
+
+pub returns-in-Some-2-clause-wrote : goal.returns-in-Some-2-clause-wrote
+returns-in-Some-2-clause-wrote c = λ und. c.place.ensures.writes
+
+pub returns-in-Some-2-clause-verdicts : goal.returns-in-Some-2-clause-verdicts
+returns-in-Some-2-clause-verdicts c = same_verdicts c.args.self.now (record c.args.self.now { held = c.place.new.self }) refl (inr refl)
+
+pub returns-in_err-place-clause-verdicts : goal.returns-in_err-place-clause-verdicts
+returns-in_err-place-clause-verdicts c = same_verdicts c.args.self.now (record c.args.self.now { held = c.place.new.self }) refl (inr refl)

@@ -1,4 +1,4 @@
-use Rattle.front_end.proofs.Stepping.{notes_same}
+use Rattle.front_end.proofs.Stepping.{none_undecided, notes_same, same_verdicts}
 use Rattle.client_cache.specs.Copies.{changed, kept}
 use Rattle.client_state.proofs.Pending.{still_written}
 use Rattle.client_state.specs.Pending.{pending_in}
@@ -26,3 +26,12 @@ returns-clause-stays c = inr (refl, still_written c.args.self.now.held c.learn_n
 
 pub returns-clause-notes : goal.returns-clause-notes
 returns-clause-notes c = notes_same c.args.self.now (record c.args.self.now { held = c.learn_next_epoch.new.self }) refl refl
+
+pub returns-then-runs-clause-wrote : goal.returns-then-runs-clause-wrote
+returns-then-runs-clause-wrote c = none_undecided _ (ap pending_in c.end_try.ensures.phase)
+
+pub returns-clause-wrote : goal.returns-clause-wrote
+returns-clause-wrote c = λ und x. ap (λ (h : Held). changed h.cache.cache x) c.learn_next_epoch.ensures.rest
+
+pub returns-clause-verdicts : goal.returns-clause-verdicts
+returns-clause-verdicts c = same_verdicts c.args.self.now (record c.args.self.now { held = c.learn_next_epoch.new.self }) refl (inr refl)

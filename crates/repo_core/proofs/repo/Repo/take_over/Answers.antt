@@ -1,5 +1,5 @@
 use Rattle.repo_core.proofs.Failing.{failed_between, stopped_memory}
-use Rattle.repo_core.proofs.Entered.{goes_down, on_err2}
+use Rattle.repo_core.proofs.Entered.{goes_down, on_err3}
 use Rattle.repo_core.proofs.Taking.{down_with_it, on_ok4, pending_falls, taken_from, takes_after, tells_shown}
 use Rattle.repo_core.specs.Restarting.{Takes, TakesNone}
 use Rattle.repo_core.specs.Shown.{Shown, shown}
@@ -11,14 +11,13 @@ use Rattle.repo_core.proofs.Failing.{counts_between, err_shown}
 use Rattle.repo_durable.proofs.Counting.{err_through, if_err_any, stays_then}
 use Rattle.repo_durable.proofs.Returning.{on_ok_any}
 use Rattle.repo_core.proofs.Readable.{shown_has}
-use Rattle.repo_core.proofs.Objects.{moves_again, pends_so, whole_answered, whole_up}
+use Rattle.repo_core.proofs.Objects.{moves_again, objects_torn, whole_answered, whole_up}
 use Rattle.repo_core.proofs.Taking.{none_taken, takes_held}
 use Rattle.repo_durable.proofs.Returning.{on_err_any}
 use Rattle.repo_durable.specs.Kept.{held_of}
 use Rattle.repo_durable.specs.Mapping.{StoreMoves, taken_writes}
 use Rattle.repo_durable.specs.declared.recovering.Taken.{Taken}
 use Rattle.repo_volatile.proofs.Lasting.{lasts_itself}
-use Rattle.std.proofs.Common.{inl}
 use Rattle.repo_core.proofs.repo.Repo.take_over.Goals as goal
 
 pub returns-in-Pending-clause-takes : goal.returns-in-Pending-clause-takes
@@ -46,11 +45,10 @@ returns-in-Pending-clause-none g c =
     let z : Shown = shown g.P.Parts.disks n c.take_pending.new.memory c.take_pending.new.trace i.opened_in in
     let there = taken_from (pending i.stable) c.in_ok-restart.field-0 e c.in-Pending.is c.in_ok-restart.ensures.pending in
     subst (λ (s : Shown). OnErr c.take_pending.result (TakesNone s z)) c.self.view_is
-    (on_err2 c.take_pending.result _ _ _ c.take_pending.ensures.left c.take_pending.ensures.refused
-    (λ falls trace. pending_falls x y z e c.in_ok-restart.ensures.whole (down_with_it i.stable.phase e there c.in_ok-restart.ensures.whole) there (record { objects = c.in_ok-restart.ensures.held; limit = c.restart.ensures.limit }) refl refl
+    (on_err3 c.take_pending.result _ _ _ _ c.take_pending.ensures.left c.take_pending.ensures.refused c.take_pending.ensures.torn
+    (λ falls trace torn. pending_falls x y z e c.in_ok-restart.ensures.whole (down_with_it i.stable.phase e there c.in_ok-restart.ensures.whole) there (record { objects = c.in_ok-restart.ensures.held; limit = c.restart.ensures.limit }) refl refl
     (goes_down s n y z e c.in_ok-restart.ensures.up refl refl refl refl falls c.take_pending.ensures.lasts) trace
-    (pends_so g.P.Parts.disks i.stable s n i.memory c.take_pending.new.memory i.trace c.take_pending.new.trace i.opened_in e there c.in_ok-restart.ensures.up c.take_pending.ensures.pages falls
-    (subst (λ (t : Taken). StoreMoves g.P.Parts.disks (taken_writes (held_of i.stable) t) i.stable s) c.in-Pending.is (c.in_ok-restart.ensures.map c.self.invariant.1)))))
+    (objects_torn x z torn)))
 
 pub returns-in_err-restart-clause-damaged : goal.returns-in_err-restart-clause-damaged
 returns-in_err-restart-clause-damaged g c = λ n place is told.
@@ -122,7 +120,7 @@ returns-in_err-restart-clause-none g c =
     let y : Shown = shown g.P.Parts.disks s i.memory i.trace i.opened_in in
     subst (λ (z : Shown). OnErr c.from_residual.result (TakesNone z y)) c.self.view_is
     (on_err_any c.from_residual.result _
-    (none_taken x y i.stable.phase s.phase c.in_err-restart.ensures.stays refl refl refl refl refl c.in_err-restart.ensures.rests (lasts_itself i.memory) refl (inl (c.in_err-restart.ensures.map_stays c.self.invariant.1))))
+    (none_taken x y i.stable.phase s.phase c.in_err-restart.ensures.stays refl refl refl refl refl c.in_err-restart.ensures.rests (lasts_itself i.memory) refl (c.in_err-restart.ensures.map_stays c.self.invariant.1)))
 
 pub returns-in-Held-clause-whole : goal.returns-in-Held-clause-whole
 returns-in-Held-clause-whole g c = whole_up c.restart.new.self c.in_ok-restart.ensures.up
