@@ -50,7 +50,7 @@ def classes_beside(count):
     """A call to an object of the last of so many classes."""
     def run(items):
         classes = "".join(f"free class C{it} {{ int n; {ADD}}} " for it in range(count))
-        return Run(f"setup {classes}root a = new C{count - 1}();\nclient 1\n" + "tx { print a.add(1); }\n" * (items), items)
+        return Run(f"setup {classes}root a = new C{count - 1}();\nclient 1\n" + "tx { print a.add(1); }\n" * items, items)
     return run(200), run(600)
 
 
@@ -58,7 +58,7 @@ def roots_beside(count):
     """A call to the last of so many roots."""
     def run(items):
         roots = "".join(f"root r{it} = new Box();\n" for it in range(count))
-        return Run(f"setup {BOX}\n{roots}client 1\n" + f"tx {{ print r{count - 1}.add(1); }}\n" * (items), items)
+        return Run(f"setup {BOX}\n{roots}client 1\n" + f"tx {{ print r{count - 1}.add(1); }}\n" * items, items)
     return run(200), run(600)
 
 
@@ -68,7 +68,7 @@ def members_beside(methods, fields):
         last = f"f{fields - 1}"
         members = "".join(f"int f{it}; " for it in range(fields))
         members += "".join(f"method int m{it}(int k) {{ this.{last} = this.{last} + k; return this.{last}; }} " for it in range(methods))
-        calls = f"tx {{ print a.m{methods - 1}(1); }}\n" * (items)
+        calls = f"tx {{ print a.m{methods - 1}(1); }}\n" * items
         return Run(f"setup free class Wide {{ {members}}} root a = new Wide();\nclient 1\n{calls}", items)
     return run(200), run(600)
 
@@ -114,8 +114,8 @@ def window_of(few, many):
     def run(items):
         half = items // 2
         roots = "".join(f"root r{it} = new Box();\n" for it in range(24))
-        clients = "".join(f"client {c}\n" + f"tx {{ print r{12 * (c - 1)}.add(1); }}\n" * (half) for c in (1, 2))
-        return Run(f"setup {BOX}\n{roots}{clients}schedule\ns1 s1 s1 s2 s2 s2\n" + "s1 s2 s2 s1\n" * (half), items)
+        clients = "".join(f"client {c}\n" + f"tx {{ print r{12 * (c - 1)}.add(1); }}\n" * half for c in (1, 2))
+        return Run(f"setup {BOX}\n{roots}{clients}schedule\ns1 s1 s1 s2 s2 s2\n" + "s1 s2 s2 s1\n" * half, items)
     return run(few), run(many)
 
 
@@ -123,7 +123,7 @@ def clients_on_a_page(clients, few=20, many=60):
     """An item of one of so many clients, whose twelve objects lie on one page."""
     def run(items):
         roots = "".join(f"root r{it} = new Box();\n" for it in range(12))
-        texts = "".join(f"client {c + 1}\n" + f"tx {{ print r{c % 12}.add(1); }}\n" * (items) for c in range(clients))
+        texts = "".join(f"client {c + 1}\n" + f"tx {{ print r{c % 12}.add(1); }}\n" * items for c in range(clients))
         return Run(f"setup {BOX}\n{roots}{texts}", items * clients)
     return run(few), run(many)
 
